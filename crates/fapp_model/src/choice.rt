@@ -1,0 +1,52 @@
+ghost use Rattle.std.specs.Prelude.{◌≡◌, ◌<◌, length, slice_index_or, pos};
+ghost use Rattle.fapp_model.specs.Choices.{both_polarizations, choices, choice};
+ghost use Rattle.fapp_model.specs.Instances.{IsPath};
+
+use crate::Path;
+
+/// A frequency and a polarization, -1 or 1.
+#[derive(Clone, Copy, Debug, PartialEq, Eq)]
+pub struct Choice {
+    pub freq: u32,
+    pub pol: i8,
+}
+
+/// How many choices a path has: one for each of its frequencies, and two where its polarization is free.
+pub fn choice_count(path: &Path) -> u32
+    requires { IsPath path.now }
+    ensures { result ≡ length (choices path.now) }
+{
+    let frequencies = path.freqs.len() as u32;
+    if path.pol == 0 {
+        2 * frequencies
+    } else {
+        frequencies
+    }
+}
+
+/// A path's choice by its index: frequencies ascending, -1 before 1 at the same frequency.
+pub fn choice_at(path: &Path, index: u32) -> Choice
+    requires path { IsPath path.now }
+    requires index { index < length (choices path.now) }
+    ensures { result ≡ choice path.now index }
+{
+    let freqs = path.freqs.as_slice();
+    if path.pol == 0 {
+        Choice {
+            freq: freqs[(index / 2) as usize],
+            pol: polarization_at(index % 2),
+        }
+    } else {
+        Choice {
+            freq: freqs[index as usize],
+            pol: path.pol,
+        }
+    }
+}
+
+fn polarization_at(place: u32) -> i8
+    requires { place < 2 }
+    ensures { result ≡ slice_index_or both_polarizations place (pos 0) }
+{
+    if place == 0 { -1 } else { 1 }
+}

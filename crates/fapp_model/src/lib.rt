@@ -1,0 +1,21 @@
+//! The network that is planned, and what its plans are worth: paths, records, choices, costs.
+//! The definitions that contracts of every crate cite stand in `specs/`.
+#![tactic(auto)]
+
+mod choice;
+mod instance;
+mod items;
+mod level;
+mod limits;
+mod record;
+mod triple;
+
+pub use choice::{Choice, choice_at, choice_count};
+pub use instance::{Instance, Path};
+pub use items::Items;
+pub use level::{LEVELS, levels};
+pub use limits::{
+    MAX_CHOICES, MAX_DOMAIN_FREQUENCIES, MAX_DOMAIN_RECORDS, MAX_NUMBER, MAX_PATHS, MAX_RECORDS,
+};
+pub use record::Record;
+pub use triple::Triple;
