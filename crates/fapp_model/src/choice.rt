@@ -1,8 +1,9 @@
-ghost use Rattle.std.specs.Prelude.{◌≡◌, ◌<◌, length, slice_index_or, pos};
+ghost use Rattle.std.specs.Prelude.{◌≡◌, ◌<◌, length, slice_index, slice_index_or, pos};
 ghost use Rattle.fapp_model.specs.Choices.{both_polarizations, choices, choice};
-ghost use Rattle.fapp_model.specs.Instances.{IsPath};
+ghost use Rattle.fapp_model.specs.Assignments.{chosen, count_at};
+ghost use Rattle.fapp_model.specs.Instances.{IsPath, IsInstance};
 
-use crate::Path;
+use crate::{Instance, Path};
 
 /// A frequency and a polarization, -1 or 1.
 #[derive(Clone, Copy, Debug, PartialEq, Eq)]
@@ -49,4 +50,16 @@ fn polarization_at(place: u32) -> i8
     ensures { result ≡ slice_index_or both_polarizations place (pos 0) }
 {
     if place == 0 { -1 } else { 1 }
+}
+
+/// What a plan chooses at a position: the plan's index there, among the choices of the path.
+pub fn chosen(instance: &Instance, plan: &[u16], position: u16) -> Choice
+    requires instance { IsInstance instance.now }
+    requires path { position < length instance.now.paths }
+    requires planned { position < length plan.now }
+    requires index { slice_index plan.now position < count_at instance.now position }
+    ensures { result ≡ chosen instance.now plan.now position }
+{
+    let path = &instance.paths.as_slice()[position as usize];
+    choice_at(path, plan[position as usize] as u32)
 }

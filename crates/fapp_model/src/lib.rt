@@ -10,7 +10,7 @@ mod limits;
 mod record;
 mod triple;
 
-pub use choice::{Choice, choice_at, choice_count};
+pub use choice::{Choice, choice_at, choice_count, chosen};
 pub use instance::{Instance, Path};
 pub use items::Items;
 pub use level::{LEVELS, levels};
