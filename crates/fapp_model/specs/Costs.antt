@@ -1,6 +1,6 @@
 -- What an assignment costs, counted afresh from the list of records.
-use Rattle.std.specs.Prelude.{ℕ, zero, suc, ◌-◌, nat_lt, List, length, take_while, sum_by, count_by}
-use Rattle.std.specs.List.{range_with_len}
+use Rattle.std.specs.Prelude.{ℕ, zero, suc, ◌-◌, nat_lt, List, sum_by, count_by}
+use Rattle.std.specs.List.{range_with_len, prefix_len}
 use Rattle.fapp_model.specs.declared.instance.Instance.{Instance}
 use Rattle.fapp_model.specs.declared.triple.Triple.{Triple}
 use Rattle.fapp_model.specs.Assignments.{violates}
@@ -8,7 +8,7 @@ use Rattle.fapp_model.specs.Levels.{levels_of}
 
 -- the least level at which a count is 0: so many levels, from 0 on, have a count above 0
 abbrev pub clear_level : ℕ → (ℕ → ℕ) → ℕ
-clear_level levels count = length (take_while (λ level. nat_lt 0 (count level)) (range_with_len 0 levels))
+clear_level levels count = prefix_len (λ level. nat_lt 0 (count level)) (range_with_len 0 levels)
 
 -- the count one level below k; 0 where k is 0
 abbrev pub count_below : (ℕ → ℕ) → ℕ → ℕ
