@@ -7,7 +7,7 @@ use Rattle.fapp_model.specs.Assignments.{violates}
 use Rattle.fapp_model.specs.Levels.{levels_of}
 
 -- the least level at which a count is 0: so many levels, from 0 on, have a count above 0
-abbrev pub clear_level : ℕ → (ℕ → ℕ) → ℕ
+unfoldable pub clear_level : ℕ → (ℕ → ℕ) → ℕ
 clear_level levels count = prefix_len (λ level. nat_lt 0 (count level)) (range_with_len 0 levels)
 
 -- the count one level below k; 0 where k is 0
@@ -16,12 +16,12 @@ count_below count zero = 0
 count_below count (suc level) = count level
 
 -- the sum of the counts of the first n levels
-abbrev pub sum_under : (ℕ → ℕ) → ℕ → ℕ
+unfoldable pub sum_under : (ℕ → ℕ) → ℕ → ℕ
 sum_under count n = sum_by count (range_with_len 0 n)
 
 -- the cost by the number of violations at each level: the least level k without one, how many there are one level
 -- below k, and their sum further below
-abbrev pub cost_by : ℕ → (ℕ → ℕ) → Triple
+unfoldable pub cost_by : ℕ → (ℕ → ℕ) → Triple
 cost_by levels count = let k = clear_level levels count in
     record { k = k; v = count_below count k; s = sum_under count (k - 1) }
 
