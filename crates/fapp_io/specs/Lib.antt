@@ -1,4 +1,5 @@
 pub mod Counts
 pub mod Known
-pub mod Source
 pub mod Sink
+pub mod Source
+pub mod Whole

@@ -11,6 +11,6 @@ Gives left room n = IfSome left (λ bytes. (take n room ≡ take n bytes) × ((n
 -- `Ok n` took the next n bytes that were left and put them into the room; `Err` took none, and the count of faults rose
 abbrev pub Reads : Option (List ℕ) → Option (List ℕ) → ℕ → ℕ → List ℕ → Result ℕ Failed → Type 0
 Reads left left_after faults faults_after room (Ok n) =
-  (n ≤ length room) × Gives left room n × Drops left left_after n × (faults ≤ faults_after)
+    (n ≤ length room) × Gives left room n × Drops left left_after n × (faults ≤ faults_after)
 Reads left left_after faults faults_after room (Err _) =
-  Stays left left_after × Rose faults faults_after × (faults ≤ faults_after)
+    Stays left left_after × Rose faults faults_after × (faults ≤ faults_after)

@@ -3,6 +3,8 @@
 
 mod sink;
 mod source;
+mod whole;
 
 pub use sink::Sink;
 pub use source::{Failed, Source};
+pub use whole::{ReadEnd, WriteEnd, read_all, write_all};
