@@ -1,5 +1,7 @@
+pub mod Calls
 pub mod Counts
 pub mod Known
+pub mod Memory
 pub mod Sink
 pub mod Source
 pub mod Whole

@@ -1,10 +1,15 @@
 //! Sources and sinks of bytes, whose faults are counted, and the calls that read and write the whole.
 #![tactic(auto)]
 
+mod calls;
+mod memory_sink;
+mod memory_source;
 mod sink;
 mod source;
 mod whole;
 
+pub use memory_sink::{MemSink, NoMemory};
+pub use memory_source::MemSource;
 pub use sink::Sink;
 pub use source::{Failed, Source};
 pub use whole::{ReadEnd, WriteEnd, read_all, write_all};
