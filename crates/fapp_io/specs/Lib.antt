@@ -1,5 +1,6 @@
 pub mod Calls
 pub mod Counts
+pub mod Feed
 pub mod Known
 pub mod Memory
 pub mod Sink

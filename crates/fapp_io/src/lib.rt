@@ -2,6 +2,7 @@
 #![tactic(auto)]
 
 mod calls;
+mod feed;
 mod memory_sink;
 mod memory_source;
 mod sink;

@@ -3,18 +3,15 @@ ghost use Rattle.std.specs.Prelude.{◌≡◌, ◌<◌, ◌≤◌, Some, length,
 ghost use Rattle.fapp_io.specs.Source.{Reads};
 
 use crate::calls::Calls;
+use crate::feed::Feed;
 use crate::source::{Failed, Source};
 
 /// Gives the bytes of a `Vec` in pieces, and fails at chosen calls.
 #[derive(Drop)]
 pub struct MemSource {
-    bytes: Vec<u8>,
-    at: usize,
-    most: usize,
+    feed: Feed,
     calls: Calls,
     faults: u64,
-    ghost within: { at ≤ vec_len bytes },
-    ghost some: { 1 ≤ most },
 }
 
 impl MemSource {
@@ -24,14 +21,12 @@ impl MemSource {
     pub fn new(bytes: Vec<u8>, most: usize, fails: Vec<u64>) -> Self
         requires { 1 ≤ most }
         ensures left { left_of result ≡ bytes.items }
-        ensures most { result.most ≡ most }
+        ensures most { result.feed.most ≡ most }
         ensures calls { result.calls ≡ record { fails = fails; made = 0 } }
         ensures faults { result.faults ≡ 0 }
     {
         MemSource {
-            bytes,
-            at: 0,
-            most,
+            feed: Feed::new(bytes, most),
             calls: Calls::new(fails),
             faults: 0,
         }
@@ -54,10 +49,6 @@ impl Source for MemSource {
             self.faults = self.faults.saturating_add(1);
             return Err(Failed);
         }
-        let left = &self.bytes[self.at..];
-        let count = self.most.min(buf.len()).min(left.len());
-        buf[..count].copy_from_slice(&left[..count]);
-        self.at += count;
-        Ok(count)
+        Ok(self.feed.give(buf))
     }
 }
