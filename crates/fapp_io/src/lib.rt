@@ -1,0 +1,18 @@
+//! Sources and sinks of bytes, whose faults are counted, and the calls that read and write the whole.
+#![tactic(auto)]
+
+mod calls;
+mod feed;
+mod memory_sink;
+mod memory_source;
+mod sink;
+mod source;
+mod std_streams;
+mod whole;
+
+pub use memory_sink::{MemSink, NoMemory};
+pub use memory_source::MemSource;
+pub use sink::Sink;
+pub use source::{Failed, Source};
+pub use std_streams::{StdSink, StdSource};
+pub use whole::{ReadEnd, WriteEnd, read_all, write_all};

@@ -1,0 +1,19 @@
+// What is written to.
+ghost use Rattle.std.specs.Prelude.{◌<◌, ℕ, List, Option, length};
+ghost use Rattle.fapp_io.specs.Sink.{Writes};
+
+use crate::source::Failed;
+
+/// Takes bytes, piece by piece, and counts its faults.
+pub trait Sink {
+    /// The bytes that it took, or `None` where the sink does not tell them.
+    ghost taken: { Self → Option (List ℕ) };
+
+    /// How often it has failed. This never falls.
+    ghost faults: { Self → ℕ };
+
+    /// Appends bytes from the front of the piece, at least one, and answers how many. A call that failed appended nothing.
+    fn write(&mut self, piece: &[u8]) -> Result<usize, Failed>
+        requires { 0 < length piece.now }
+        ensures { Writes (taken self.old) (taken self.new) (faults self.old) (faults self.new) piece.now result };
+}
