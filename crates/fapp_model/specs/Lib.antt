@@ -6,3 +6,12 @@ pub mod Assignments
 pub mod Costs
 pub mod Triples
 pub mod Least
+pub mod Tags
+pub mod Pairs
+pub mod Modes
+pub mod Partials
+pub mod Implied
+pub mod Clashes
+pub mod Arcs
+pub mod Weights
+pub mod Dead

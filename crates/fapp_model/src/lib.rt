@@ -7,7 +7,9 @@ mod instance;
 mod items;
 mod level;
 mod limits;
+mod literal;
 mod record;
+mod tag;
 mod triple;
 
 pub use choice::{Choice, choice_at, choice_count, chosen};
@@ -16,6 +18,9 @@ pub use items::Items;
 pub use level::{LEVELS, levels};
 pub use limits::{
     MAX_CHOICES, MAX_DOMAIN_FREQUENCIES, MAX_DOMAIN_RECORDS, MAX_NUMBER, MAX_PATHS, MAX_RECORDS,
+    S_SPAN, V_SPAN,
 };
+pub use literal::Literal;
 pub use record::Record;
+pub use tag::{Tag, is_tag, level_of, tag_of, triple_of};
 pub use triple::Triple;

@@ -15,3 +15,9 @@ pub const MAX_DOMAIN_FREQUENCIES: usize = 32_768;
 
 /// The most choices of all paths together.
 pub const MAX_CHOICES: usize = 4_194_304;
+
+/// One more than the most violations that a tag can name at one level.
+pub const V_SPAN: u32 = 1 << 26;
+
+/// One more than the greatest sum of violations that a tag can name.
+pub const S_SPAN: u32 = 1 << 26;
