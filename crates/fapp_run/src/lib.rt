@@ -1,0 +1,6 @@
+//! The one call that the program makes.
+#![tactic(auto)]
+
+mod enumeration;
+
+pub use enumeration::least_plan;
