@@ -1,2 +1,5 @@
 pub mod Plans
 pub mod Found
+pub mod Statuses
+pub mod Words
+pub mod PlanText

@@ -1,6 +1,9 @@
-//! The one call that the program makes.
+//! The one call that the program makes: from its words and its input to what it writes and its status.
 #![tactic(auto)]
 
 mod enumeration;
+mod plan_text;
+mod status;
+mod words;
 
-pub use enumeration::least_plan;
+pub use status::Status;
