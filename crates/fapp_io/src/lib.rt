@@ -16,3 +16,6 @@ pub use sink::Sink;
 pub use source::{Failed, Source};
 pub use std_streams::{StdSink, StdSource};
 pub use whole::{ReadEnd, WriteEnd, read_all, write_all};
+
+#[cfg(test)]
+mod tests;
