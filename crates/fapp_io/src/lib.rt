@@ -2,6 +2,7 @@
 #![tactic(auto)]
 
 mod calls;
+mod clean;
 mod feed;
 mod memory_sink;
 mod memory_source;
@@ -11,6 +12,7 @@ mod std_sink;
 mod std_source;
 mod whole;
 
+pub use clean::{CleanSink, CleanSource};
 pub use memory_sink::{MemSink, NoMemory};
 pub use memory_source::MemSource;
 pub use sink::Sink;

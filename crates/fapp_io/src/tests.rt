@@ -96,3 +96,13 @@ fn a_full_writer_is_a_fault(rt: HostRuntime) -> Result<(), Fail> {
     assert_eq!(rt; room, *b"byt");
     Ok(())
 }
+
+#[test]
+fn clean_streams_never_fail(rt: HostRuntime) -> Result<(), Fail> {
+    let alloc = rt.alloc();
+    let mut source = CleanSource::new(WORD.to_vec(alloc)?, 2);
+    let given = read_all(alloc, &mut source, 5)?;
+    assert_eq!(rt; given.as_slice(), WORD);
+    write_all(&mut CleanSink::new(), &given)?;
+    Ok(())
+}
