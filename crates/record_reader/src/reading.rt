@@ -1,0 +1,11 @@
+use crate::ReadError;
+use crate::instance::instance_of;
+use crate::sheet::sheet_of;
+use fapp_model::Instance;
+use std::alloc::Global;
+
+/// Reads the network of a text of at most 65,536 bytes.
+pub fn read_instance(alloc: Global, bytes: &[u8]) -> Result<Instance, ReadError> {
+    let sheet = sheet_of(alloc, bytes)?;
+    instance_of(alloc, &sheet)
+}
