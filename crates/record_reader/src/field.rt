@@ -1,4 +1,6 @@
-ghost use Rattle.std.specs.Prelude.{◌≡◌, ◌↔◌, ◌==◌, List, IsTrue, IfOk, map, codes};
+ghost use Rattle.std.specs.Prelude.{◌≡◌, ◌≤◌, ◌↔◌, ◌==◌, List, IsTrue, IfOk, length, map};
+ghost use Rattle.std.specs.Option.{SomeIff};
+ghost use Rattle.std.specs.Str.Parse.{AllDigits, digits_value};
 ghost use Rattle.std.specs.List.{slice_split};
 ghost use Rattle.std.specs.Fmt.{decimal};
 ghost use Rattle.record_reader.specs.Rows.{IsShort, polarization_field, equality_field, AreShortDistances};
@@ -45,7 +47,10 @@ pub(crate) fn number(field: &[u8]) -> Option<u32>
 }
 
 /// The value of at most nine digits.
-fn value(field: &[u8]) -> Option<u32> {
+fn value(field: &[u8]) -> Option<u32>
+    requires { length field.now ≤ 9 }
+    ensures { SomeIff result (AllDigits 10 field.now) (digits_value 10 field.now) }
+{
     let mut value = 0u32;
     for byte in field {
         if !byte.is_ascii_digit() {

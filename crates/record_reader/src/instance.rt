@@ -1,14 +1,23 @@
+ghost use Rattle.std.specs.Prelude.{◌≡◌, All, IfOk};
+ghost use Rattle.record_reader.specs.Rows.{IsDomainRow};
+ghost use Rattle.record_reader.specs.Sheets.{IsWritten};
+ghost use Rattle.record_reader.specs.Networks.{record_between};
+ghost use Rattle.record_reader.specs.Stages.{AreFrequencies, ReadsDomains, ReadsPositions, ReadsPaths, ReadsRecord, ReadsRecords, ReadsInstance};
+
 use crate::ReadError;
 use crate::row::{ConstraintRow, DomainRow, PathRow, Rule, Sheet};
 use fapp_model::{Instance, Items, MAX_NUMBER, Path, Record};
-use std::alloc::Global;
+use std::alloc::{AllocError, Global};
 use std::collections::{BTreeMap, BTreeSet};
 
 /// The most paths of a network.
 const MAX_PATHS: usize = 64;
 
 /// The network that a sheet stands for, if it is proper.
-pub(crate) fn instance_of(alloc: Global, sheet: &Sheet) -> Result<Instance, ReadError> {
+pub(crate) fn instance_of(alloc: Global, sheet: &Sheet) -> Result<Instance, ReadError>
+    requires { IsWritten sheet.now }
+    ensures { ReadsInstance sheet.now result }
+{
     let domains = domain_set(alloc, sheet.domains.as_slice())?;
     let positions = path_positions(alloc, sheet.paths.as_slice())?;
     let paths = paths_of(alloc, sheet.paths.as_slice(), &domains)?;
@@ -20,7 +29,9 @@ pub(crate) fn instance_of(alloc: Global, sheet: &Sheet) -> Result<Instance, Read
 }
 
 /// The frequencies of all domains, in order. No line comes twice.
-fn domain_set(alloc: Global, rows: &[DomainRow]) -> Result<BTreeSet<DomainRow>, ReadError> {
+fn domain_set(alloc: Global, rows: &[DomainRow]) -> Result<BTreeSet<DomainRow>, ReadError>
+    ensures { ReadsDomains rows.now result }
+{
     let mut domains = BTreeSet::new(alloc);
     for row in rows {
         if !domains.insert(*row)? {
@@ -31,7 +42,9 @@ fn domain_set(alloc: Global, rows: &[DomainRow]) -> Result<BTreeSet<DomainRow>, 
 }
 
 /// The positions of at most `MAX_PATHS` paths by their numbers, which differ.
-fn path_positions(alloc: Global, rows: &[PathRow]) -> Result<BTreeMap<u32, u16>, ReadError> {
+fn path_positions(alloc: Global, rows: &[PathRow]) -> Result<BTreeMap<u32, u16>, ReadError>
+    ensures { ReadsPositions rows.now result }
+{
     if rows.len() > MAX_PATHS {
         return Err(ReadError::Unbuilt);
     }
@@ -49,7 +62,10 @@ fn paths_of(
     alloc: Global,
     rows: &[PathRow],
     domains: &BTreeSet<DomainRow>,
-) -> Result<Vec<Path>, ReadError> {
+) -> Result<Vec<Path>, ReadError>
+    requires { All IsDomainRow domains.now.keys }
+    ensures { ReadsPaths domains.now.keys rows.now result }
+{
     let mut paths = Vec::new(alloc);
     for row in rows {
         let freqs = frequencies(alloc, domains, row.domain)?;
@@ -70,7 +86,10 @@ fn frequencies(
     alloc: Global,
     domains: &BTreeSet<DomainRow>,
     domain: u32,
-) -> Result<Vec<u32>, ReadError> {
+) -> Result<Vec<u32>, AllocError>
+    requires { All IsDomainRow domains.now.keys }
+    ensures { IfOk result (λ v. AreFrequencies domains.now.keys domain v.items) }
+{
     let first = DomainRow {
         domain,
         frequency: 0,
@@ -79,11 +98,10 @@ fn frequencies(
         domain,
         frequency: MAX_NUMBER,
     };
-    let freqs = domains
+    domains
         .range(first..=last)
         .map(|row| row.frequency)
-        .collect(alloc)?;
-    Ok(freqs)
+        .collect(alloc)
 }
 
 /// A record for each row, between two different paths that have positions.
@@ -91,7 +109,9 @@ fn records_of(
     alloc: Global,
     rows: &[ConstraintRow],
     positions: &BTreeMap<u32, u16>,
-) -> Result<Vec<Record>, ReadError> {
+) -> Result<Vec<Record>, ReadError>
+    ensures { ReadsRecords positions.now rows.now result }
+{
     let mut records = Vec::new(alloc);
     for row in rows {
         let record = record_of(row, positions).ok_or(ReadError::Unbuilt)?;
@@ -101,7 +121,9 @@ fn records_of(
 }
 
 /// The record of a row, if it names two different paths that have positions.
-fn record_of(row: &ConstraintRow, positions: &BTreeMap<u32, u16>) -> Option<Record> {
+fn record_of(row: &ConstraintRow, positions: &BTreeMap<u32, u16>) -> Option<Record>
+    ensures { ReadsRecord positions.now row.now result }
+{
     if row.first == row.second {
         return None;
     }
@@ -111,7 +133,9 @@ fn record_of(row: &ConstraintRow, positions: &BTreeMap<u32, u16>) -> Option<Reco
 }
 
 /// The record of a rule between the paths at two positions.
-fn record_between(i: u16, j: u16, rule: Rule) -> Record {
+fn record_between(i: u16, j: u16, rule: Rule) -> Record
+    ensures { result ≡ record_between i j rule }
+{
     match rule {
         Rule::Freq { equal, n } => Record::Freq { i, j, equal, n },
         Rule::Pol { equal, .. } => Record::Pol { i, j, equal },

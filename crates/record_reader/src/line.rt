@@ -1,6 +1,6 @@
-ghost use Rattle.std.specs.Prelude.{◌≡◌, ◌==◌, ℕ, List, IfOk, map};
+ghost use Rattle.std.specs.Prelude.{◌≡◌, ◌==◌, ◌∷◌, ℕ, List, IfOk, map, codes};
 ghost use Rattle.std.specs.List.{slice_split};
-ghost use Rattle.record_reader.specs.Rows.{IsDomainRow, IsPathRow, IsRule, IsConstraintRow, domain_fields, path_fields, rule_fields, constraint_fields};
+ghost use Rattle.record_reader.specs.Rows.{IsDomainRow, IsPathRow, IsRule, IsConstraintRow, domain_fields, path_fields, record_word, rule_fields, constraint_fields};
 ghost use Rattle.record_reader.specs.Stages.{ReadsAs, IsFront};
 
 use crate::field::{distances, equality, is, number, pieces, polarization};
@@ -79,7 +79,9 @@ impl Row for ConstraintRow {
 }
 
 /// The rule that a record's word and the fields after its two paths spell.
-fn rule(word: &[u8], fields: &[&[u8]]) -> Option<Rule> {
+fn rule(word: &[u8], fields: &[&[u8]]) -> Option<Rule>
+    ensures { ReadsAs (λ r. record_word r ∷ rule_fields r) IsRule (word.now ∷ map (λ x. x.now) fields.now) result }
+{
     if is(word, b"CI") {
         return imperative(fields);
     }
@@ -97,7 +99,9 @@ fn rule(word: &[u8], fields: &[&[u8]]) -> Option<Rule> {
 }
 
 /// The rule that the last three fields of a `CI` record spell.
-fn imperative(fields: &[&[u8]]) -> Option<Rule> {
+fn imperative(fields: &[&[u8]]) -> Option<Rule>
+    ensures { ReadsAs (λ r. record_word r ∷ rule_fields r) IsRule (codes "CI" ∷ map (λ x. x.now) fields.now) result }
+{
     let [word, asked, n] = fields else {
         return None;
     };

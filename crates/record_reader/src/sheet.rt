@@ -1,4 +1,6 @@
-ghost use Rattle.record_reader.specs.Stages.{ReadsSheet};
+ghost use Rattle.std.specs.Prelude.{◌==◌, map};
+ghost use Rattle.std.specs.List.{slice_split};
+ghost use Rattle.record_reader.specs.Stages.{ReadsRows, ReadsSheet};
 
 use crate::ReadError;
 use crate::field::pieces;
@@ -22,7 +24,9 @@ pub(crate) fn sheet_of(alloc: Global, text: &[u8]) -> Result<Sheet, ReadError>
 }
 
 /// The rows of all lines of a text.
-fn rows_of(alloc: Global, lines: &[&[u8]]) -> Result<Sheet, ReadError> {
+fn rows_of(alloc: Global, lines: &[&[u8]]) -> Result<Sheet, ReadError>
+    ensures { ReadsRows (map (λ line. slice_split (λ b. b == 32) line.now) lines.now) result }
+{
     let domains = rows(alloc, lines)?;
     let lines = &lines[domains.len()..];
     let paths = rows(alloc, lines)?;

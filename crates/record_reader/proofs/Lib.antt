@@ -1,0 +1,4 @@
+pub mod Lists
+pub mod Domains
+pub mod Positions
+pub mod Frequencies
