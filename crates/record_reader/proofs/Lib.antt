@@ -2,3 +2,4 @@ pub mod Lists
 pub mod Domains
 pub mod Positions
 pub mod Frequencies
+pub mod Instances

@@ -1,6 +1,7 @@
 -- Lists: what a map and a filter contain, elements by place, two lists side by side.
 use Rattle.std.proofs.Common.{◌≡◌, ℕ, zero, suc, ◌+◌, ◌<◌, ◌≤◌, Bool, true, false, cond, List, [], ◌∷◌, ◌++◌, length, get_or, take, filter, map, Contains, Option, Some, None, refl, sym, ap, ◌∙◌, subst, arith, inl, inr, ◌⊎◌}
-use Rattle.std.specs.List.{slice_get, AllZip}
+use Rattle.std.specs.List.{slice_get, AllZip, All}
+use Rattle.std.proofs.lemmas.List.Elements.{All-nil, All-cons}
 use Rattle.std.proofs.lemmas.List.{get_or-map, length-map}
 
 cases_at : {X : Type 0} (x : X) (xs : List X) (y : X) (k : ℕ) → k < length (x ∷ xs) → get_or (x ∷ xs) k y ≡ y → (x ≡ y) ⊎ Contains xs y
@@ -83,3 +84,15 @@ all_zip_weaker R S w [] [] h = tt
 all_zip_weaker R S w [] (b ∷ bs) h = absurd h
 all_zip_weaker R S w (a ∷ as') [] h = absurd h
 all_zip_weaker R S w (a ∷ as') (b ∷ bs) h = (w a b h.0, all_zip_weaker R S w as' bs h.1)
+
+pub all_left : {A B : Type 0} (R : A → B → Type 0) (P : A → Type 0) → ((a : A) (b : B) → R a b → P a) → (xs : List A) (ys : List B) → AllZip R xs ys → All P xs
+all_left R P w [] [] h = All-nil P
+all_left R P w [] (b ∷ bs) h = absurd h
+all_left R P w (a ∷ as') [] h = absurd h
+all_left R P w (a ∷ as') (b ∷ bs) h = All-cons P a as' (w a b h.0) (all_left R P w as' bs h.1)
+
+pub all_right : {A B : Type 0} (R : A → B → Type 0) (P : B → Type 0) → ((a : A) (b : B) → R a b → P b) → (xs : List A) (ys : List B) → AllZip R xs ys → All P ys
+all_right R P w [] [] h = All-nil P
+all_right R P w [] (b ∷ bs) h = absurd h
+all_right R P w (a ∷ as') [] h = absurd h
+all_right R P w (a ∷ as') (b ∷ bs) h = All-cons P b bs (w a b h.0) (all_right R P w as' bs h.1)

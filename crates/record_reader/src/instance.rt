@@ -1,5 +1,5 @@
 ghost use Rattle.std.specs.Prelude.{◌≡◌, All, IfOk};
-ghost use Rattle.record_reader.specs.Rows.{IsDomainRow};
+ghost use Rattle.record_reader.specs.Rows.{IsDomainRow, IsPathRow};
 ghost use Rattle.record_reader.specs.Sheets.{IsWritten};
 ghost use Rattle.record_reader.specs.Networks.{record_between};
 ghost use Rattle.record_reader.specs.Stages.{AreFrequencies, ReadsDomains, ReadsPositions, ReadsPaths, ReadsRecord, ReadsRecords, ReadsInstance};
@@ -63,7 +63,8 @@ fn paths_of(
     rows: &[PathRow],
     domains: &BTreeSet<DomainRow>,
 ) -> Result<Vec<Path>, ReadError>
-    requires { All IsDomainRow domains.now.keys }
+    requires domains { All IsDomainRow domains.now.keys }
+    requires rows { All IsPathRow rows.now }
     ensures { ReadsPaths domains.now.keys rows.now result }
 {
     let mut paths = Vec::new(alloc);
