@@ -3,3 +3,5 @@ pub mod Domains
 pub mod Positions
 pub mod Frequencies
 pub mod Instances
+pub mod Numbers
+pub mod Distances
