@@ -1,5 +1,5 @@
 -- Lists: what a map and a filter contain, elements by place, two lists side by side.
-use Rattle.std.proofs.Common.{◌≡◌, ℕ, zero, suc, ◌+◌, ◌<◌, ◌≤◌, Bool, true, false, cond, List, [], ◌∷◌, ◌++◌, length, get_or, take, filter, map, Contains, Option, Some, None, refl, sym, ap, ◌∙◌, subst, arith, inl, inr, ◌⊎◌}
+use Rattle.std.proofs.Common.{Bor, ◌≡◌, ℕ, zero, suc, ◌+◌, ◌<◌, ◌≤◌, Bool, true, false, cond, List, [], ◌∷◌, ◌++◌, length, get_or, take, filter, map, Contains, Option, Some, None, refl, sym, ap, ◌∙◌, subst, arith, inl, inr, ◌⊎◌}
 use Rattle.std.specs.List.{slice_get, AllZip, All}
 use Rattle.std.proofs.lemmas.List.Elements.{All-nil, All-cons}
 use Rattle.std.proofs.lemmas.List.{get_or-map, length-map}
@@ -96,3 +96,11 @@ all_right R P w [] [] h = All-nil P
 all_right R P w [] (b ∷ bs) h = absurd h
 all_right R P w (a ∷ as') [] h = absurd h
 all_right R P w (a ∷ as') (b ∷ bs) h = All-cons P b bs (w a b h.0) (all_right R P w as' bs h.1)
+
+-- ---- what references point to
+
+pub text_at : (fields : List (Bor (List ℕ))) (k : ℕ) (d : Bor (List ℕ)) → k < length fields → get_or (map (λ (x : Bor (List ℕ)). x.now) fields) k [] ≡ (get_or fields k d).now
+text_at fields k d lt = get_or-map (λ (x : Bor (List ℕ)). x.now) fields k d [] lt
+
+pub texts_long : (fields : List (Bor (List ℕ))) → length (map (λ (x : Bor (List ℕ)). x.now) fields) ≡ length fields
+texts_long fields = length-map fields (λ (x : Bor (List ℕ)). x.now)
