@@ -5,3 +5,4 @@ pub mod Frequencies
 pub mod Instances
 pub mod Numbers
 pub mod Distances
+pub mod Sections
