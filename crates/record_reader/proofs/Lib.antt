@@ -6,3 +6,4 @@ pub mod Instances
 pub mod Numbers
 pub mod Distances
 pub mod Sections
+pub mod Orders
