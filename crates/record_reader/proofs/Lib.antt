@@ -7,3 +7,5 @@ pub mod Numbers
 pub mod Distances
 pub mod Sections
 pub mod Orders
+pub mod Clean
+pub mod Texts
