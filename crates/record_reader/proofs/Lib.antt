@@ -9,3 +9,5 @@ pub mod Sections
 pub mod Orders
 pub mod Clean
 pub mod Texts
+pub mod Unique
+

@@ -61,7 +61,7 @@ stops_constraints row fit = differ [] (constraint_fields row) 0 67 refl (word_by
 at_spelled : {R : Type 0} (spelled : R → List (List ℕ)) (rows : List R) (row : R) (rest : List (List (List ℕ))) (k : ℕ) → k < length rows → get_or (map spelled rows ++ rest) k [] ≡ spelled (get_or rows k row)
 at_spelled spelled rows row rest k lt = get_or-append (map spelled rows) rest [] k (omega (arith, length-map rows spelled)) ∙ get_or-map spelled rows k row [] lt
 
-at_rest : {R : Type 0} (spelled : R → List (List ℕ)) (rows : List R) (rest : List (List (List ℕ))) → get_or (map spelled rows ++ rest) (length rows) [] ≡ get_or rest 0 []
+pub at_rest : {R : Type 0} (spelled : R → List (List ℕ)) (rows : List R) (rest : List (List (List ℕ))) → get_or (map spelled rows ++ rest) (length rows) [] ≡ get_or rest 0 []
 at_rest spelled rows rest = subst (λ (n : ℕ). get_or (map spelled rows ++ rest) n [] ≡ get_or rest 0 []) (omega (arith, length-map rows spelled)) (get_or-append-add (map spelled rows) rest 0 [])
 
 shorter : {R : Type 0} (spelled : R → List (List ℕ)) (fits : R → Type 0) (lines : List (List (List ℕ))) (rows others : List R) (rest : List (List (List ℕ))) (row : R)
