@@ -11,3 +11,4 @@ pub mod Clean
 pub mod Texts
 pub mod Unique
 
+pub mod Validity
