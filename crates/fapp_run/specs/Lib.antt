@@ -3,3 +3,5 @@ pub mod Found
 pub mod Statuses
 pub mod Words
 pub mod PlanText
+pub mod Outcomes
+pub mod Runs

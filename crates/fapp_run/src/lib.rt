@@ -2,8 +2,14 @@
 #![tactic(auto)]
 
 mod enumeration;
+mod outcome;
 mod plan_text;
 mod status;
+mod top;
 mod words;
 
 pub use status::Status;
+pub use top::run;
+
+#[cfg(test)]
+mod tests;
