@@ -1,0 +1,7 @@
+//! Laws over the definitions of tags, arcs and dead partial assignments. Each stands as the contract of a function
+//! that does nothing; the lemmas that they rest on are in `proofs/`.
+#![tactic(auto)]
+
+mod tags;
+
+pub use tags::{codes_follow_tags, cost_against_mode, costs_are_tags};
