@@ -6,3 +6,4 @@ pub mod CostLaws
 pub mod Anys
 pub mod RecordEnds
 pub mod ArcTest
+pub mod ImpliedLemmas
