@@ -1,7 +1,7 @@
 -- Tests over lists and ranges, by their members.
-use Rattle.std.proofs.Common.{◌≡◌, ℕ, zero, suc, ◌+◌, ◌<◌, ◌≤◌, Bool, true, false, ◌&&◌, ◌||◌, not, List, [], ◌∷◌, length, get_or, refl, sym, ap, ◌∙◌, subst, arith, sum_by, All, Contains}
+use Rattle.std.proofs.Common.{◌≡◌, inl, inr, ℕ, zero, suc, ◌+◌, ◌<◌, ◌≤◌, Bool, true, false, ◌&&◌, ◌||◌, not, List, [], ◌∷◌, length, get_or, refl, sym, ap, ◌∙◌, subst, arith, sum_by, All, Contains}
 use Rattle.std.specs.List.{list_any, range_with_len}
-use Rattle.std.proofs.lemmas.Bool.{false_from_ne_true, true_from_ne_false, both_ways}
+use Rattle.std.proofs.lemmas.Bool.{cases_lt, false_from_ne_true, true_from_ne_false, both_ways}
 use Rattle.std.proofs.lemmas.List.Sums.{sum_by-cons}
 use Rattle.std.proofs.lemmas.List.Folds.{Any-from_list_any, list_any-from_Any, list_any_none}
 use Rattle.std.proofs.lemmas.List.Elements.{All-head, All-tail, Contains-get_or}
@@ -47,3 +47,21 @@ sum_by-lt-at f g (x ∷ xs) (suc k) d h l less =
 
 pub sum_by-lt-member : {X : Type 0} (f g : X → ℕ) (xs : List X) (x : X) → All (λ x. f x ≤ g x) xs → Contains xs x → f x < g x → sum_by f xs < sum_by g xs
 sum_by-lt-member f g xs x h (k, l, e) less = sum_by-lt-at f g xs k x h l (subst (λ y. f y < g y) (sym e) less)
+
+-- some term of a sum is positive
+pub record Positive {X : Type 0} (f : X → ℕ) (xs : List X) : Type 0 where
+  pub item : X
+  pub member : Contains xs item
+  pub positive : 0 < f item
+
+Contains-tail : {X : Type 0} (x y : X) (xs : List X) → Contains xs y → Contains (x ∷ xs) y
+Contains-tail x y xs (k, l, e) = (suc k, omega arith, e)
+
+pub positive-sum_by : {X : Type 0} (f : X → ℕ) (xs : List X) → 0 < sum_by f xs → Positive f xs
+positive-sum_by f [] h = absurd (omega arith)
+positive-sum_by f (x ∷ xs) h =
+    elim (cases_lt 0 (f x)) [
+      inl some ↦ record { item = x; member = (0, omega arith, refl); positive = some }
+    | inr none ↦
+        let rest = positive-sum_by f xs (omega (arith, sum_by-cons f x xs)) in
+        record { item = rest.item; member = Contains-tail x rest.item xs rest.member; positive = rest.positive } ]

@@ -7,3 +7,5 @@ pub mod Anys
 pub mod RecordEnds
 pub mod ArcTest
 pub mod ImpliedLemmas
+pub mod LowerLevels
+pub mod DeadLower
