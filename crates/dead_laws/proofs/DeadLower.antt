@@ -31,7 +31,7 @@ least_or_above levels t (limited some low high v s) = inr (inl low)
 least_or_above levels t (plain none nothing high) =
     elim (cases_lt 0 t.k) [ inl low ↦ inr (inl low) | inr zero_level ↦ inl (level_alone t none nothing (omega arith)) ]
 
-nothing_below : (t : Triple) → IsBelow t least_tag → ⊥
+pub nothing_below : (t : Triple) → IsBelow t least_tag → ⊥
 nothing_below t (inl h) = omega arith
 nothing_below t (inr (same, inl h)) = omega arith
 nothing_below t (inr (same, inr h)) = omega (arith, h.1)

@@ -9,3 +9,8 @@ pub mod ArcTest
 pub mod ImpliedLemmas
 pub mod LowerLevels
 pub mod DeadLower
+pub mod Picks
+pub mod PairSums
+pub mod Growing
+pub mod PlanLiterals
+pub mod DeadImplied

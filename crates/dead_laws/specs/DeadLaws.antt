@@ -1,13 +1,36 @@
 -- What holds of dead partial assignments.
-use Rattle.std.specs.Prelude.{List}
+use Rattle.std.specs.Prelude.{ℕ, Bool, IsTrue, List, [], ◌∷◌}
 use Rattle.fapp_model.specs.declared.instance.Instance.{Instance}
 use Rattle.fapp_model.specs.declared.literal.Literal.{Literal}
 use Rattle.fapp_model.specs.declared.triple.Triple.{Triple}
-use Rattle.fapp_model.specs.Dead.{Dead}
+use Rattle.fapp_model.specs.Dead.{Dead, DeadBy}
+use Rattle.fapp_model.specs.Implied.{Implied}
 use Rattle.fapp_model.specs.Instances.{IsInstance}
-use Rattle.fapp_model.specs.Partials.{IsPartial}
-use Rattle.fapp_model.specs.Tags.{IsTagOf}
+use Rattle.fapp_model.specs.Least.{IsFeasible}
+use Rattle.fapp_model.specs.Partials.{IsLiteral, IsPartial}
+use Rattle.fapp_model.specs.Tags.{IsTagOf, top_tag}
 use Rattle.dead_laws.specs.ImpliedLaws.{IsAtMost}
+
+-- each choice that stands outside is implied with the literals
+abbrev pub RulesOut : Instance → Triple → List Literal → (Literal → Type 0) → Type 0
+RulesOut instance t literals outside = (a : Literal) → IsLiteral instance a → outside a → Implied instance t (a ∷ literals)
+
+-- What is judged dead is implied, whatever test stands for outside, where each choice that passes it is implied with
+-- the literals.
+abbrev pub JudgedDeadIsImplied : Type 0
+JudgedDeadIsImplied = (excluded : Literal → Bool) (instance : Instance) (t : Triple) (literals : List Literal) → IsInstance instance →
+    IsTagOf instance t → IsPartial instance literals → RulesOut instance t literals (λ a. IsTrue (excluded a)) →
+    DeadBy (λ a. IsTrue (excluded a)) instance t literals → Implied instance t literals
+
+-- What is dead is implied.
+abbrev pub DeadIsImplied : Type 0
+DeadIsImplied = (instance : Instance) (t : Triple) (literals : List Literal) → IsInstance instance →
+    IsTagOf instance t → IsPartial instance literals → Dead instance t literals → Implied instance t literals
+
+-- Where no literal is dead at the top tag, no assignment meets the imperative records.
+abbrev pub NoneWhereDeadAtTop : Type 0
+NoneWhereDeadAtTop = (instance : Instance) (plan : List ℕ) → IsInstance instance → Dead instance (top_tag instance) [] →
+    IsFeasible instance plan → ⊥
 
 -- What is dead at a tag is dead at each lower one.
 abbrev pub DeadAtLowerTags : Type 0

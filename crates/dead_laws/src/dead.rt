@@ -1,4 +1,22 @@
-ghost use Rattle.dead_laws.specs.DeadLaws.{DeadAtLowerTags};
+ghost use Rattle.dead_laws.specs.DeadLaws.{DeadAtLowerTags, DeadIsImplied, JudgedDeadIsImplied, NoneWhereDeadAtTop};
+
+/// What is judged dead is implied, whatever test stands for outside, where each choice that passes it is implied.
+pub fn judged_dead_is_implied()
+    ensures { JudgedDeadIsImplied }
+{
+}
+
+/// What is dead is implied.
+pub fn dead_is_implied()
+    ensures { DeadIsImplied }
+{
+}
+
+/// Where no literal is dead at the top tag, no assignment meets the imperative records.
+pub fn none_where_dead_at_top()
+    ensures { NoneWhereDeadAtTop }
+{
+}
 
 /// What is dead at a tag is dead at each lower one.
 pub fn dead_at_lower_tags()
