@@ -14,3 +14,5 @@ pub mod PairSums
 pub mod Growing
 pub mod PlanLiterals
 pub mod DeadImplied
+pub mod DeadFull
+pub mod BestChoices

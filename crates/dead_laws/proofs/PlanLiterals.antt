@@ -136,7 +136,7 @@ plan-pair instance plan level v fewest =
       (omega (arith, plan-further instance plan level v, none-open instance (plan_literals (length instance.paths) plan) full (λ path. (fewest path).s)))
 
 -- no record is hard-bad between choices of a plan that meets the imperative records and has no violation at a level
-chosen-is : (instance : Instance) (plan : List ℕ) (a : Literal) (path : ℕ) → IsChosen plan a → path ≡ a.path → choice_of instance a ≡ chosen instance plan path
+pub chosen-is : (instance : Instance) (plan : List ℕ) (a : Literal) (path : ℕ) → IsChosen plan a → path ≡ a.path → choice_of instance a ≡ chosen instance plan path
 chosen-is instance plan a path own e = ap (choice (path_at instance a.path)) (sym own) ∙ ap (chosen instance plan) (sym e)
 
 module _ (instance : Instance) (plan : List ℕ) (level : ℕ) (met : IsTrue (meets instance plan)) (clear : violations instance plan level ≡ 0) where

@@ -1,5 +1,5 @@
 -- What holds of dead partial assignments.
-use Rattle.std.specs.Prelude.{ℕ, Bool, IsTrue, List, [], ◌∷◌}
+use Rattle.std.specs.Prelude.{◌↔◌, ℕ, ◌<◌, Bool, IsTrue, List, [], ◌∷◌, length}
 use Rattle.fapp_model.specs.declared.instance.Instance.{Instance}
 use Rattle.fapp_model.specs.declared.literal.Literal.{Literal}
 use Rattle.fapp_model.specs.declared.triple.Triple.{Triple}
@@ -7,7 +7,7 @@ use Rattle.fapp_model.specs.Dead.{Dead, DeadBy}
 use Rattle.fapp_model.specs.Implied.{Implied}
 use Rattle.fapp_model.specs.Instances.{IsInstance}
 use Rattle.fapp_model.specs.Least.{IsFeasible}
-use Rattle.fapp_model.specs.Partials.{IsLiteral, IsPartial}
+use Rattle.fapp_model.specs.Partials.{IsLiteral, IsPartial, names}
 use Rattle.fapp_model.specs.Tags.{IsTagOf, top_tag}
 use Rattle.dead_laws.specs.ImpliedLaws.{IsAtMost}
 
@@ -37,3 +37,13 @@ abbrev pub DeadAtLowerTags : Type 0
 DeadAtLowerTags = (instance : Instance) (t u : Triple) (literals : List Literal) → IsInstance instance →
     IsTagOf instance t → IsTagOf instance u → IsPartial instance literals → IsAtMost u t →
     Dead instance t literals → Dead instance u literals
+
+-- a literal for each path
+abbrev pub NamesAll : Instance → List Literal → Type 0
+NamesAll instance literals = (path : ℕ) → path < length instance.paths → IsTrue (names literals path)
+
+-- For a literal of each path, dead and implied are one.
+abbrev pub FullDeadIsImplied : Type 0
+FullDeadIsImplied = (instance : Instance) (t : Triple) (literals : List Literal) → IsInstance instance →
+    IsTagOf instance t → IsPartial instance literals → NamesAll instance literals →
+    Dead instance t literals ↔ Implied instance t literals

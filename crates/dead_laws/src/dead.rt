@@ -1,4 +1,4 @@
-ghost use Rattle.dead_laws.specs.DeadLaws.{DeadAtLowerTags, DeadIsImplied, JudgedDeadIsImplied, NoneWhereDeadAtTop};
+ghost use Rattle.dead_laws.specs.DeadLaws.{DeadAtLowerTags, DeadIsImplied, FullDeadIsImplied, JudgedDeadIsImplied, NoneWhereDeadAtTop};
 
 /// What is judged dead is implied, whatever test stands for outside, where each choice that passes it is implied.
 pub fn judged_dead_is_implied()
@@ -21,5 +21,11 @@ pub fn none_where_dead_at_top()
 /// What is dead at a tag is dead at each lower one.
 pub fn dead_at_lower_tags()
     ensures { DeadAtLowerTags }
+{
+}
+
+/// For a literal of each path, dead and implied are one.
+pub fn full_dead_is_implied()
+    ensures { FullDeadIsImplied }
 {
 }
