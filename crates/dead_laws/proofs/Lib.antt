@@ -16,3 +16,4 @@ pub mod PlanLiterals
 pub mod DeadImplied
 pub mod DeadFull
 pub mod BestChoices
+pub mod DeadMore

@@ -9,7 +9,7 @@ use Rattle.fapp_model.specs.Instances.{IsInstance}
 use Rattle.fapp_model.specs.Least.{IsFeasible}
 use Rattle.fapp_model.specs.Partials.{IsLiteral, IsPartial, names}
 use Rattle.fapp_model.specs.Tags.{IsTagOf, top_tag}
-use Rattle.dead_laws.specs.ImpliedLaws.{IsAtMost}
+use Rattle.dead_laws.specs.ImpliedLaws.{HasAll, IsAtMost}
 
 -- each choice that stands outside is implied with the literals
 abbrev pub RulesOut : Instance → Triple → List Literal → (Literal → Type 0) → Type 0
@@ -47,3 +47,9 @@ abbrev pub FullDeadIsImplied : Type 0
 FullDeadIsImplied = (instance : Instance) (t : Triple) (literals : List Literal) → IsInstance instance →
     IsTagOf instance t → IsPartial instance literals → NamesAll instance literals →
     Dead instance t literals ↔ Implied instance t literals
+
+-- What is dead for some literals is dead for more.
+abbrev pub DeadInExtensions : Type 0
+DeadInExtensions = (instance : Instance) (t : Triple) (literals more : List Literal) → IsInstance instance →
+    IsTagOf instance t → IsPartial instance literals → IsPartial instance more → HasAll more literals →
+    Dead instance t literals → Dead instance t more

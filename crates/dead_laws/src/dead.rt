@@ -1,4 +1,4 @@
-ghost use Rattle.dead_laws.specs.DeadLaws.{DeadAtLowerTags, DeadIsImplied, FullDeadIsImplied, JudgedDeadIsImplied, NoneWhereDeadAtTop};
+ghost use Rattle.dead_laws.specs.DeadLaws.{DeadAtLowerTags, DeadInExtensions, DeadIsImplied, FullDeadIsImplied, JudgedDeadIsImplied, NoneWhereDeadAtTop};
 
 /// What is judged dead is implied, whatever test stands for outside, where each choice that passes it is implied.
 pub fn judged_dead_is_implied()
@@ -27,5 +27,11 @@ pub fn dead_at_lower_tags()
 /// For a literal of each path, dead and implied are one.
 pub fn full_dead_is_implied()
     ensures { FullDeadIsImplied }
+{
+}
+
+/// What is dead for some literals is dead for more.
+pub fn dead_in_extensions()
+    ensures { DeadInExtensions }
 {
 }
