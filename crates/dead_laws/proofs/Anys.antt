@@ -1,7 +1,7 @@
 -- Tests over lists and ranges, by their members.
-use Rattle.std.proofs.Common.{◌≡◌, inl, inr, ℕ, zero, suc, ◌+◌, ◌<◌, ◌≤◌, Bool, true, false, ◌&&◌, ◌||◌, not, List, [], ◌∷◌, length, get_or, refl, sym, ap, ◌∙◌, subst, arith, sum_by, All, Contains}
+use Rattle.std.proofs.Common.{◌≡◌, inl, inr, ℕ, zero, suc, ◌<◌, ◌≤◌, Bool, true, false, List, [], ◌∷◌, length, get_or, refl, sym, subst, arith, sum_by, All, Contains}
 use Rattle.std.specs.List.{list_any, range_with_len}
-use Rattle.std.proofs.lemmas.Bool.{cases_lt, false_from_ne_true, true_from_ne_false, both_ways}
+use Rattle.std.proofs.lemmas.Bool.{cases_lt, false_from_ne_true, both_ways}
 use Rattle.std.proofs.lemmas.List.Sums.{sum_by-cons}
 use Rattle.std.proofs.lemmas.List.Folds.{Any-from_list_any, list_any-from_Any, list_any_none}
 use Rattle.std.proofs.lemmas.List.Elements.{All-head, All-tail, Contains-get_or}
@@ -61,7 +61,8 @@ pub positive-sum_by : {X : Type 0} (f : X → ℕ) (xs : List X) → 0 < sum_by 
 positive-sum_by f [] h = absurd (omega arith)
 positive-sum_by f (x ∷ xs) h =
     elim (cases_lt 0 (f x)) [
-      inl some ↦ record { item = x; member = (0, omega arith, refl); positive = some }
-    | inr none ↦
-        let rest = positive-sum_by f xs (omega (arith, sum_by-cons f x xs)) in
-        record { item = rest.item; member = Contains-tail x rest.item xs rest.member; positive = rest.positive } ]
+      | inl some ↦ record { item = x; member = (0, omega arith, refl); positive = some }
+      | inr none ↦
+          let rest = positive-sum_by f xs (omega (arith, sum_by-cons f x xs)) in
+          record { item = rest.item; member = Contains-tail x rest.item xs rest.member; positive = rest.positive }
+    ]

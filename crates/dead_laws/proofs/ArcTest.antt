@@ -1,7 +1,7 @@
 -- The arcs of a level as a test: choices without a partner are removed one by one until none is left.
-use Rattle.std.proofs.Common.{◌≡◌, ◌⊎◌, ℕ, zero, suc, ◌+◌, ◌<◌, ◌≤◌, Bool, true, false, ◌&&◌, ◌||◌, not, cond, List, length, get_or, refl, sym, ap, ◌∙◌, subst, inl, inr, arith, sum_by, count_by, All, Contains, IsTrue, eqb, ltb}
+use Rattle.std.proofs.Common.{◌≡◌, ◌⊎◌, ℕ, zero, suc, ◌<◌, ◌≤◌, Bool, true, false, ◌&&◌, not, cond, length, get_or, refl, sym, ap, ◌∙◌, subst, inl, inr, arith, sum_by, count_by, IsTrue, eqb, ltb}
 use Rattle.std.specs.List.{list_any, range_with_len}
-use Rattle.std.proofs.lemmas.Bool.{and_parts, and_from, and_cases, and_left, and_right, both_ways, not-true, not-false, not_from_true, not_from_false, eqb-true, eq-eqb, ltb-true, lt-ltb, cases_Bool}
+use Rattle.std.proofs.lemmas.Bool.{and_parts, and_from, and_cases, and_right, both_ways, not-true, not-false, not_from_true, not_from_false, eqb-true, eq-eqb, ltb-true, lt-ltb}
 use Rattle.fapp_model.specs.declared.instance.Instance.{Instance}
 use Rattle.fapp_model.specs.declared.literal.Literal.{Literal}
 use Rattle.fapp_model.specs.Arcs.{HasPartner, InArc, IsSupported, OutsideArc}
@@ -9,7 +9,7 @@ use Rattle.fapp_model.specs.Assignments.{count_at}
 use Rattle.fapp_model.specs.Clashes.{clashes, shares_record}
 use Rattle.fapp_model.specs.Instances.{IsInstance}
 use Rattle.fapp_model.specs.Partials.{literal, IsLiteral}
-use Rattle.dead_laws.proofs.Anys.{Passing, passing, any-member, none-member, no-member, contains-range, range-contains, sum_by-lt-member}
+use Rattle.dead_laws.proofs.Anys.{passing, any-member, none-member, contains-range, sum_by-lt-member}
 use Rattle.dead_laws.proofs.RecordEnds.{shares-range}
 use Rattle.dead_laws.proofs.Sums.{count_by-le-members, cond-le}
 
@@ -82,28 +82,29 @@ module _ (instance : Instance) (level : ℕ) (family : Literal → Bool) (valid 
       let kept = wide.wide other supported (literal found.item friend.index) friend.member in
       let small = (wide.in_range (literal found.item friend.index) kept).choice in
       both_ways (partners instance level family a found.item) (not-true _ parts.1)
-        (any-member (λ index. family (literal found.item index) && not (clashes instance level a (literal found.item index))) (range_with_len 0 (count_at instance found.item)) friend.index (contains-range _ _ small)
-          (and_from _ _ kept (not_from_false _ friend.apart)))
+      (any-member (λ index. family (literal found.item index) && not (clashes instance level a (literal found.item index))) (range_with_len 0 (count_at instance found.item)) friend.index (contains-range _ _ small)
+      (and_from _ _ kept (not_from_false _ friend.apart)))
 
   size-without : (a : Literal) → IsTrue (family a) → size instance (without family a) < size instance family
   size-without a member =
       let at_home = wide.in_range a member in
       sum_by-lt-member (size_at instance (without family a)) (size_at instance family) (range_with_len 0 (length instance.paths)) a.path
-        (λ k d l. count_by-le-members _ _ (range_with_len 0 (count_at instance (get_or (range_with_len 0 (length instance.paths)) k d))) (λ i e m h. (and_parts _ _ h).0))
-        (contains-range _ _ at_home.path)
-        (sum_by-lt-member (λ index. cond (without family a (literal a.path index)) 1 0) (λ index. cond (family (literal a.path index)) 1 0) (range_with_len 0 (count_at instance a.path)) a.choice
-          (λ i e m. cond-le (without family a (literal a.path (get_or (range_with_len 0 (count_at instance a.path)) i e))) (family (literal a.path (get_or (range_with_len 0 (count_at instance a.path)) i e))) (λ h. (and_parts _ _ h).0))
-          (contains-range _ _ at_home.choice)
-          (less (without family a a) (family a) (and_right (family a) (not (same_literal a a)) (not_from_true (same_literal a a) (and_from _ _ (eq-eqb a.path a.path refl) (eq-eqb a.choice a.choice refl)))) member))
+      (λ k d l. count_by-le-members _ _ (range_with_len 0 (count_at instance (get_or (range_with_len 0 (length instance.paths)) k d))) (λ i e m h. (and_parts _ _ h).0))
+      (contains-range _ _ at_home.path)
+      (sum_by-lt-member (λ index. cond (without family a (literal a.path index)) 1 0) (λ index. cond (family (literal a.path index)) 1 0) (range_with_len 0 (count_at instance a.path)) a.choice
+      (λ i e m. cond-le (without family a (literal a.path (get_or (range_with_len 0 (count_at instance a.path)) i e))) (family (literal a.path (get_or (range_with_len 0 (count_at instance a.path)) i e))) (λ h. (and_parts _ _ h).0))
+      (contains-range _ _ at_home.choice)
+      (less (without family a a) (family a) (and_right (family a) (not (same_literal a a)) (not_from_true (same_literal a a) (and_from _ _ (eq-eqb a.path a.path refl) (eq-eqb a.choice a.choice refl)))) member))
     where
       less : (x y : Bool) → x ≡ false → y ≡ true → cond x 1 0 < cond y 1 0
       less x y e f = subst (λ v. v < cond y 1 0) (sym (ap (λ b. cond b 1 0) e)) (subst (λ v. 0 < v) (sym (ap (λ b. cond b 1 0) f)) (omega arith))
 
   wide-without : (a : Literal) → is_lonely instance level family a ≡ true → IsWide instance level (without family a)
   wide-without a lonely = record {
-      in_range = λ b h. wide.in_range b (and_parts _ _ h).0;
-      wide = λ other supported b h. and_from (family b) (not (same_literal a b)) (wide.wide other supported b h)
-        (differs other supported b h (same_literal a b) refl) }
+    in_range = λ b h. wide.in_range b (and_parts _ _ h).0;
+    wide = λ other supported b h. and_from (family b) (not (same_literal a b)) (wide.wide other supported b h)
+        (differs other supported b h (same_literal a b) refl);
+  }
     where
       same_from : (b : Literal) → same_literal a b ≡ true → b ≡ a
       same_from b e =
@@ -111,6 +112,7 @@ module _ (instance : Instance) (level : ℕ) (family : Literal → Bool) (valid 
           let p : b.path ≡ a.path = sym (eqb-true _ _ parts.0) in
           let c : b.choice ≡ a.choice = sym (eqb-true _ _ parts.1) in
           ap (λ x. literal x b.choice) p ∙ ap (literal a.path) c
+
       differs : (other : Literal → Bool) → IsSupported instance level other → (b : Literal) → IsTrue (other b) → (t : Bool) → same_literal a b ≡ t → not (same_literal a b) ≡ true
       differs other supported b h true e = absurd (never other supported a (subst (λ x. IsTrue (other x)) (same_from b e) h) lonely)
       differs other supported b h false e = not_from_false (same_literal a b) e
@@ -127,7 +129,8 @@ module _ (instance : Instance) (level : ℕ) (family : Literal → Bool) (valid 
           inr (record {
             next = without family (literal home.item found.item);
             wide = wide-without (literal home.item found.item) parts.1;
-            fewer = size-without (literal home.item found.item) parts.0 })
+            fewer = size-without (literal home.item found.item) parts.0;
+          })
 
 -- the greatest supported family
 pub record IsGreatest (instance : Instance) (level : ℕ) (family : Literal → Bool) : Type 0 where
@@ -137,12 +140,14 @@ pub record IsGreatest (instance : Instance) (level : ℕ) (family : Literal → 
 pub greatest_within : (n : ℕ) (instance : Instance) (level : ℕ) → IsInstance instance → (family : Literal → Bool) → IsWide instance level family → size instance family ≤ n → (arc : Literal → Bool) × IsGreatest instance level arc
 greatest_within zero instance level v family wide few =
     elim (narrow instance level family v wide) [
-      inl s ↦ (family, record { supported = s; wide = wide })
-    | inr next ↦ absurd (omega (arith, next.fewer)) ]
+      | inl s ↦ (family, record { supported = s; wide = wide })
+      | inr next ↦ absurd (omega (arith, next.fewer))
+    ]
 greatest_within (suc n) instance level v family wide few =
     elim (narrow instance level family v wide) [
-      inl s ↦ (family, record { supported = s; wide = wide })
-    | inr next ↦ greatest_within n instance level v next.next next.wide (omega (arith, next.fewer)) ]
+      | inl s ↦ (family, record { supported = s; wide = wide })
+      | inr next ↦ greatest_within n instance level v next.next next.wide (omega (arith, next.fewer))
+    ]
 
 -- all choices of the instance
 abbrev pub all_choices : Instance → Literal → Bool
@@ -150,10 +155,11 @@ all_choices instance a = ltb a.path (length instance.paths) && ltb a.choice (cou
 
 all_choices-wide : (instance : Instance) (level : ℕ) → IsWide instance level (all_choices instance)
 all_choices-wide instance level = record {
-    in_range = λ a h. let parts = and_parts (ltb a.path (length instance.paths)) (ltb a.choice (count_at instance a.path)) h in
+  in_range = λ a h. let parts = and_parts (ltb a.path (length instance.paths)) (ltb a.choice (count_at instance a.path)) h in
       record { path = ltb-true _ _ parts.0; choice = ltb-true _ _ parts.1 };
-    wide = λ other supported a h. let at_home = supported.in_range a h in
-      and_from _ _ (lt-ltb _ _ at_home.path) (lt-ltb _ _ at_home.choice) }
+  wide = λ other supported a h. let at_home = supported.in_range a h in
+      and_from _ _ (lt-ltb _ _ at_home.path) (lt-ltb _ _ at_home.choice);
+}
 
 pub greatest : (instance : Instance) (level : ℕ) → IsInstance instance → (arc : Literal → Bool) × IsGreatest instance level arc
 greatest instance level v = greatest_within (size instance (all_choices instance)) instance level v (all_choices instance) (all_choices-wide instance level) (omega arith)
@@ -171,5 +177,6 @@ in_or_out instance level v a = by_cases (greatest instance level v)
     by_test : (arc : Literal → Bool) → IsGreatest instance level arc → (t : Bool) → arc a ≡ t → InArc instance level a ⊎ OutsideArc instance level a
     by_test arc g true e = inl (InArc-from_greatest instance level arc g a e)
     by_test arc g false e = inr (λ h. both_ways (arc a) e (greatest-from_InArc instance level arc g a h))
+
     by_cases : (arc : Literal → Bool) × IsGreatest instance level arc → InArc instance level a ⊎ OutsideArc instance level a
     by_cases (arc, g) = by_test arc g (arc a) refl

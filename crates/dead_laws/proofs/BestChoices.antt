@@ -1,5 +1,5 @@
 -- The least pair among the numbers that pass a test.
-use Rattle.std.proofs.Common.{◌≡◌, ◌⊎◌, ℕ, zero, suc, ◌+◌, ◌<◌, ◌≤◌, Bool, true, false, List, [], ◌∷◌, length, get_or, refl, sym, ap, ◌∙◌, subst, inl, inr, arith, Contains}
+use Rattle.std.proofs.Common.{◌≡◌, ◌⊎◌, ℕ, zero, suc, Bool, true, false, List, [], ◌∷◌, refl, ap, subst, inl, inr, arith, Contains}
 use Rattle.std.proofs.lemmas.Bool.{both_ways}
 use Rattle.fapp_model.specs.Pairs.{Pair, IsPairAtMost, IsPairBelow}
 use Rattle.dead_laws.proofs.PairSums.{below_or_at_most}
@@ -32,22 +32,32 @@ module _ (test : ℕ → Bool) (pair : ℕ → Pair) where
   skip : (x : ℕ) (xs : List ℕ) → test x ≡ false → NonePass test xs ⊎ BestOf test pair xs → NonePass test (x ∷ xs) ⊎ BestOf test pair (x ∷ xs)
   skip x xs off (inl none) = inl (record { fails = λ y c. elim (cons-cases x y xs c) [ inl e ↦ subst (λ z. test z ≡ false) e off | inr r ↦ none.fails y r ] })
   skip x xs off (inr best) = inr (record {
-      item = best.item; member = in-tail x best.item xs best.member; passes = best.passes;
-      least = λ y c pass. elim (cons-cases x y xs c) [ inl e ↦ absurd (both_ways (test y) (subst (λ z. test z ≡ false) e off) pass) | inr r ↦ best.least y r pass ] })
+    item = best.item;
+    member = in-tail x best.item xs best.member;
+    passes = best.passes;
+    least = λ y c pass. elim (cons-cases x y xs c) [ inl e ↦ absurd (both_ways (test y) (subst (λ z. test z ≡ false) e off) pass) | inr r ↦ best.least y r pass ];
+  })
 
   head-best : (x : ℕ) (xs : List ℕ) → test x ≡ true → ((y : ℕ) → Contains xs y → test y ≡ true → IsPairAtMost (pair x) (pair y)) → BestOf test pair (x ∷ xs)
   head-best x xs on least = record {
-      item = x; member = (0, omega arith, refl); passes = on;
-      least = λ y c pass. elim (cons-cases x y xs c) [ inl e ↦ same (pair x) (pair y) (ap pair e) | inr r ↦ least y r pass ] }
+    item = x;
+    member = (0, omega arith, refl);
+    passes = on;
+    least = λ y c pass. elim (cons-cases x y xs c) [ inl e ↦ same (pair x) (pair y) (ap pair e) | inr r ↦ least y r pass ];
+  }
 
   take : (x : ℕ) (xs : List ℕ) → test x ≡ true → NonePass test xs ⊎ BestOf test pair xs → NonePass test (x ∷ xs) ⊎ BestOf test pair (x ∷ xs)
   take x xs on (inl none) = inr (head-best x xs on (λ y c pass. absurd (both_ways (test y) (none.fails y c) pass)))
   take x xs on (inr best) =
       elim (below_or_at_most (pair best.item) (pair x)) [
-        inl less ↦ inr (record {
-          item = best.item; member = in-tail x best.item xs best.member; passes = best.passes;
-          least = λ y c pass. elim (cons-cases x y xs c) [ inl e ↦ subst (λ z. IsPairAtMost (pair best.item) (pair z)) e (weaken (pair best.item) (pair x) less) | inr r ↦ best.least y r pass ] })
-      | inr most ↦ inr (head-best x xs on (λ y c pass. IsPairAtMost-trans (pair x) (pair best.item) (pair y) most (best.least y c pass))) ]
+        | inl less ↦ inr (record {
+          item = best.item;
+          member = in-tail x best.item xs best.member;
+          passes = best.passes;
+          least = λ y c pass. elim (cons-cases x y xs c) [ inl e ↦ subst (λ z. IsPairAtMost (pair best.item) (pair z)) e (weaken (pair best.item) (pair x) less) | inr r ↦ best.least y r pass ];
+        })
+        | inr most ↦ inr (head-best x xs on (λ y c pass. IsPairAtMost-trans (pair x) (pair best.item) (pair y) most (best.least y c pass)))
+      ]
 
   step : (x : ℕ) (xs : List ℕ) (b : Bool) → test x ≡ b → NonePass test xs ⊎ BestOf test pair xs → NonePass test (x ∷ xs) ⊎ BestOf test pair (x ∷ xs)
   step x xs true e rest = take x xs e rest

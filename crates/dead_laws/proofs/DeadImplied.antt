@@ -1,13 +1,13 @@
 -- What is dead is implied.
-use Rattle.std.proofs.Common.{◌≡◌, ◌⊎◌, ℕ, ◌+◌, ◌-◌, ◌<◌, ◌≤◌, Bool, true, false, ◌&&◌, List, [], ◌∷◌, length, get_or, refl, sym, ap, ◌∙◌, subst, inl, inr, arith, All, Contains, IsTrue, ltb, eqb, slice_index}
+use Rattle.std.proofs.Common.{◌≡◌, ℕ, ◌<◌, Bool, false, ◌&&◌, List, [], length, refl, subst, inl, inr, arith, All, Contains, IsTrue, ltb, eqb, slice_index}
 use Rattle.std.proofs.lemmas.Bool.{and_parts, and_from, both_ways, ltb-true, lt-ltb, eqb-true, eq-eqb}
 use Rattle.std.proofs.lemmas.List.Elements.{All-contains, All-cons, All-head, All-nil}
 use Rattle.fapp_model.specs.declared.instance.Instance.{Instance}
 use Rattle.fapp_model.specs.declared.literal.Literal.{Literal}
 use Rattle.fapp_model.specs.declared.triple.Triple.{Triple}
-use Rattle.fapp_model.specs.Arcs.{InArc, IsSupported, OutsideArc}
+use Rattle.fapp_model.specs.Arcs.{IsSupported, OutsideArc}
 use Rattle.fapp_model.specs.Assignments.{count_at}
-use Rattle.fapp_model.specs.Clashes.{clashes, clashes_with, shares_record}
+use Rattle.fapp_model.specs.Clashes.{clashes, clashes_with}
 use Rattle.fapp_model.specs.Costs.{cost, violations}
 use Rattle.fapp_model.specs.Dead.{Dead, DeadBy, IsLeastAdded, least, clash, outside_literal, no_choice_left, over_limit}
 use Rattle.fapp_model.specs.Implied.{Implied}
@@ -17,7 +17,7 @@ use Rattle.fapp_model.specs.Levels.{levels_of}
 use Rattle.fapp_model.specs.Modes.{IsWithin, pair_below}
 use Rattle.fapp_model.specs.Pairs.{Pair, IsPairAtMost, limit_of}
 use Rattle.fapp_model.specs.Partials.{literal, names, Extends, IsLiteral, IsPartial}
-use Rattle.fapp_model.specs.Tags.{IsTagOf, has_limit, least_tag, mode_level, top_tag}
+use Rattle.fapp_model.specs.Tags.{IsTagOf, has_limit, mode_level, top_tag}
 use Rattle.fapp_model.specs.Triples.{IsBelow}
 use Rattle.fapp_model.specs.Weights.{added_pair, pair_with}
 use Rattle.dead_laws.specs.DeadLaws.{RulesOut}
@@ -50,18 +50,19 @@ module _ (outside : Literal → Type 0) (instance : Instance) (t : Triple) (lite
   over some fewest each most =
       let n = length instance.paths in
       let grown = pair-grows instance (mode_level t) literals (plan_literals n plan) partial.distinct (plan-distinct n plan) (plan-has n plan literals (small-paths instance literals partial) extends) (plan-small n plan) fewest fewest
-        (λ a c free. one a (plan-member n plan a c) free)
-        (λ path small free. absurd (both_ways (names (plan_literals n plan) path) free (plan-names n plan path small))) in
+      (λ a c free. one a (plan-member n plan a c) free)
+      (λ path small free. absurd (both_ways (names (plan_literals n plan) path) free (plan-names n plan path small))) in
       not_both (pair_below instance plan (mode_level t)) (limit_of t) (within.limited some)
-        (subst (IsPairAtMost (limit_of t)) (plan-pair instance plan (mode_level t) valid fewest)
-          (IsPairAtMost-trans (limit_of t) (pair_with instance (mode_level t) literals fewest) (pair_with instance (mode_level t) (plan_literals n plan) fewest) most grown))
+      (subst (IsPairAtMost (limit_of t)) (plan-pair instance plan (mode_level t) valid fewest)
+      (IsPairAtMost-trans (limit_of t) (pair_with instance (mode_level t) literals fewest) (pair_with instance (mode_level t) (plan_literals n plan) fewest) most grown))
     where
       one : (a : Literal) → (a.path < length instance.paths) × IsChosen plan a → names literals a.path ≡ false → IsPairAtMost (fewest a.path) (added_pair instance (mode_level t) literals a)
       one a (small, own) free =
           let choice_small = subst (λ c. c < count_at instance a.path) own (feasible.assignment.in_range a.path small) in
           (each a.path small free).least a.choice choice_small (record {
             kept = chosen-inside a (record { path = small; choice = choice_small }) own;
-            free = plan-free instance plan (mode_level t) feasible.met within.clear literals a extends own })
+            free = plan-free instance plan (mode_level t) feasible.met within.clear literals a extends own;
+          })
 
   refutes : DeadBy outside instance t literals → ⊥
   refutes (least e) = nothing_below (cost instance plan) (subst (IsBelow (cost instance plan)) e below)
@@ -69,8 +70,9 @@ module _ (outside : Literal → Type 0) (instance : Instance) (t : Triple) (lite
   refutes (outside_literal a member gone) = chosen-inside a (All-contains (IsLiteral instance) literals a partial.in_range member) (member-chosen a member) gone
   refutes (no_choice_left path small free each) =
       elim (each (slice_index plan path) (feasible.assignment.in_range path small)) [
-        inl gone ↦ chosen-inside (literal path (slice_index plan path)) (chosen-in-range path small) refl gone
-      | inr bad ↦ both_ways (clashes_with instance (mode_level t) literals (literal path (slice_index plan path))) (plan-free instance plan (mode_level t) feasible.met within.clear literals (literal path (slice_index plan path)) extends refl) bad ]
+        | inl gone ↦ chosen-inside (literal path (slice_index plan path)) (chosen-in-range path small) refl gone
+        | inr bad ↦ both_ways (clashes_with instance (mode_level t) literals (literal path (slice_index plan path))) (plan-free instance plan (mode_level t) feasible.met within.clear literals (literal path (slice_index plan path)) extends refl) bad
+      ]
   refutes (over_limit some fewest each most) = over some fewest each most
 
 -- What is judged dead is implied, where each choice that stands outside is ruled out.
@@ -84,14 +86,16 @@ plan_family instance plan a = ltb a.path (length instance.paths) && eqb (slice_i
 
 plan-supported : (instance : Instance) (plan : List ℕ) (level : ℕ) → IsInstance instance → IsFeasible instance plan → violations instance plan level ≡ 0 → IsSupported instance level (plan_family instance plan)
 plan-supported instance plan level valid feasible clear = record {
-    in_range = λ a h. let parts = family-parts a h in
+  in_range = λ a h. let parts = family-parts a h in
       record { path = parts.0; choice = subst (λ c. c < count_at instance a.path) parts.1 (feasible.assignment.in_range a.path parts.0) };
-    supported = λ a path member shares.
+  supported = λ a path member shares.
       let ends = shares-range instance valid a.path path shares in
       record {
         index = slice_index plan path;
         member = and_from _ _ (lt-ltb path (length instance.paths) ends.1) (eq-eqb (slice_index plan path) (slice_index plan path) refl);
-        apart = plan-apart instance plan level feasible.met clear a (literal path (slice_index plan path)) (family-parts a member).1 refl } }
+        apart = plan-apart instance plan level feasible.met clear a (literal path (slice_index plan path)) (family-parts a member).1 refl;
+      };
+}
   where
     family-parts : (a : Literal) → IsTrue (plan_family instance plan a) → (a.path < length instance.paths) × IsChosen plan a
     family-parts a h =
@@ -113,8 +117,9 @@ top-tag instance = tag_from_plain (levels_of instance) (top_tag instance) refl r
 
 none-partial : (instance : Instance) → IsPartial instance []
 none-partial instance = record {
-    in_range = All-nil (IsLiteral instance);
-    distinct = λ i j d less small. absurd (omega arith) }
+  in_range = All-nil (IsLiteral instance);
+  distinct = λ i j d less small. absurd (omega arith);
+}
 
 pub none-feasible : (instance : Instance) (plan : List ℕ) → IsInstance instance → Dead instance (top_tag instance) [] → IsFeasible instance plan → ⊥
 none-feasible instance plan valid dead = none-at-top instance plan (dead-implied instance (top_tag instance) [] valid (top-tag instance) (none-partial instance) dead)

@@ -1,24 +1,24 @@
 -- Dead partial assignments at lower tags.
-use Rattle.std.proofs.Common.{◌≡◌, ◌⊎◌, ℕ, zero, suc, ◌+◌, ◌-◌, ◌<◌, ◌≤◌, Bool, true, false, cond, List, length, get_or, refl, sym, ap, ◌∙◌, subst, inl, inr, arith, ltb, IsTrue, Contains, sum_by}
+use Rattle.std.proofs.Common.{◌≡◌, ◌⊎◌, ℕ, ◌-◌, ◌<◌, ◌≤◌, Bool, true, false, cond, List, length, refl, ap, ◌∙◌, subst, inl, inr, arith, IsTrue}
 use Rattle.std.specs.List.{range_with_len}
-use Rattle.std.proofs.lemmas.Bool.{cases_lt, cases_eq, ltb-true, lt-ltb, both_ways}
+use Rattle.std.proofs.lemmas.Bool.{cases_lt, ltb-true, lt-ltb, both_ways}
 use Rattle.fapp_model.specs.declared.instance.Instance.{Instance}
 use Rattle.fapp_model.specs.declared.literal.Literal.{Literal}
 use Rattle.fapp_model.specs.declared.triple.Triple.{Triple}
-use Rattle.fapp_model.specs.Arcs.{InArc, OutsideArc}
+use Rattle.fapp_model.specs.Arcs.{OutsideArc}
 use Rattle.fapp_model.specs.Assignments.{count_at}
-use Rattle.fapp_model.specs.Clashes.{clashes, clashes_with}
-use Rattle.fapp_model.specs.Dead.{Dead, DeadBy, IsLeastAdded, Remains, least, clash, outside_literal, no_choice_left, over_limit}
+use Rattle.fapp_model.specs.Clashes.{clashes_with}
+use Rattle.fapp_model.specs.Dead.{Dead, IsLeastAdded, least, clash, outside_literal, no_choice_left, over_limit}
 use Rattle.fapp_model.specs.Instances.{IsInstance}
 use Rattle.fapp_model.specs.Levels.{levels_of}
 use Rattle.fapp_model.specs.Pairs.{Pair, IsPairAtMost, limit_of}
 use Rattle.fapp_model.specs.Partials.{literal, names}
-use Rattle.fapp_model.specs.Tags.{IsTagOf, has_limit, least_tag, mode_level}
+use Rattle.fapp_model.specs.Tags.{IsTagOf, least_tag, mode_level}
 use Rattle.fapp_model.specs.Triples.{IsBelow}
-use Rattle.fapp_model.specs.Weights.{added, added_pair, bad_before, inside, over_open, pair_with}
+use Rattle.fapp_model.specs.Weights.{added_pair, bad_before, inside, pair_with}
 use Rattle.dead_laws.specs.ImpliedLaws.{IsAtMost}
-use Rattle.dead_laws.proofs.Anys.{Positive, positive-sum_by, range-contains}
-use Rattle.dead_laws.proofs.LowerLevels.{Clashing, InArc_higher, added_clashes, clashes_lower, clashes_with_lower, free_higher, inside_clashes, outside_lower}
+use Rattle.dead_laws.proofs.Anys.{positive-sum_by, range-contains}
+use Rattle.dead_laws.proofs.LowerLevels.{InArc_higher, added_clashes, clashes_lower, clashes_with_lower, free_higher, inside_clashes, outside_lower}
 use Rattle.dead_laws.proofs.TagParts.{TagShape, limited, plain, mode-limited, mode-plain, shape_of}
 
 -- a triple with no violation is its level alone
@@ -99,23 +99,24 @@ module _ (instance : Instance) (t u : Triple) (literals : List Literal) (valid :
 
   over_below : mode_level u ≤ mode_level t - 1 → 0 < t.v → (fewest : ℕ → Pair) →
       ((path : ℕ) → path < length instance.paths → names literals path ≡ false →
-        IsLeastAdded (OutsideArc instance (mode_level t)) instance (mode_level t) literals path (fewest path)) →
+      IsLeastAdded (OutsideArc instance (mode_level t)) instance (mode_level t) literals path (fewest path)) →
       IsPairAtMost (limit_of t) (pair_with instance (mode_level t) literals fewest) → Dead instance u literals
   over_below lower some fewest each over =
       let positive = v-at-least (limit_of t) (pair_with instance (mode_level t) literals fewest) over some in
       elim (cases_lt 0 (inside instance (bad_before (mode_level t)) literals)) [
-        inl within ↦
-          let found = inside_clashes instance valid (mode_level u) (mode_level t) lower literals within in
-          clash found.first found.second found.first_in found.second_in found.clash
-      | inr none ↦
-          let found = positive-sum_by (λ path. cond (names literals path) 0 (fewest path).v) (range_with_len 0 (length instance.paths)) (omega (arith, positive)) in
-          let small = range-contains (length instance.paths) found.item found.member in
-          let free = open_positive (names literals found.item) (fewest found.item).v found.positive in
-          no_choice_left found.item small free.0 (none_left lower found.item (fewest found.item) free.1 (each found.item small free.0)) ]
+        | inl within ↦
+            let found = inside_clashes instance valid (mode_level u) (mode_level t) lower literals within in
+            clash found.first found.second found.first_in found.second_in found.clash
+        | inr none ↦
+            let found = positive-sum_by (λ path. cond (names literals path) 0 (fewest path).v) (range_with_len 0 (length instance.paths)) (omega (arith, positive)) in
+            let small = range-contains (length instance.paths) found.item found.member in
+            let free = open_positive (names literals found.item) (fewest found.item).v found.positive in
+            no_choice_left found.item small free.0 (none_left lower found.item (fewest found.item) free.1 (each found.item small free.0))
+      ]
 
   same_level : IsTagOf instance u → 0 < t.v → mode_level t ≡ mode_level u → IsAtMost u t → (fewest : ℕ → Pair) →
       ((path : ℕ) → path < length instance.paths → names literals path ≡ false →
-        IsLeastAdded (OutsideArc instance (mode_level t)) instance (mode_level t) literals path (fewest path)) →
+      IsLeastAdded (OutsideArc instance (mode_level t)) instance (mode_level t) literals path (fewest path)) →
       IsPairAtMost (limit_of t) (pair_with instance (mode_level t) literals fewest) → (u ≡ least_tag) ⊎ Dead instance u literals
   same_level tag some same h fewest each over = by_shape (shape_of instance u tag)
     where
@@ -123,13 +124,14 @@ module _ (instance : Instance) (t u : Triple) (literals : List Literal) (valid :
       by_shape (limited also low high v s) =
           let level : u.k ≡ t.k = omega (arith, mode-limited u also, mode-limited t some) in
           inr (over_limit (lt-ltb 0 u.v also) fewest
-            (subst (λ n. (path : ℕ) → path < length instance.paths → names literals path ≡ false → IsLeastAdded (OutsideArc instance n) instance n literals path (fewest path)) same each)
-            (IsPairAtMost-trans (limit_of u) (limit_of t) (pair_with instance (mode_level u) literals fewest) (limits-at-most u t h level)
-              (subst (λ n. IsPairAtMost (limit_of t) (pair_with instance n literals fewest)) same over)))
+          (subst (λ n. (path : ℕ) → path < length instance.paths → names literals path ≡ false → IsLeastAdded (OutsideArc instance n) instance n literals path (fewest path)) same each)
+          (IsPairAtMost-trans (limit_of u) (limit_of t) (pair_with instance (mode_level u) literals fewest) (limits-at-most u t h level)
+          (subst (λ n. IsPairAtMost (limit_of t) (pair_with instance n literals fewest)) same over)))
       by_shape (plain none nothing high) =
           elim (cases_lt 0 u.k) [
-            inl low ↦ absurd (omega (arith, mode-plain u none, mode-limited t some, k_at_most u t h))
-          | inr zero_level ↦ inl (level_alone u none nothing (omega arith)) ]
+            | inl low ↦ absurd (omega (arith, mode-plain u none, mode-limited t some, k_at_most u t h))
+            | inr zero_level ↦ inl (level_alone u none nothing (omega arith))
+          ]
 
   module _ (tag_t : IsTagOf instance t) (tag_u : IsTagOf instance u) (h : IsAtMost u t) where
     lower_le : mode_level u ≤ mode_level t
@@ -141,11 +143,14 @@ module _ (instance : Instance) (t u : Triple) (literals : List Literal) (valid :
     dead_lower (outside_literal a member out) = outside_literal a member (outside_lower instance valid (mode_level u) (mode_level t) lower_le a out)
     dead_lower (no_choice_left path small free each) = no_choice_left path small free (λ index below.
         elim (each index below) [
-          inl out ↦ inl (outside_lower instance valid (mode_level u) (mode_level t) lower_le (literal path index) out)
-        | inr bad ↦ inr (clashes_with_lower instance valid (mode_level u) (mode_level t) lower_le literals (literal path index) bad) ])
+          | inl out ↦ inl (outside_lower instance valid (mode_level u) (mode_level t) lower_le (literal path index) out)
+          | inr bad ↦ inr (clashes_with_lower instance valid (mode_level u) (mode_level t) lower_le literals (literal path index) bad)
+        ])
     dead_lower (over_limit some fewest each over) =
         elim (cases_lt (mode_level u) (mode_level t)) [
-          inl lower ↦ over_below (omega arith) (ltb-true 0 t.v some) fewest each over
-        | inr high ↦ elim (same_level tag_u (ltb-true 0 t.v some) (omega (arith, lower_le)) h fewest each over) [
-            inl e ↦ least e
-          | inr dead ↦ dead ] ]
+          | inl lower ↦ over_below (omega arith) (ltb-true 0 t.v some) fewest each over
+          | inr high ↦ elim (same_level tag_u (ltb-true 0 t.v some) (omega (arith, lower_le)) h fewest each over) [
+            | inl e ↦ least e
+            | inr dead ↦ dead
+          ]
+        ]

@@ -1,14 +1,14 @@
 -- How the pairs of a list of literals grow with more literals.
-use Rattle.std.proofs.Common.{◌≡◌, ◌≢◌, ◌⊎◌, ℕ, zero, suc, ◌+◌, ◌<◌, ◌≤◌, Bool, true, false, cond, List, [], ◌∷◌, length, get_or, refl, sym, ap, ◌∙◌, subst, inl, inr, arith, sum_by, All, Contains}
+use Rattle.std.proofs.Common.{◌≡◌, ℕ, ◌+◌, ◌<◌, ◌≤◌, Bool, true, false, cond, List, length, get_or, refl, ap, ◌∙◌, subst, inr, arith, sum_by, All, Contains}
 use Rattle.std.specs.List.{range_with_len}
-use Rattle.std.proofs.lemmas.Bool.{cond-true, cond-false, cases_Bool, both_ways, false_from_ne_true}
+use Rattle.std.proofs.lemmas.Bool.{cond-false, both_ways, false_from_ne_true}
 use Rattle.std.proofs.lemmas.List.Elements.{All-contains, Contains-get_or}
 use Rattle.fapp_model.specs.declared.choice.Choice.{Choice}
 use Rattle.fapp_model.specs.declared.instance.Instance.{Instance}
 use Rattle.fapp_model.specs.declared.literal.Literal.{Literal}
 use Rattle.fapp_model.specs.declared.record.Record.{Record}
 use Rattle.fapp_model.specs.Pairs.{Pair, IsPairAtMost}
-use Rattle.fapp_model.specs.Partials.{literal, names, IsLiteral, IsPartial}
+use Rattle.fapp_model.specs.Partials.{names}
 use Rattle.fapp_model.specs.Weights.{added, added_pair, bad_before, bad_further, between, inside, over_open, pair_with}
 use Rattle.dead_laws.specs.ImpliedLaws.{HasAll}
 use Rattle.dead_laws.proofs.PairSums.{AtMost, grown-at_most, sum-at_most}
@@ -38,7 +38,7 @@ module _ (weight : Literal → Literal → ℕ) (literals more : List Literal) (
   inside-grows : sum_by (λ a. sum_by (λ b. weight a b) literals) literals + sum_by (λ e. cond (names literals e.path) 0 (sum_by (λ b. weight e b + weight b e) literals)) more ≤ sum_by (λ a. sum_by (λ b. weight a b) more) more
   inside-grows =
       let rows = sum_by-same-members (λ a. sum_by (λ b. weight a b) more) (λ a. sum_by (λ b. weight a b) literals + sum_by (λ b. cond (names literals b.path) 0 (weight a b)) more) more
-        (λ k d l. row (get_or more k d)) in
+      (λ k d l. row (get_or more k d)) in
       let both = sum_by-add (λ a. sum_by (λ b. weight a b) literals) (λ a. sum_by (λ b. cond (names literals b.path) 0 (weight a b)) more) more in
       let front = sum_by-split (λ (a : Literal). names literals a.path) (λ a. sum_by (λ b. weight a b) literals) more in
       let within = named-sum (λ a. sum_by (λ b. weight a b) literals) literals more distinct apart has in
@@ -53,11 +53,13 @@ module _ (weight : Literal → Literal → ℕ) (literals more : List Literal) (
           let split = sum_by-split (λ (b : Literal). names literals b.path) (λ b. weight a b) more in
           let picked = named-sum (λ b. weight a b) literals more distinct apart has in
           omega arith
+
       column : (b : Literal) → cond (names literals b.path) 0 (sum_by (λ a. weight a b) literals) ≤ sum_by (λ a. cond (names literals b.path) 0 (weight a b)) more
       column b =
           let out = sum_by-outside (names literals b.path) (λ a. weight a b) more in
           let less = cond-outside-le (names literals b.path) _ _ (fewer-sum (λ a. weight a b) literals more distinct apart has) in
           omega arith
+
       one : (e : Literal) → cond (names literals e.path) 0 (sum_by (λ b. weight e b + weight b e) literals) ≡ cond (names literals e.path) 0 (sum_by (λ b. weight e b) literals) + cond (names literals e.path) 0 (sum_by (λ b. weight b e) literals)
       one e = ap (λ n. cond (names literals e.path) 0 n) (sum_by-add (λ b. weight e b) (λ b. weight b e) literals) ∙ cond-outside-add (names literals e.path) _ _
 
@@ -87,19 +89,19 @@ pub pair-grows : (instance : Instance) (level : ℕ) (literals more : List Liter
     IsPairAtMost (pair_with instance level literals fewest) (pair_with instance level more further)
 pair-grows instance level literals more distinct apart has small fewest further one spare =
     grown-at_most
-      (inside instance (bad_before level) literals) (inside instance (bad_further level) literals)
-      (inside instance (bad_before level) more) (inside instance (bad_further level) more)
-      (sum_by (λ e. cond (names literals e.path) 0 (fewest e.path).v) more) (sum_by (λ e. cond (names literals e.path) 0 (fewest e.path).s) more)
-      (sum_by (λ e. cond (names literals e.path) 0 (added instance (bad_before level) literals e)) more) (sum_by (λ e. cond (names literals e.path) 0 (added instance (bad_further level) literals e)) more)
-      (over_open instance more (λ path. (fewest path).v)) (over_open instance more (λ path. (fewest path).s))
-      (over_open instance more (λ path. (further path).v)) (over_open instance more (λ path. (further path).s))
-      (over_open instance literals (λ path. (fewest path).v)) (over_open instance literals (λ path. (fewest path).s))
-      (inside-grows (between instance (bad_before level)) literals more distinct apart has)
-      (inside-grows (between instance (bad_further level)) literals more distinct apart has)
-      (sum-at_most (λ (e : Literal). cond (names literals e.path) 0 (fewest e.path).v) (λ e. cond (names literals e.path) 0 (fewest e.path).s)
-        (λ e. cond (names literals e.path) 0 (added instance (bad_before level) literals e)) (λ e. cond (names literals e.path) 0 (added instance (bad_further level) literals e)) more
-        (λ k d l. cond-at_most (names literals (get_or more k d).path) _ _ _ _ (one (get_or more k d) (Contains-get_or more k d l))))
-      (sum-at_most (λ p. cond (names more p) 0 (fewest p).v) (λ p. cond (names more p) 0 (fewest p).s) (λ p. cond (names more p) 0 (further p).v) (λ p. cond (names more p) 0 (further p).s) (range_with_len 0 (length instance.paths))
-        (All-range (λ p. AtMost (cond (names more p) 0 (fewest p).v) (cond (names more p) 0 (fewest p).s) (cond (names more p) 0 (further p).v) (cond (names more p) 0 (further p).s)) (length instance.paths) (λ p below. cond-at_most (names more p) _ _ _ _ (spare p below))))
-      (open-splits (between instance (bad_before level)) literals more distinct apart has (length instance.paths) small (λ path. (fewest path).v))
-      (open-splits (between instance (bad_further level)) literals more distinct apart has (length instance.paths) small (λ path. (fewest path).s))
+    (inside instance (bad_before level) literals) (inside instance (bad_further level) literals)
+    (inside instance (bad_before level) more) (inside instance (bad_further level) more)
+    (sum_by (λ e. cond (names literals e.path) 0 (fewest e.path).v) more) (sum_by (λ e. cond (names literals e.path) 0 (fewest e.path).s) more)
+    (sum_by (λ e. cond (names literals e.path) 0 (added instance (bad_before level) literals e)) more) (sum_by (λ e. cond (names literals e.path) 0 (added instance (bad_further level) literals e)) more)
+    (over_open instance more (λ path. (fewest path).v)) (over_open instance more (λ path. (fewest path).s))
+    (over_open instance more (λ path. (further path).v)) (over_open instance more (λ path. (further path).s))
+    (over_open instance literals (λ path. (fewest path).v)) (over_open instance literals (λ path. (fewest path).s))
+    (inside-grows (between instance (bad_before level)) literals more distinct apart has)
+    (inside-grows (between instance (bad_further level)) literals more distinct apart has)
+    (sum-at_most (λ (e : Literal). cond (names literals e.path) 0 (fewest e.path).v) (λ e. cond (names literals e.path) 0 (fewest e.path).s)
+    (λ e. cond (names literals e.path) 0 (added instance (bad_before level) literals e)) (λ e. cond (names literals e.path) 0 (added instance (bad_further level) literals e)) more
+    (λ k d l. cond-at_most (names literals (get_or more k d).path) _ _ _ _ (one (get_or more k d) (Contains-get_or more k d l))))
+    (sum-at_most (λ p. cond (names more p) 0 (fewest p).v) (λ p. cond (names more p) 0 (fewest p).s) (λ p. cond (names more p) 0 (further p).v) (λ p. cond (names more p) 0 (further p).s) (range_with_len 0 (length instance.paths))
+    (All-range (λ p. AtMost (cond (names more p) 0 (fewest p).v) (cond (names more p) 0 (fewest p).s) (cond (names more p) 0 (further p).v) (cond (names more p) 0 (further p).s)) (length instance.paths) (λ p below. cond-at_most (names more p) _ _ _ _ (spare p below))))
+    (open-splits (between instance (bad_before level)) literals more distinct apart has (length instance.paths) small (λ path. (fewest path).v))
+    (open-splits (between instance (bad_further level)) literals more distinct apart has (length instance.paths) small (λ path. (fewest path).s))

@@ -1,5 +1,5 @@
 -- Implied partial assignments: other tags, more literals, all choices of a path.
-use Rattle.std.proofs.Common.{◌≡◌, ◌⊎◌, ℕ, ◌+◌, ◌<◌, List, [], ◌∷◌, length, get_or, refl, sym, ap, ◌∙◌, subst, inl, inr, arith, All, Contains, slice_index}
+use Rattle.std.proofs.Common.{◌≡◌, ◌⊎◌, ℕ, ◌<◌, List, [], ◌∷◌, length, get_or, refl, subst, inl, inr, arith, slice_index}
 use Rattle.std.proofs.lemmas.List.Elements.{All-contains, All-cons, All-nil}
 use Rattle.fapp_model.specs.declared.instance.Instance.{Instance}
 use Rattle.fapp_model.specs.declared.literal.Literal.{Literal}
@@ -41,7 +41,7 @@ Implied-more instance t literals more has h = λ plan feasible extends. h plan f
 pub Implied-branch : (instance : Instance) (t : Triple) (literals : List Literal) (path : ℕ) → path < length instance.paths → ((index : ℕ) → index < count_at instance path → Implied instance t (literal path index ∷ literals)) → Implied instance t literals
 Implied-branch instance t literals path small h = λ plan feasible extends.
     h (slice_index plan path) (feasible.assignment.in_range path small) plan feasible
-      (All-cons (λ a. slice_index plan a.path ≡ a.choice) (literal path (slice_index plan path)) literals refl extends)
+    (All-cons (λ a. slice_index plan a.path ≡ a.choice) (literal path (slice_index plan path)) literals refl extends)
 
 pub none-at-top : (instance : Instance) (plan : List ℕ) → Implied instance (top_tag instance) [] → IsFeasible instance plan → ⊥
 none-at-top instance plan h feasible =

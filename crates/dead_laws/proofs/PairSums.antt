@@ -1,5 +1,5 @@
 -- Sums of pairs in lexicographic order.
-use Rattle.std.proofs.Common.{◌≡◌, ◌⊎◌, ℕ, zero, suc, ◌+◌, ◌<◌, ◌≤◌, Bool, true, false, cond, List, [], ◌∷◌, length, get_or, refl, sym, ap, subst, inl, inr, arith, sum_by, All}
+use Rattle.std.proofs.Common.{◌≡◌, ◌⊎◌, ℕ, ◌+◌, ◌<◌, ◌≤◌, List, [], ◌∷◌, refl, sym, inl, inr, arith, sum_by, All}
 use Rattle.std.proofs.lemmas.Bool.{cases_lt, cases_order}
 use Rattle.std.proofs.lemmas.List.Sums.{sum_by-cons}
 use Rattle.std.proofs.lemmas.List.Elements.{All-head, All-tail}
@@ -24,7 +24,7 @@ pub sum-at_most : {X : Type 0} (v s w r : X → ℕ) (xs : List X) → All (λ x
 sum-at_most v s w r [] h = inr (refl, omega arith)
 sum-at_most v s w r (x ∷ xs) h =
     at_most-along _ _ _ _ _ _ _ _ (sum_by-cons v x xs) (sum_by-cons s x xs) (sum_by-cons w x xs) (sum_by-cons r x xs)
-      (add-at_most (v x) (s x) (w x) (r x) _ _ _ _ (All-head (λ x. AtMost (v x) (s x) (w x) (r x)) x xs h) (sum-at_most v s w r xs (All-tail (λ x. AtMost (v x) (s x) (w x) (r x)) x xs h)))
+    (add-at_most (v x) (s x) (w x) (r x) _ _ _ _ (All-head (λ x. AtMost (v x) (s x) (w x) (r x)) x xs h) (sum-at_most v s w r xs (All-tail (λ x. AtMost (v x) (s x) (w x) (r x)) x xs h)))
 
 -- part by part
 pub parts-at_most : (v s w r : ℕ) → v ≤ w → s ≤ r → AtMost v s w r
@@ -40,9 +40,10 @@ at_most-trans a b c d e f (inr h) (inr g) = inr (omega (arith, h.0, g.0), omega 
 pub below_or_at_most : (p q : Pair) → IsPairBelow p q ⊎ IsPairAtMost q p
 below_or_at_most p q =
     elim (cases_order p.v q.v) [
-      inl same ↦ elim (cases_lt p.s q.s) [ inl less ↦ inl (inr (same, less)) | inr more ↦ inr (inr (sym same, more)) ]
-    | inr (inl less) ↦ inl (inl less)
-    | inr (inr more) ↦ inr (inl more) ]
+      | inl same ↦ elim (cases_lt p.s q.s) [ inl less ↦ inl (inr (same, less)) | inr more ↦ inr (inr (sym same, more)) ]
+      | inr (inl less) ↦ inl (inl less)
+      | inr (inr more) ↦ inr (inl more)
+    ]
 
 pub not_both : (p q : Pair) → IsPairBelow p q → IsPairAtMost q p → ⊥
 not_both p q (inl h) (inl g) = omega arith
@@ -54,6 +55,6 @@ not_both p q (inr h) (inr g) = omega (arith, h.1, g.1)
 pub grown-at_most : (iv is mv ms lv ls av as' ov os pv ps tv ts : ℕ) → iv + av ≤ mv → is + as' ≤ ms → AtMost lv ls av as' → AtMost ov os pv ps → tv ≡ lv + ov → ts ≡ ls + os → AtMost (iv + tv) (is + ts) (mv + pv) (ms + ps)
 grown-at_most iv is mv ms lv ls av as' ov os pv ps tv ts inner beyond fewest spare e f =
     at_most-along _ _ _ _ _ _ _ _ (omega arith) (omega arith) refl refl
-      (at_most-trans (iv + (lv + ov)) (is + (ls + os)) (iv + (av + pv)) (is + (as' + ps)) (mv + pv) (ms + ps)
-        (add-at_most iv is iv is (lv + ov) (ls + os) (av + pv) (as' + ps) (inr (refl, omega arith)) (add-at_most lv ls av as' ov os pv ps fewest spare))
-        (parts-at_most (iv + (av + pv)) (is + (as' + ps)) (mv + pv) (ms + ps) (omega arith) (omega arith)))
+    (at_most-trans (iv + (lv + ov)) (is + (ls + os)) (iv + (av + pv)) (is + (as' + ps)) (mv + pv) (ms + ps)
+    (add-at_most iv is iv is (lv + ov) (ls + os) (av + pv) (as' + ps) (inr (refl, omega arith)) (add-at_most lv ls av as' ov os pv ps fewest spare))
+    (parts-at_most (iv + (av + pv)) (is + (as' + ps)) (mv + pv) (ms + ps) (omega arith) (omega arith)))

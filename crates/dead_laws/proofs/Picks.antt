@@ -1,14 +1,14 @@
 -- Sums in which a test picks members.
-use Rattle.std.proofs.Common.{◌≡◌, ◌≢◌, ◌⊎◌, ℕ, zero, suc, ◌+◌, ◌<◌, ◌≤◌, Bool, true, false, ◌||◌, ◌&&◌, cond, List, [], ◌∷◌, length, get_or, refl, sym, ap, ◌∙◌, subst, inl, inr, arith, sum_by, All, AllPairs, Contains, eqb}
-use Rattle.std.specs.List.{list_any, range_with_len}
-use Rattle.std.proofs.lemmas.Bool.{cases_order, cond-true, cond-false, false_from_ne_true, both_ways, eqb-true, eq-eqb}
+use Rattle.std.proofs.Common.{◌≡◌, ◌≢◌, ℕ, zero, suc, ◌+◌, ◌<◌, ◌≤◌, Bool, true, false, ◌||◌, cond, List, [], ◌∷◌, length, get_or, refl, sym, ap, ◌∙◌, subst, inl, inr, arith, sum_by, All, AllPairs, Contains, eqb}
+use Rattle.std.specs.List.{range_with_len}
+use Rattle.std.proofs.lemmas.Bool.{cases_order, cond-true, cond-false, false_from_ne_true, eqb-true, eq-eqb}
 use Rattle.std.proofs.lemmas.List.Sums.{sum_by-cons}
-use Rattle.std.proofs.lemmas.List.Elements.{All-from_get_or, All-tail, All-head, All-contains}
+use Rattle.std.proofs.lemmas.List.Elements.{All-from_get_or, All-tail, All-head}
 use Rattle.std.proofs.lemmas.List.FromFn.{length-range_with_len, get_or-range_with_len}
 use Rattle.fapp_model.specs.declared.literal.Literal.{Literal}
 use Rattle.fapp_model.specs.Partials.{names}
 use Rattle.dead_laws.specs.ImpliedLaws.{HasAll}
-use Rattle.dead_laws.proofs.Anys.{Passing, passing, any-member, none-member, no-member, contains-range}
+use Rattle.dead_laws.proofs.Anys.{passing, any-member, no-member, contains-range}
 use Rattle.dead_laws.proofs.Sums.{sum_by-add, sum_by-le-members, sum_by-none, sum_by-same-members}
 
 pick-at : {X : Type 0} (test : X → Bool) (g : X → ℕ) (xs : List X) (k : ℕ) (d : X) → k < length xs → test (get_or xs k d) ≡ true → ((j : ℕ) → j < length xs → j ≢ k → test (get_or xs j d) ≡ false) → sum_by (λ x. cond (test x) (g x) 0) xs ≡ g (get_or xs k d)
@@ -27,10 +27,11 @@ pub pick : {X : Type 0} (test : X → Bool) (g : X → ℕ) (xs : List X) (y : X
 pick test g xs y (k, l, e) pass apart =
     let here = subst (λ x. test x ≡ true) (sym e) pass in
     pick-at test g xs k y l here (λ j small ne. false_from_ne_true (test (get_or xs j y)) (λ also.
-      elim (cases_order j k) [
-        inl same ↦ ne same
+    elim (cases_order j k) [
+      | inl same ↦ ne same
       | inr (inl less) ↦ apart j k y less l also here
-      | inr (inr more) ↦ apart k j y more small here also ])) ∙ ap g e
+      | inr (inr more) ↦ apart k j y more small here also
+    ])) ∙ ap g e
 
 abbrev pub AreDistinct : List Literal → Type 0
 AreDistinct literals = AllPairs (λ (a b : Literal). a.path ≢ b.path) literals
@@ -63,8 +64,8 @@ pub named-sum : (g : Literal → ℕ) (literals more : List Literal) → AreDist
 named-sum g [] more distinct apart has = sum_by-none (λ (b : Literal). 0) more (λ k d l. refl)
 named-sum g (a ∷ literals) more distinct apart has =
     let split = sum_by-same-members (λ (b : Literal). cond (names (a ∷ literals) b.path) (g b) 0) (λ (b : Literal). cond (eqb a.path b.path) (g b) 0 + cond (names literals b.path) (g b) 0) more
-      (λ k d l. cond-or (eqb a.path (get_or more k d).path) (names literals (get_or more k d).path) (g (get_or more k d))
-        (λ e. subst (λ p. names literals p ≡ false) (eqb-true a.path (get_or more k d).path e) (head-not-named a literals distinct))) in
+    (λ k d l. cond-or (eqb a.path (get_or more k d).path) (names literals (get_or more k d).path) (g (get_or more k d))
+    (λ e. subst (λ p. names literals p ≡ false) (eqb-true a.path (get_or more k d).path e) (head-not-named a literals distinct))) in
     let sums = sum_by-add (λ (b : Literal). cond (eqb a.path b.path) (g b) 0) (λ (b : Literal). cond (names literals b.path) (g b) 0) more in
     let first = pick (λ (b : Literal). eqb a.path b.path) g more a (All-head (Contains more) a literals has) (eq-eqb a.path a.path refl) (one_of_path more apart a.path) in
     let rest = named-sum g literals more (distinct-tail a literals distinct) apart (All-tail (Contains more) a literals has) in
@@ -81,8 +82,8 @@ pub range-named : (k : ℕ → ℕ) (n : ℕ) (literals : List Literal) → AreD
 range-named k n [] distinct small = sum_by-none (λ (p : ℕ). 0) (range_with_len 0 n) (λ i d l. refl)
 range-named k n (a ∷ literals) distinct small =
     let split = sum_by-same-members (λ p. cond (names (a ∷ literals) p) (k p) 0) (λ p. cond (eqb a.path p) (k p) 0 + cond (names literals p) (k p) 0) (range_with_len 0 n)
-      (λ i d l. cond-or (eqb a.path (get_or (range_with_len 0 n) i d)) (names literals (get_or (range_with_len 0 n) i d)) (k (get_or (range_with_len 0 n) i d))
-        (λ e. subst (λ p. names literals p ≡ false) (eqb-true a.path (get_or (range_with_len 0 n) i d) e) (head-not-named a literals distinct))) in
+    (λ i d l. cond-or (eqb a.path (get_or (range_with_len 0 n) i d)) (names literals (get_or (range_with_len 0 n) i d)) (k (get_or (range_with_len 0 n) i d))
+    (λ e. subst (λ p. names literals p ≡ false) (eqb-true a.path (get_or (range_with_len 0 n) i d) e) (head-not-named a literals distinct))) in
     let sums = sum_by-add (λ p. cond (eqb a.path p) (k p) 0) (λ p. cond (names literals p) (k p) 0) (range_with_len 0 n) in
     let first = pick (λ p. eqb a.path p) k (range_with_len 0 n) a.path (contains-range n a.path (All-head (λ (b : Literal). b.path < n) a literals small)) (eq-eqb a.path a.path refl) (range_apart n a.path) in
     let rest = range-named k n literals (distinct-tail a literals distinct) (All-tail (λ (b : Literal). b.path < n) a literals small) in

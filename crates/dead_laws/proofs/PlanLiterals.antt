@@ -1,7 +1,7 @@
 -- A plan as the list of its literals, and what their records add up to.
-use Rattle.std.proofs.Common.{◌≡◌, ◌≢◌, ◌⊎◌, ℕ, zero, suc, ◌+◌, ◌-◌, ◌<◌, ◌≤◌, Bool, true, false, ◌&&◌, ◌||◌, not, cond, List, [], ◌∷◌, length, get_or, refl, sym, ap, ◌∙◌, subst, inl, inr, arith, sum_by, count_by, map, All, Contains, IsTrue, eqb, slice_index}
-use Rattle.std.specs.List.{list_any, list_all, range_with_len}
-use Rattle.std.proofs.lemmas.Bool.{and_left, and_right, and_parts, and_from, or_from, cases_Bool, not-true, false_from_ne_true, both_ways, eq-eqb, eqb-true}
+use Rattle.std.proofs.Common.{◌≡◌, ℕ, ◌-◌, ◌<◌, Bool, true, false, ◌&&◌, not, cond, List, [], ◌∷◌, length, get_or, refl, sym, ap, ◌∙◌, arith, sum_by, map, All, Contains, IsTrue, eqb, slice_index}
+use Rattle.std.specs.List.{range_with_len}
+use Rattle.std.proofs.lemmas.Bool.{and_left, and_right, or_from, not-true, eq-eqb}
 use Rattle.std.proofs.lemmas.List.Sums.{sum_by-cons, AllPass-from_list_all}
 use Rattle.std.proofs.lemmas.List.Elements.{All-contains}
 use Rattle.std.proofs.lemmas.List.FromFn.{length-map-range_with_len, get_or-map-range_with_len}
@@ -9,15 +9,14 @@ use Rattle.fapp_model.specs.declared.choice.Choice.{Choice}
 use Rattle.fapp_model.specs.declared.instance.Instance.{Instance}
 use Rattle.fapp_model.specs.declared.literal.Literal.{Literal}
 use Rattle.fapp_model.specs.declared.record.Record.{Record}
-use Rattle.fapp_model.specs.Assignments.{IsAssignment, breaks, chosen, meets, path_at, violates}
+use Rattle.fapp_model.specs.Assignments.{breaks, chosen, meets, path_at, violates}
 use Rattle.fapp_model.specs.Choices.{choice}
 use Rattle.fapp_model.specs.Clashes.{blocks, clashes, clashes_with, is_hard_bad, joins}
 use Rattle.fapp_model.specs.Costs.{sum_under, violations}
-use Rattle.fapp_model.specs.Instances.{IsInstance, IsRecord}
-use Rattle.fapp_model.specs.Least.{IsFeasible}
+use Rattle.fapp_model.specs.Instances.{IsInstance}
 use Rattle.fapp_model.specs.Modes.{pair_below}
 use Rattle.fapp_model.specs.Pairs.{Pair}
-use Rattle.fapp_model.specs.Partials.{choice_of, literal, names, Extends, IsLiteral, IsPartial}
+use Rattle.fapp_model.specs.Partials.{choice_of, literal, names, Extends}
 use Rattle.fapp_model.specs.Records.{first_path, second_path, is_bad}
 use Rattle.fapp_model.specs.Weights.{bad_before, bad_further, between, inside, over_open, pair_with}
 use Rattle.dead_laws.specs.ImpliedLaws.{HasAll}
@@ -91,7 +90,7 @@ one-pair n value first second hf hs =
   where
     row : (p : ℕ) → sum_by (λ q. cond (eqb first p && eqb second q) (value p q) 0) (range_with_len 0 n) ≡ cond (eqb first p) (sum_by (λ q. cond (eqb second q) (value p q) 0) (range_with_len 0 n)) 0
     row p = sum_by-same-members (λ q. cond (eqb first p && eqb second q) (value p q) 0) (λ q. cond (eqb first p) (cond (eqb second q) (value p q) 0) 0) (range_with_len 0 n) (λ k d l. cond-and (eqb first p) (eqb second (get_or (range_with_len 0 n) k d)) (value p (get_or (range_with_len 0 n) k d)))
-      ∙ sum_by-when (eqb first p) (λ q. cond (eqb second q) (value p q) 0) (range_with_len 0 n)
+        ∙ sum_by-when (eqb first p) (λ q. cond (eqb second q) (value p q) 0) (range_with_len 0 n)
 
 -- over all literals of a plan each record counts once
 pub plan-inside : (instance : Instance) (plan : List ℕ) (measure : Record → Choice → Choice → ℕ) → IsInstance instance → inside instance measure (plan_literals (length instance.paths) plan) ≡ sum_by (λ r. measure r (chosen instance plan (first_path r)) (chosen instance plan (second_path r))) instance.records
@@ -102,10 +101,11 @@ plan-inside instance plan measure v =
     ∙ (sum_by-same-members (λ p. sum_by (λ b. between instance measure (literal p (slice_index plan p)) b) (plan_literals n plan)) (λ p. sum_by (λ r. sum_by (λ q. term r p q) range) instance.records) range (λ k d l. column (get_or range k d))
     ∙ (sum_by-swap (λ p r. sum_by (λ q. term r p q) range) range instance.records
     ∙ sum_by-same-members (λ r. sum_by (λ p. sum_by (λ q. term r p q) range) range) (λ r. measure r (chosen instance plan (first_path r)) (chosen instance plan (second_path r))) instance.records
-        (λ k d l. one-pair n (λ p q. measure (get_or instance.records k d) (chosen instance plan p) (chosen instance plan q)) (first_path (get_or instance.records k d)) (second_path (get_or instance.records k d)) (v.records k d l).first (v.records k d l).second)))
+    (λ k d l. one-pair n (λ p q. measure (get_or instance.records k d) (chosen instance plan p) (chosen instance plan q)) (first_path (get_or instance.records k d)) (second_path (get_or instance.records k d)) (v.records k d l).first (v.records k d l).second)))
   where
     term : Record → ℕ → ℕ → ℕ
     term r p q = cond (joins p q r) (measure r (chosen instance plan p) (chosen instance plan q)) 0
+
     column : (p : ℕ) → sum_by (λ b. between instance measure (literal p (slice_index plan p)) b) (plan_literals (length instance.paths) plan) ≡ sum_by (λ r. sum_by (λ q. term r p q) (range_with_len 0 (length instance.paths))) instance.records
     column p =
         sum_by-map (λ b. between instance measure (literal p (slice_index plan p)) b) (λ q. literal q (slice_index plan q)) (range_with_len 0 (length instance.paths))
@@ -132,8 +132,8 @@ pub plan-pair : (instance : Instance) (plan : List ℕ) (level : ℕ) → IsInst
 plan-pair instance plan level v fewest =
     let full = plan-names (length instance.paths) plan in
     same-pair _ _
-      (omega (arith, plan-before instance plan level v, none-open instance (plan_literals (length instance.paths) plan) full (λ path. (fewest path).v)))
-      (omega (arith, plan-further instance plan level v, none-open instance (plan_literals (length instance.paths) plan) full (λ path. (fewest path).s)))
+    (omega (arith, plan-before instance plan level v, none-open instance (plan_literals (length instance.paths) plan) full (λ path. (fewest path).v)))
+    (omega (arith, plan-further instance plan level v, none-open instance (plan_literals (length instance.paths) plan) full (λ path. (fewest path).s)))
 
 -- no record is hard-bad between choices of a plan that meets the imperative records and has no violation at a level
 pub chosen-is : (instance : Instance) (plan : List ℕ) (a : Literal) (path : ℕ) → IsChosen plan a → path ≡ a.path → choice_of instance a ≡ chosen instance plan path
@@ -143,8 +143,8 @@ module _ (instance : Instance) (plan : List ℕ) (level : ℕ) (met : IsTrue (me
   good-record : (r : Record) → Contains instance.records r → is_hard_bad level r (chosen instance plan (first_path r)) (chosen instance plan (second_path r)) ≡ false
   good-record r c =
       or_from (breaks instance plan r) (violates instance plan level r)
-        (not-true (breaks instance plan r) (All-contains (λ r. not (breaks instance plan r) ≡ true) instance.records r (AllPass-from_list_all (λ r. not (breaks instance plan r)) instance.records met) c))
-        (All-contains (λ r. violates instance plan level r ≡ false) instance.records r (none-count_by (violates instance plan level) instance.records clear) c)
+      (not-true (breaks instance plan r) (All-contains (λ r. not (breaks instance plan r) ≡ true) instance.records r (AllPass-from_list_all (λ r. not (breaks instance plan r)) instance.records met) c))
+      (All-contains (λ r. violates instance plan level r ≡ false) instance.records r (none-count_by (violates instance plan level) instance.records clear) c)
 
   pub plan-blocks : (a b : Literal) → IsChosen plan a → IsChosen plan b → blocks instance level a b ≡ false
   plan-blocks a b own also = no-member (λ r. joins a.path b.path r && is_hard_bad level r (choice_of instance a) (choice_of instance b)) instance.records (λ r c. by_join r c (joins a.path b.path r) refl)
@@ -156,7 +156,7 @@ module _ (instance : Instance) (plan : List ℕ) (level : ℕ) (met : IsTrue (me
           let first = chosen-is instance plan a (first_path r) own ends.0 in
           let second = chosen-is instance plan b (second_path r) also ends.1 in
           and_right (joins a.path b.path r) (is_hard_bad level r (choice_of instance a) (choice_of instance b))
-            (ap (λ x. is_hard_bad level r x (choice_of instance b)) first ∙ (ap (λ y. is_hard_bad level r (chosen instance plan (first_path r)) y) second ∙ good-record r c))
+          (ap (λ x. is_hard_bad level r x (choice_of instance b)) first ∙ (ap (λ y. is_hard_bad level r (chosen instance plan (first_path r)) y) second ∙ good-record r c))
 
   pub plan-apart : (a b : Literal) → IsChosen plan a → IsChosen plan b → clashes instance level a b ≡ false
   plan-apart a b own also = or_from (blocks instance level a b) (blocks instance level b a) (plan-blocks a b own also) (plan-blocks b a also own)

@@ -1,5 +1,5 @@
 -- The paths of a record that joins two of them.
-use Rattle.std.proofs.Common.{◌≡◌, ◌⊎◌, ℕ, ◌<◌, Bool, true, false, ◌&&◌, ◌||◌, length, get_or, refl, sym, ap, ◌∙◌, subst, inl, inr, arith, Contains, eqb, IsTrue}
+use Rattle.std.proofs.Common.{◌≡◌, ℕ, ◌<◌, true, ◌||◌, length, subst, inl, inr, eqb, IsTrue}
 use Rattle.std.proofs.lemmas.Bool.{and_parts, or_cases, eqb-true}
 use Rattle.std.proofs.lemmas.List.Elements.{All-contains}
 use Rattle.fapp_model.specs.declared.instance.Instance.{Instance}
@@ -7,7 +7,7 @@ use Rattle.fapp_model.specs.declared.record.Record.{Record}
 use Rattle.fapp_model.specs.Clashes.{joins, shares_record}
 use Rattle.fapp_model.specs.Instances.{IsInstance, IsRecord}
 use Rattle.fapp_model.specs.Records.{first_path, second_path}
-use Rattle.dead_laws.proofs.Anys.{Passing, passing}
+use Rattle.dead_laws.proofs.Anys.{passing}
 
 pub joins-ends : (p q : ℕ) (r : Record) → joins p q r ≡ true → (first_path r ≡ p) × (second_path r ≡ q)
 joins-ends p q r h =
@@ -24,5 +24,6 @@ shares-range instance v p q h =
     let found = passing (λ r. joins p q r || joins q p r) instance.records h in
     let valid = All-contains (IsRecord (length instance.paths)) instance.records found.item v.records found.member in
     elim (or_cases (joins p q found.item) (joins q p found.item) found.passes) [
-      inl e ↦ ends-range (length instance.paths) p q found.item valid e
-    | inr e ↦ let ends = ends-range (length instance.paths) q p found.item valid e in (ends.1, ends.0) ]
+      | inl e ↦ ends-range (length instance.paths) p q found.item valid e
+      | inr e ↦ let ends = ends-range (length instance.paths) q p found.item valid e in (ends.1, ends.0)
+    ]

@@ -1,4 +1,3 @@
-use Rattle.dead_laws.proofs.BestChoices.{best}
 use Rattle.dead_laws.proofs.DeadFull.{implied-dead}
 use Rattle.dead_laws.proofs.DeadImplied.{dead-implied}
 use Rattle.dead_laws.proofs.dead.full_dead_is_implied.Goals as goal
