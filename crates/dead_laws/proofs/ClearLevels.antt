@@ -15,9 +15,11 @@ pub record IsFalling (levels : ℕ) (count : ℕ → ℕ) : Type 0 where
   pub stays : (m n : ℕ) → m ≤ n → count m ≡ 0 → count n ≡ 0
 
 pub clear-le : (levels : ℕ) (count : ℕ → ℕ) → clear_level levels count ≤ levels
+unfolding clear_level
 clear-le levels count = omega (arith, prefix_len-le-length (λ level. ltb 0 (count level)) (range_with_len 0 levels), length-range_with_len 0 levels)
 
 pub before-clear : (levels : ℕ) (count : ℕ → ℕ) (m : ℕ) → m < clear_level levels count → 0 < count m
+unfolding clear_level
 before-clear levels count m h =
     let small : m < levels = omega (arith, clear-le levels count) in
     let at : get_or (range_with_len 0 levels) m 0 ≡ m = omega (arith, get_or-range_with_len 0 levels m 0 small) in
@@ -25,6 +27,7 @@ before-clear levels count m h =
     ltb-true 0 (count m) (subst (λ v. ltb 0 (count v) ≡ true) at pass)
 
 pub at-clear : (levels : ℕ) (count : ℕ → ℕ) → count levels ≡ 0 → count (clear_level levels count) ≡ 0
+unfolding clear_level
 at-clear levels count ends =
     elim (cases_lt (clear_level levels count) levels) [
       | inl h ↦
@@ -55,6 +58,7 @@ abbrev pub counts_below : (ℕ → ℕ) → ℕ → Pair
 counts_below count level = record { v = count (level - 1); s = sum_under count (level - 1) }
 
 pub below-limit-to : (levels : ℕ) (count : ℕ → ℕ) → IsFalling levels count → (t : Triple) → 0 < t.k → 0 < t.v → IsBelow (cost_by levels count) t → (count t.k ≡ 0) × IsPairBelow (counts_below count t.k) (limit_of t)
+unfolding cost_by
 below-limit-to levels count falling t low some (inl h) =
     let none : count (t.k - 1) ≡ 0 = from-clear levels count falling (t.k - 1) (omega arith) in
     (from-clear levels count falling t.k (omega arith), inl (omega arith))
@@ -68,6 +72,7 @@ below-limit-to levels count falling t low some (inr (same, h)) =
     below_at v s v' s' w r e f (inr h) = inr (omega (arith, h.0), omega (arith, h.1))
 
 pub below-limit-from : (levels : ℕ) (count : ℕ → ℕ) → (t : Triple) → 0 < t.k → count t.k ≡ 0 → IsPairBelow (counts_below count t.k) (limit_of t) → IsBelow (cost_by levels count) t
+unfolding cost_by
 below-limit-from levels count t low none h =
     elim (cases_lt (clear_level levels count) t.k) [
       | inl small ↦ inl small
@@ -83,9 +88,11 @@ below-limit-from levels count t low none h =
     below_at v s v' s' w r e f (inr h) = inr (omega (arith, h.0), omega (arith, h.1))
 
 pub below-level-to : (levels : ℕ) (count : ℕ → ℕ) → IsFalling levels count → (t : Triple) → t.v ≡ 0 → t.s ≡ 0 → IsBelow (cost_by levels count) t → count (t.k - 1) ≡ 0
+unfolding cost_by
 below-level-to levels count falling t none nothing (inl h) = from-clear levels count falling (t.k - 1) (omega arith)
 below-level-to levels count falling t none nothing (inr (same, inl h)) = absurd (omega arith)
 below-level-to levels count falling t none nothing (inr (same, inr h)) = absurd (omega (arith, h.1))
 
 pub below-level-from : (levels : ℕ) (count : ℕ → ℕ) → (t : Triple) → 0 < t.k → count (t.k - 1) ≡ 0 → IsBelow (cost_by levels count) t
+unfolding cost_by
 below-level-from levels count t low none = inl (omega (arith, clear-at-most levels count (t.k - 1) none))

@@ -4,7 +4,7 @@ use Rattle.std.proofs.lemmas.Bool.{ltb-true, lt-ltb}
 use Rattle.std.proofs.Math.Nat.{mul-le-mul}
 use Rattle.fapp_model.specs.declared.instance.Instance.{Instance}
 use Rattle.fapp_model.specs.declared.triple.Triple.{Triple}
-use Rattle.fapp_model.specs.Costs.{clear_level, count_below, cost, sum_under, violations}
+use Rattle.fapp_model.specs.Costs.{clear_level, count_below, cost, cost_by, sum_under, violations}
 use Rattle.fapp_model.specs.Instances.{IsInstance}
 use Rattle.fapp_model.specs.Levels.{levels_of}
 use Rattle.fapp_model.specs.Modes.{IsWithin}
@@ -19,6 +19,7 @@ small_sum : (n r s : ℕ) → n ≤ 60 → r ≤ 1048576 → s ≤ n * r → s <
 small_sum n r s few records h = omega (arith, mul-le-mul few records)
 
 pub cost-tag : (instance : Instance) (plan : List ℕ) → IsInstance instance → IsTagOf instance (cost instance plan)
+unfolding cost_by sum_under
 cost-tag instance plan v = by_level (clear_level (levels_of instance) (violations instance plan)) refl
   where
     by_level : (k : ℕ) → clear_level (levels_of instance) (violations instance plan) ≡ k → IsTagOf instance (cost instance plan)

@@ -5,7 +5,7 @@ use Rattle.fapp_model.specs.declared.instance.Instance.{Instance}
 use Rattle.fapp_model.specs.declared.literal.Literal.{Literal}
 use Rattle.fapp_model.specs.declared.triple.Triple.{Triple}
 use Rattle.fapp_model.specs.Assignments.{count_at}
-use Rattle.fapp_model.specs.Costs.{cost, violations}
+use Rattle.fapp_model.specs.Costs.{cost, cost_by, violations}
 use Rattle.fapp_model.specs.Implied.{Implied}
 use Rattle.fapp_model.specs.Least.{IsFeasible}
 use Rattle.fapp_model.specs.Levels.{levels_of}
@@ -44,5 +44,6 @@ Implied-branch instance t literals path small h = λ plan feasible extends.
     (All-cons (λ a. slice_index plan a.path ≡ a.choice) (literal path (slice_index plan path)) literals refl extends)
 
 pub none-at-top : (instance : Instance) (plan : List ℕ) → Implied instance (top_tag instance) [] → IsFeasible instance plan → ⊥
+unfolding cost_by
 none-at-top instance plan h feasible =
     h plan feasible (All-nil (λ a. slice_index plan a.path ≡ a.choice)) (inl (omega (arith, clear-le (levels_of instance) (violations instance plan))))

@@ -115,6 +115,7 @@ pub plan-before : (instance : Instance) (plan : List ℕ) (level : ℕ) → IsIn
 plan-before instance plan level v = plan-inside instance plan (bad_before level) v
 
 pub plan-further : (instance : Instance) (plan : List ℕ) (level : ℕ) → IsInstance instance → inside instance (bad_further level) (plan_literals (length instance.paths) plan) ≡ sum_under (violations instance plan) (level - 1)
+unfolding sum_under
 plan-further instance plan level v =
     plan-inside instance plan (bad_further level) v
     ∙ sum_by-swap (λ r m. cond (is_bad m r (chosen instance plan (first_path r)) (chosen instance plan (second_path r))) 1 0) instance.records (range_with_len 0 (level - 1))

@@ -72,6 +72,7 @@ pub violations-le : (instance : Instance) (plan : List ℕ) (level : ℕ) → vi
 violations-le instance plan level = count_by-le-length (violates instance plan level) instance.records
 
 pub sum_under-le : (instance : Instance) (plan : List ℕ) (n : ℕ) → sum_under (violations instance plan) n ≤ n * length instance.records
+unfolding sum_under
 sum_under-le instance plan n =
     let bound = sum_by-le (violations instance plan) (length instance.records) (range_with_len 0 n) (All-range (λ level. violations instance plan level ≤ length instance.records) n (λ m h. violations-le instance plan m)) in
     subst (λ k. sum_under (violations instance plan) n ≤ k * length instance.records) (length-range_with_len 0 n) bound
