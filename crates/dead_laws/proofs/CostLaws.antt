@@ -4,6 +4,7 @@ use Rattle.std.proofs.lemmas.Bool.{ltb-true, lt-ltb}
 use Rattle.std.proofs.Math.Nat.{mul-le-mul}
 use Rattle.fapp_model.specs.declared.instance.Instance.{Instance}
 use Rattle.fapp_model.specs.declared.triple.Triple.{Triple}
+use Rattle.fapp_model.specs.declared.limits.TheConstants.{MAX_RECORDS, S_SPAN}
 use Rattle.fapp_model.specs.Costs.{clear_level, count_below, cost, cost_by, sum_under, violations}
 use Rattle.fapp_model.specs.Instances.{IsInstance}
 use Rattle.fapp_model.specs.Levels.{levels_of}
@@ -15,7 +16,7 @@ use Rattle.dead_laws.proofs.ClearLevels.{before-clear, clear-le, counts_below, b
 use Rattle.dead_laws.proofs.TagParts.{TagShape, limited, plain, shape_of, mode-limited, mode-plain, tag_from_limited, tag_from_plain}
 use Rattle.dead_laws.proofs.Violations.{violations-falling, violations-le, sum_under-le}
 
-small_sum : (n r s : ℕ) → n ≤ 60 → r ≤ 1048576 → s ≤ n * r → s < 67108864
+small_sum : (n r s : ℕ) → n ≤ 60 → r ≤ MAX_RECORDS → s ≤ n * r → s < S_SPAN
 small_sum n r s few records h = omega (arith, mul-le-mul few records)
 
 pub cost-tag : (instance : Instance) (plan : List ℕ) → IsInstance instance → IsTagOf instance (cost instance plan)

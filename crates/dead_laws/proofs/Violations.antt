@@ -9,6 +9,7 @@ use Rattle.fapp_model.specs.declared.choice.Choice.{Choice}
 use Rattle.fapp_model.specs.declared.instance.Instance.{Instance}
 use Rattle.fapp_model.specs.declared.record.Record.{Record}
 use Rattle.fapp_model.specs.declared.record.Record.TheVariants.{Freq, Pol, Same, Other}
+use Rattle.fapp_model.specs.declared.level.TheConstants.{LEVELS}
 use Rattle.fapp_model.specs.Assignments.{violates}
 use Rattle.fapp_model.specs.Costs.{violations, sum_under}
 use Rattle.fapp_model.specs.Instances.{IsInstance, HasNumbers, AreDistances}
@@ -42,15 +43,15 @@ bad_lower (Other i j dist) d m n h a b e =
     let parts = and_parts (not (same_polarization a b)) (is_closer n dist a b) e in
     and_from (not (same_polarization a b)) (is_closer m dist a b) parts.0 (closer_at dist d m n h a b parts.1)
 
-far_at_end : (dist : List ℕ) → AreDistances dist → (a b : Choice) → is_closer 11 dist a b ≡ false
-far_at_end dist d a b = le-ltb (distance a b) (slice_index dist 11) (omega (arith, get_or_past dist 11 0 (omega (arith, d.count))))
+far_at_end : (dist : List ℕ) → AreDistances dist → (a b : Choice) → is_closer LEVELS dist a b ≡ false
+far_at_end dist d a b = le-ltb (distance a b) (slice_index dist LEVELS) (omega (arith, get_or_past dist LEVELS 0 (omega (arith, d.count))))
 
 -- no record is bad at the last level
 pub bad_at_end : (instance : Instance) (r : Record) → HasNumbers r → (a b : Choice) → is_bad (levels_of instance) r a b ≡ false
 bad_at_end instance (Freq i j equal k) d a b = refl
 bad_at_end instance (Pol i j equal) d a b = refl
-bad_at_end instance (Same i j dist) d a b = and_right (same_polarization a b) (is_closer 11 dist a b) (far_at_end dist d a b)
-bad_at_end instance (Other i j dist) d a b = and_right (not (same_polarization a b)) (is_closer 11 dist a b) (far_at_end dist d a b)
+bad_at_end instance (Same i j dist) d a b = and_right (same_polarization a b) (is_closer LEVELS dist a b) (far_at_end dist d a b)
+bad_at_end instance (Other i j dist) d a b = and_right (not (same_polarization a b)) (is_closer LEVELS dist a b) (far_at_end dist d a b)
 
 pub not_bad_higher : (r : Record) → HasNumbers r → (m n : ℕ) → m ≤ n → (a b : Choice) → is_bad m r a b ≡ false → is_bad n r a b ≡ false
 not_bad_higher r d m n h a b e = by_cases (is_bad n r a b) refl
