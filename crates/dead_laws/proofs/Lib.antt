@@ -17,3 +17,4 @@ pub mod DeadImplied
 pub mod DeadFull
 pub mod BestChoices
 pub mod DeadMore
+pub mod DeadTests

@@ -1,5 +1,5 @@
 -- What holds of dead partial assignments.
-use Rattle.std.specs.Prelude.{◌↔◌, ℕ, ◌<◌, Bool, IsTrue, List, [], ◌∷◌, length}
+use Rattle.std.specs.Prelude.{◌↔◌, ◌⊎◌, not, ℕ, ◌<◌, Bool, IsTrue, List, [], ◌∷◌, length}
 use Rattle.fapp_model.specs.declared.instance.Instance.{Instance}
 use Rattle.fapp_model.specs.declared.literal.Literal.{Literal}
 use Rattle.fapp_model.specs.declared.triple.Triple.{Triple}
@@ -8,7 +8,8 @@ use Rattle.fapp_model.specs.Implied.{Implied}
 use Rattle.fapp_model.specs.Instances.{IsInstance}
 use Rattle.fapp_model.specs.Least.{IsFeasible}
 use Rattle.fapp_model.specs.Partials.{IsLiteral, IsPartial, names}
-use Rattle.fapp_model.specs.Tags.{IsTagOf, top_tag}
+use Rattle.fapp_model.specs.Tags.{IsTagOf, mode_level, top_tag}
+use Rattle.dead_laws.specs.ArcLaws.{IsArcs}
 use Rattle.dead_laws.specs.ImpliedLaws.{HasAll, IsAtMost}
 
 -- each choice that stands outside is implied with the literals
@@ -53,3 +54,18 @@ abbrev pub DeadInExtensions : Type 0
 DeadInExtensions = (instance : Instance) (t : Triple) (literals more : List Literal) → IsInstance instance →
     IsTagOf instance t → IsPartial instance literals → IsPartial instance more → HasAll more literals →
     Dead instance t literals → Dead instance t more
+
+-- two ways to say what stands outside say the same of the instance's choices
+abbrev pub AgreeOn : Instance → (Literal → Type 0) → (Literal → Type 0) → Type 0
+AgreeOn instance outside other = (a : Literal) → IsLiteral instance a → outside a ↔ other a
+
+-- By a test of the arcs, what is dead is what is judged dead with the other choices outside.
+abbrev pub DeadByTest : Type 0
+DeadByTest = (instance : Instance) (t : Triple) (literals : List Literal) (arc : Literal → Bool) →
+    IsPartial instance literals → IsArcs instance (mode_level t) arc →
+    Dead instance t literals ↔ DeadBy (λ a. IsTrue (not (arc a))) instance t literals
+
+-- A partial assignment is dead, or it isn't.
+abbrev pub DeadIsDecided : Type 0
+DeadIsDecided = (instance : Instance) (t : Triple) (literals : List Literal) → IsInstance instance →
+    IsTagOf instance t → IsPartial instance literals → Dead instance t literals ⊎ (Dead instance t literals → ⊥)

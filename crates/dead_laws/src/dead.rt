@@ -1,4 +1,4 @@
-ghost use Rattle.dead_laws.specs.DeadLaws.{DeadAtLowerTags, DeadInExtensions, DeadIsImplied, FullDeadIsImplied, JudgedDeadIsImplied, NoneWhereDeadAtTop};
+ghost use Rattle.dead_laws.specs.DeadLaws.{DeadAtLowerTags, DeadByTest, DeadInExtensions, DeadIsDecided, DeadIsImplied, FullDeadIsImplied, JudgedDeadIsImplied, NoneWhereDeadAtTop};
 
 /// What is judged dead is implied, whatever test stands for outside, where each choice that passes it is implied.
 pub fn judged_dead_is_implied()
@@ -29,3 +29,15 @@ pub fn full_dead_is_implied()
 pub fn dead_in_extensions()
     ensures { DeadInExtensions }
 {}
+
+/// By a test of the arcs, what is dead is what is judged dead with the other choices outside.
+pub fn dead_by_test()
+    ensures { DeadByTest }
+{
+}
+
+/// A partial assignment is dead, or it isn't.
+pub fn dead_is_decided()
+    ensures { DeadIsDecided }
+{
+}
