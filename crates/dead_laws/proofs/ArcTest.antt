@@ -4,7 +4,7 @@ use Rattle.std.specs.List.{list_any, range_with_len}
 use Rattle.std.proofs.lemmas.Bool.{and_parts, and_from, and_cases, and_right, both_ways, not-true, not-false, not_from_true, not_from_false, eqb-true, eq-eqb, ltb-true, lt-ltb}
 use Rattle.fapp_model.specs.declared.instance.Instance.{Instance}
 use Rattle.fapp_model.specs.declared.literal.Literal.{Literal}
-use Rattle.fapp_model.specs.Arcs.{HasPartner, InArc, IsSupported, OutsideArc}
+use Rattle.fapp_model.specs.Arcs.{HasPartner, InArc, IsSupported}
 use Rattle.fapp_model.specs.Assignments.{count_at}
 use Rattle.fapp_model.specs.Clashes.{clashes, shares_record}
 use Rattle.fapp_model.specs.Instances.{IsInstance}
@@ -169,14 +169,3 @@ InArc-from_greatest instance level arc g a h = (arc, g.supported, h)
 
 pub greatest-from_InArc : (instance : Instance) (level : ℕ) (arc : Literal → Bool) → IsGreatest instance level arc → (a : Literal) → InArc instance level a → IsTrue (arc a)
 greatest-from_InArc instance level arc g a (family, supported, h) = g.wide.wide family supported a h
-
--- a choice is in the arcs or outside them
-pub in_or_out : (instance : Instance) (level : ℕ) → IsInstance instance → (a : Literal) → InArc instance level a ⊎ OutsideArc instance level a
-in_or_out instance level v a = by_cases (greatest instance level v)
-  where
-    by_test : (arc : Literal → Bool) → IsGreatest instance level arc → (t : Bool) → arc a ≡ t → InArc instance level a ⊎ OutsideArc instance level a
-    by_test arc g true e = inl (InArc-from_greatest instance level arc g a e)
-    by_test arc g false e = inr (λ h. both_ways (arc a) e (greatest-from_InArc instance level arc g a h))
-
-    by_cases : (arc : Literal → Bool) × IsGreatest instance level arc → InArc instance level a ⊎ OutsideArc instance level a
-    by_cases (arc, g) = by_test arc g (arc a) refl

@@ -1,6 +1,6 @@
 -- For a literal of each path, what is implied is dead.
 use Rattle.std.proofs.Common.{◌≡◌, ℕ, zero, suc, ◌<◌, Bool, true, false, ◌&&◌, not, cond, List, [], ◌∷◌, length, get_or, refl, sym, ap, ◌∙◌, subst, inl, inr, arith, Contains, IsTrue, eqb, map, slice_index}
-use Rattle.std.specs.List.{list_any, range_with_len}
+use Rattle.std.specs.List.{range_with_len}
 use Rattle.std.proofs.lemmas.Bool.{and_from, and_cases, both_ways, cond-true, cond-false, false_from_ne_true, not_from_false, or_parts, eqb-true, eq-eqb}
 use Rattle.std.proofs.lemmas.List.Elements.{All-contains, Contains-get_or}
 use Rattle.std.proofs.lemmas.List.FromFn.{length-map-range_with_len, get_or-map-range_with_len}
@@ -9,10 +9,11 @@ use Rattle.fapp_model.specs.declared.instance.Instance.{Instance}
 use Rattle.fapp_model.specs.declared.literal.Literal.{Literal}
 use Rattle.fapp_model.specs.declared.record.Record.{Record}
 use Rattle.fapp_model.specs.declared.triple.Triple.{Triple}
+use Rattle.fapp_model.specs.Arcs.{OutsideArc}
 use Rattle.fapp_model.specs.Assignments.{IsAssignment, breaks, chosen, count_at, meets, violates}
-use Rattle.fapp_model.specs.Clashes.{blocks, clashes, clashes_with, is_hard_bad, joins}
+use Rattle.fapp_model.specs.Clashes.{blocks, is_hard_bad, joins}
 use Rattle.fapp_model.specs.Costs.{violations}
-use Rattle.fapp_model.specs.Dead.{Dead, least, clash, over_limit}
+use Rattle.fapp_model.specs.Dead.{Dead, least, over_limit}
 use Rattle.fapp_model.specs.Implied.{Implied}
 use Rattle.fapp_model.specs.Instances.{IsInstance, IsRecord}
 use Rattle.fapp_model.specs.Least.{IsFeasible}
@@ -26,10 +27,11 @@ use Rattle.fapp_model.specs.Triples.{IsBelow}
 use Rattle.fapp_model.specs.Weights.{pair_with}
 use Rattle.dead_laws.specs.DeadLaws.{NamesAll}
 use Rattle.dead_laws.specs.ImpliedLaws.{HasAll}
-use Rattle.dead_laws.proofs.Anys.{none-member, passing}
+use Rattle.dead_laws.proofs.Anys.{none-member}
 use Rattle.dead_laws.proofs.CostLaws.{within-cost}
 use Rattle.dead_laws.proofs.DeadImplied.{small-paths}
 use Rattle.dead_laws.proofs.DeadLower.{IsPairAtMost-trans, least_or_above}
+use Rattle.dead_laws.proofs.DeadTests.{calm-at, clash-dead, has_clash}
 use Rattle.dead_laws.proofs.Growing.{pair-grows}
 use Rattle.dead_laws.proofs.PairSums.{below_or_at_most}
 use Rattle.dead_laws.proofs.Picks.{AreDistinct, distinct-tail, names-at}
@@ -86,10 +88,7 @@ module _ (instance : Instance) (literals : List Literal) (partial : IsPartial in
         let own = All-contains (IsChosen (plan_of instance literals)) literals found.0 plan-extends found.1 in
         subst (Contains literals) (same-literal found.0 a found.2 (sym own ∙ (ap (slice_index (plan_of instance literals)) found.2 ∙ member.1))) found.1
 
-    module _ (valid : IsInstance instance) (level : ℕ) (calm : list_any (λ a. clashes_with instance level literals a) literals ≡ false) where
-      calm-at : (a b : Literal) → Contains literals a → Contains literals b → clashes instance level a b ≡ false
-      calm-at a b first second = none-member (clashes instance level a) literals (none-member (λ a. clashes_with instance level literals a) literals calm a first) b second
-
+    module _ (valid : IsInstance instance) (level : ℕ) (calm : has_clash instance level literals ≡ false) where
       calm-record : (r : Record) → Contains instance.records r → is_hard_bad level r (chosen instance (plan_of instance literals) (first_path r)) (chosen instance (plan_of instance literals) (second_path r)) ≡ false
       calm-record r c =
           let ends = All-contains (IsRecord (length instance.paths)) instance.records r valid.records c in
@@ -97,7 +96,7 @@ module _ (instance : Instance) (literals : List Literal) (partial : IsPartial in
           let b = names-at literals (second_path r) (full (second_path r) ends.second) in
           let own = All-contains (IsChosen (plan_of instance literals)) literals a.0 plan-extends a.1 in
           let also = All-contains (IsChosen (plan_of instance literals)) literals b.0 plan-extends b.1 in
-          let apart = or_parts (blocks instance level a.0 b.0) (blocks instance level b.0 a.0) (calm-at a.0 b.0 a.1 b.1) in
+          let apart = or_parts (blocks instance level a.0 b.0) (blocks instance level b.0 a.0) (calm-at instance level literals calm a.0 b.0 a.1 b.1) in
           let this = none-member (λ r. joins a.0.path b.0.path r && is_hard_bad level r (choice_of instance a.0) (choice_of instance b.0)) instance.records apart.0 r c in
           let joined = and_from (eqb (first_path r) a.0.path) (eqb (second_path r) b.0.path) (eq-eqb (first_path r) a.0.path (sym a.2)) (eq-eqb (second_path r) b.0.path (sym b.2)) in
           sym (ap (λ x. is_hard_bad level r x (choice_of instance b.0)) (chosen-is instance (plan_of instance literals) a.0 (first_path r) own (sym a.2))
@@ -125,7 +124,7 @@ nothing_more : Pair
 nothing_more = record { v = 0; s = 0 }
 
 module _ (instance : Instance) (t : Triple) (literals : List Literal) (valid : IsInstance instance) (tag : IsTagOf instance t) (partial : IsPartial instance literals) (full : NamesAll instance literals) (implied : Implied instance t literals) where
-  not-within : list_any (λ a. clashes_with instance (mode_level t) literals a) literals ≡ false → IsBelow least_tag t → (IsTrue (has_limit t) → IsPairBelow (pair_below instance (plan_of instance literals) (mode_level t)) (limit_of t)) → ⊥
+  not-within : has_clash instance (mode_level t) literals ≡ false → IsBelow least_tag t → (IsTrue (has_limit t) → IsPairBelow (pair_below instance (plan_of instance literals) (mode_level t)) (limit_of t)) → ⊥
   not-within calm above pair =
       implied (plan_of instance literals) (plan-feasible instance literals partial full valid (mode_level t) calm) (plan-extends instance literals partial)
       (within-cost instance t (plan_of instance literals) tag above (record { clear = plan-clear instance literals partial full valid (mode_level t) calm; limited = pair }))
@@ -141,7 +140,7 @@ module _ (instance : Instance) (t : Triple) (literals : List Literal) (valid : I
       (IsPairAtMost-trans (limit_of t) (pair_with instance (mode_level t) (plan_literals n plan) (λ path. nothing_more)) (pair_with instance (mode_level t) literals (λ path. nothing_more))
       (subst (IsPairAtMost (limit_of t)) (sym (plan-pair instance plan (mode_level t) valid (λ path. nothing_more))) most) grown)
 
-  by_limit : list_any (λ a. clashes_with instance (mode_level t) literals a) literals ≡ false → IsBelow least_tag t → (b : Bool) → has_limit t ≡ b → Dead instance t literals
+  by_limit : has_clash instance (mode_level t) literals ≡ false → IsBelow least_tag t → (b : Bool) → has_limit t ≡ b → Dead instance t literals
   by_limit calm above false e = absurd (not-within calm above (λ some. absurd (both_ways (has_limit t) e some)))
   by_limit calm above true e =
       elim (below_or_at_most (pair_below instance (plan_of instance literals) (mode_level t)) (limit_of t)) [
@@ -149,11 +148,8 @@ module _ (instance : Instance) (t : Triple) (literals : List Literal) (valid : I
         | inr most ↦ over e most
       ]
 
-  by_clash : (b : Bool) → list_any (λ a. clashes_with instance (mode_level t) literals a) literals ≡ b → Dead instance t literals
-  by_clash true e =
-      let found = passing (λ a. clashes_with instance (mode_level t) literals a) literals e in
-      let other = passing (clashes instance (mode_level t) found.item) literals found.passes in
-      clash found.item other.item found.member other.member other.passes
+  by_clash : (b : Bool) → has_clash instance (mode_level t) literals ≡ b → Dead instance t literals
+  by_clash true e = clash-dead (OutsideArc instance (mode_level t)) instance t literals e
   by_clash false e =
       elim (least_or_above (levels_of instance) t (shape_of instance t tag)) [
         | inl same ↦ least same
@@ -161,4 +157,4 @@ module _ (instance : Instance) (t : Triple) (literals : List Literal) (valid : I
       ]
 
   pub implied-dead : Dead instance t literals
-  implied-dead = by_clash (list_any (λ a. clashes_with instance (mode_level t) literals a) literals) refl
+  implied-dead = by_clash (has_clash instance (mode_level t) literals) refl

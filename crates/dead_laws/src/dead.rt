@@ -33,11 +33,9 @@ pub fn dead_in_extensions()
 /// By a test of the arcs, what is dead is what is judged dead with the other choices outside.
 pub fn dead_by_test()
     ensures { DeadByTest }
-{
-}
+{}
 
 /// A partial assignment is dead, or it isn't.
 pub fn dead_is_decided()
     ensures { DeadIsDecided }
-{
-}
+{}
