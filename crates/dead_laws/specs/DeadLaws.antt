@@ -28,7 +28,7 @@ abbrev pub DeadIsImplied : Type 0
 DeadIsImplied = (instance : Instance) (t : Triple) (literals : List Literal) → IsInstance instance →
     IsTagOf instance t → IsPartial instance literals → Dead instance t literals → Implied instance t literals
 
--- Where no literal is dead at the top tag, no assignment meets the imperative records.
+-- Where the empty list is dead at the top tag, no assignment meets the imperative records.
 abbrev pub NoneWhereDeadAtTop : Type 0
 NoneWhereDeadAtTop = (instance : Instance) (plan : List ℕ) → IsInstance instance → Dead instance (top_tag instance) [] →
     IsFeasible instance plan → ⊥

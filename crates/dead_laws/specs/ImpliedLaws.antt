@@ -39,6 +39,6 @@ ImpliedByBranch = (instance : Instance) (t : Triple) (literals : List Literal) (
     ((index : ℕ) → index < count_at instance path → Implied instance t (literal path index ∷ literals)) →
     Implied instance t literals
 
--- Where no literal is implied at the top tag, no assignment meets the imperative records.
+-- Where the empty list is implied at the top tag, no assignment meets the imperative records.
 abbrev pub NoneAtTop : Type 0
 NoneAtTop = (instance : Instance) (plan : List ℕ) → Implied instance (top_tag instance) [] → IsFeasible instance plan → ⊥

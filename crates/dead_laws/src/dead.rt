@@ -10,7 +10,7 @@ pub fn dead_is_implied()
     ensures { DeadIsImplied }
 {}
 
-/// Where no literal is dead at the top tag, no assignment meets the imperative records.
+/// Where the empty list is dead at the top tag, no assignment meets the imperative records.
 pub fn none_where_dead_at_top()
     ensures { NoneWhereDeadAtTop }
 {}
