@@ -3,10 +3,9 @@
 
 use fapp_io::{StdSink, StdSource};
 use fapp_run::{Status, run};
-use std::env;
-use std::io;
 use std::process::ExitCode;
 use std::rt::Env;
+use std::{env, io};
 
 fn main(rt: HostRuntime) -> ExitCode {
     ExitCode::from(status(&rt).code())

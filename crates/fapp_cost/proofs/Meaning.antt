@@ -50,8 +50,9 @@ not_above n h = grind (arith, nat_tests)
 
 stopped : (count : ℕ → ℕ) (levels k : ℕ) → count levels ≡ 0 → k ≤ levels → (k < levels → ltb 0 (count k) ≡ false) → count k ≡ 0
 stopped count levels k last within stops = elim (cases_lt k levels) [
-    inl below ↦ not_above (count k) (stops below)
-  | inr past ↦ let same : k ≡ levels = omega arith in ap count same ∙ last ]
+  | inl below ↦ not_above (count k) (stops below)
+  | inr past ↦ let same : k ≡ levels = omega arith in ap count same ∙ last
+]
 
 -- the least level at which a count is 0, where it is 0 at the last level
 least_clear : (count : ℕ → ℕ) (levels : ℕ) → count levels ≡ 0 → (count (clear_level levels count) ≡ 0) × ((level : ℕ) → level < clear_level levels count → 0 < count level) × (clear_level levels count ≤ levels)
@@ -60,9 +61,11 @@ least_clear count levels last =
     let p : ℕ → Bool = λ level. ltb 0 (count level) in
     let all = range_with_len 0 levels in
     let k = prefix_len p all in
-    let within : k ≤ levels = omega (arith, prefix_len-le-length p all, length-range_with_len 0 levels) in
-    (stopped count levels k last within (λ below. rw (get_or-range_with_len 0 levels k 0 below, zero-add) at (prefix_len_stops p all 0 (rw length-range_with_len below))),
-    (λ level below. ltb-true 0 (count level) (rw (get_or-range_with_len 0 levels level 0 (omega arith), zero-add) at (prefix_len_passes p all level 0 below))), within)
+    let within : k ≤ levels = omega (arith, prefix_len-le-length p all, length-range_with_len 0 levels) in (
+      stopped count levels k last within (λ below. rw (get_or-range_with_len 0 levels k 0 below, zero-add) at (prefix_len_stops p all 0 (rw length-range_with_len below))),
+      (λ level below. ltb-true 0 (count level) (rw (get_or-range_with_len 0 levels level 0 (omega arith), zero-add) at (prefix_len_passes p all level 0 below))),
+      within,
+    )
 
 pub level_meaning : (instance : Instance) (plan : List ℕ) → IsInstance instance → HasLeastClearLevel instance plan
 unfolding cost_by
@@ -85,6 +88,7 @@ order t u v w s z k tv uv ts us = (to, from) where
   to (inl below) = absurd (omega arith)
   to (inr (same, inl below)) = inl (omega arith)
   to (inr (same, inr (as_many, below))) = inr (omega arith, omega arith)
+
   from : (v < w) ⊎ ((v ≡ w) × (s < z)) → IsBelow t u
   from (inl below) = inr (k, inl (omega arith))
   from (inr (as_many, below)) = inr (k, inr (omega arith, omega arith))
