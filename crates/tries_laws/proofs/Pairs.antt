@@ -1,6 +1,8 @@
 -- What holds of each two members of a list, of which one stands before the other.
-use Rattle.std.proofs.Common.{◌≡◌, ◌⊎◌, ℕ, zero, suc, ◌+◌, ◌<◌, ◌≤◌, Bool, true, false, List, [], ◌∷◌, ◌++◌, length, get_or, map, flat_map, filter, All, AllPairs, Contains, refl, ap, sym, subst, inl, inr, ⊎_elim, arith}
+use Rattle.std.proofs.Common.{◌≡◌, ℕ, zero, suc, ◌<◌, Bool, List, [], ◌∷◌, ◌++◌, get_or, map, flat_map, filter, All, AllPairs, Contains, refl, sym, subst, ⊎_elim, arith}
 use Rattle.std.proofs.lemmas.List.Elements.{All-head, All-tail, All-contains, All-map, All-append, All-filter}
+use Rattle.std.specs.List.{range_with_len}
+use Rattle.std.proofs.lemmas.List.FromFn.{length-range_with_len, get_or-range_with_len}
 use Rattle.std.proofs.lemmas.Bool.{cases_Bool}
 use Rattle.tries_laws.proofs.Members.{front_or_behind, at_front, behind, no_member, All-from_members, from-flat_map}
 
@@ -56,6 +58,7 @@ module _ {X : Type 0} (R : X → X → Type 0) where
           (λ in_more. absurd (asym a b (All-contains (R a) more b fa in_more) (All-contains (R b) others a fb in_others)))
           (front_or_behind a more b mb))
           (front_or_behind b others a ma)
+
       later : (a b : X) (others : List X) → b ≡ a → (z : X) → R a z → Contains (b ∷ others) z → Contains others z
       later a b others e z r m = ⊎_elim
           (λ bz. let loop : R b b = subst (λ u. R u b) (sym e) (subst (R a) (sym bz) r) in absurd (asym b b loop loop))
@@ -81,3 +84,12 @@ module _ {X Y : Type 0} (R : Y → Y → Type 0) where
       (pairs-flat_map f xs (All-tail (λ z. AllPairs R (f z)) x xs inner) (pairs-tail Between x xs outer))
       (All-from_members (λ a. All (R a) (flat_map f xs)) (f x) (λ a ma. All-from_members (R a) (flat_map f xs)
       (λ b mb. let r = from-flat_map f xs b mb in All-contains (Between x) xs r.0 front r.1 a b ma r.2)))
+
+pub pairs-weaker : {X : Type 0} (R S : X → X → Type 0) → ((x y : X) → R x y → S x y) → (xs : List X) → AllPairs R xs → AllPairs S xs
+pairs-weaker R S f xs h i j d below within = f (get_or xs i d) (get_or xs j d) (h i j d below within)
+
+-- a range rises
+pub rising : (a n : ℕ) → AllPairs (λ x y. x < y) (range_with_len a n)
+rising a n i j d below within =
+    let l = length-range_with_len a n in
+    omega (arith, get_or-range_with_len a n i d (omega arith), get_or-range_with_len a n j d (omega arith))

@@ -1,14 +1,14 @@
 -- The work order is one.
-use Rattle.std.proofs.Common.{◌≡◌, ◌⊎◌, ℕ, zero, suc, ◌+◌, ◌<◌, ◌≤◌, Bool, true, false, cond, ◌&&◌, ◌||◌, eqb, ltb, List, [], ◌∷◌, length, All, AllPairs, Contains, IsTrue, refl, sym, ap, subst, inl, inr, ⊎_elim, arith}
+use Rattle.std.proofs.Common.{◌≡◌, ◌⊎◌, ℕ, suc, ◌<◌, Bool, true, false, ◌&&◌, ◌||◌, eqb, ltb, List, [], ◌∷◌, length, All, AllPairs, Contains, IsTrue, refl, ap, subst, inl, inr, ⊎_elim, arith}
 use Rattle.std.specs.List.{range_with_len}
-use Rattle.std.proofs.lemmas.Bool.{cases_Bool, both_ways}
+use Rattle.std.proofs.lemmas.Bool.{cases_Bool}
 use Rattle.std.proofs.lemmas.Bool.Decides.{nat_tests}
-use Rattle.std.proofs.lemmas.List.FromFn.{length-range_with_len, get_or-range_with_len}
+use Rattle.std.proofs.lemmas.List.FromFn.{length-range_with_len}
 use Rattle.std.proofs.lemmas.List.Elements.{All-nil, All-cons, All-head, All-tail, All-contains, All-weaker}
 use Rattle.fapp_model.specs.declared.instance.Instance.{Instance}
 use Rattle.fapp_model.specs.WorkOrder.{IsWorkOrder, work_order, comes_before, degree, put_in, put_all}
 use Rattle.tries_laws.proofs.Members.{at_front, behind, front_or_behind, no_member, in-range, from-range, All-from_members}
-use Rattle.tries_laws.proofs.Pairs.{pairs-nil, pairs-head, pairs-tail, pairs-cons, same_members}
+use Rattle.tries_laws.proofs.Pairs.{pairs-nil, pairs-head, pairs-tail, pairs-cons, same_members, rising}
 
 -- the order of two numbers of records and two positions
 abbrev pub is_first : ℕ → ℕ → ℕ → ℕ → Bool
@@ -20,7 +20,7 @@ first-trans da db dc a b c h k = grind (arith, nat_tests)
 first-total : (da db a b : ℕ) → a < b → is_first da db a b ≡ false → is_first db da b a ≡ true
 first-total da db a b l h = grind (arith, nat_tests)
 
-first-asym : (da db a b : ℕ) → is_first da db a b ≡ true → is_first db da b a ≡ true → ⊥
+pub first-asym : (da db a b : ℕ) → is_first da db a b ≡ true → is_first db da b a ≡ true → ⊥
 first-asym da db a b h k = grind (arith, nat_tests)
 
 module _ (before : ℕ → ℕ → Bool) where
@@ -93,11 +93,6 @@ module _ (before : ℕ → ℕ → Bool) where
         ordered-put_in x (put_all before xs)
         (All-from_members (λ y. x < y) (put_all before xs) (λ y m. All-contains (λ z. x < z) xs y (pairs-head (λ u v. u < v) x xs h) (from-put_all xs y m)))
         (ordered-put_all xs (pairs-tail (λ u v. u < v) x xs h))
-
-rising : (a n : ℕ) → AllPairs (λ x y. x < y) (range_with_len a n)
-rising a n i j d below within =
-    let l = length-range_with_len a n in
-    omega (arith, get_or-range_with_len a n i d (omega arith), get_or-range_with_len a n j d (omega arith))
 
 pub order-is : (instance : Instance) → IsWorkOrder instance (work_order instance)
 unfolding work_order

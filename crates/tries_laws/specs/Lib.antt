@@ -1,1 +1,4 @@
 pub mod OrderLaws
+pub mod PrefixLaws
+pub mod JobLaws
+pub mod TriesLaws

@@ -1,0 +1,26 @@
+-- What holds of prefixes and of the lists of them.
+use Rattle.std.specs.Prelude.{◌≡◌, ◌≢◌, ◌↔◌, ℕ, List, length, AllPairs, Contains}
+use Rattle.fapp_model.specs.declared.instance.Instance.{Instance}
+use Rattle.fapp_model.specs.declared.literal.Literal.{Literal}
+use Rattle.fapp_model.specs.Jobs.{ways}
+use Rattle.fapp_model.specs.Partials.{IsPartial}
+use Rattle.fapp_model.specs.Prefixes.{IsAlong, IsListBefore, IsPrefix, choice_lists, lists_along}
+
+-- A prefix is a partial assignment.
+abbrev pub PrefixesArePartial : Type 0
+PrefixesArePartial = (instance : Instance) (prefix : List Literal) → IsPrefix instance prefix → IsPartial instance prefix
+
+-- The lists along the first few of some paths are all that there are, each once.
+pub record ListsAlongAreAll : Type 0 where
+  pub all : (instance : Instance) (paths : List ℕ) (literals : List Literal) →
+      Contains (lists_along instance paths) literals ↔ IsAlong instance paths literals
+  pub once : (instance : Instance) (paths : List ℕ) → AllPairs (λ a b. a ≢ b) (lists_along instance paths)
+
+-- The lists along all of some paths are all that there are, each once and in the order of their choices' indices. They are
+-- as many as the numbers of choices multiply to.
+pub record ChoiceListsAreAll : Type 0 where
+  pub all : (instance : Instance) (paths : List ℕ) (literals : List Literal) →
+      Contains (choice_lists instance paths) literals ↔ (IsAlong instance paths literals × (length literals ≡ length paths))
+  pub ordered : (instance : Instance) (paths : List ℕ) → AllPairs IsListBefore (choice_lists instance paths)
+  pub once : (instance : Instance) (paths : List ℕ) → AllPairs (λ a b. a ≢ b) (choice_lists instance paths)
+  pub count : (instance : Instance) (paths : List ℕ) → length (choice_lists instance paths) ≡ ways instance paths

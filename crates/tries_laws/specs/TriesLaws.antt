@@ -1,0 +1,32 @@
+-- What holds of tries.
+use Rattle.std.specs.Prelude.{◌≡◌, ◌≢◌, ℕ, ◌-◌, ◌<◌, ◌≤◌, List, length, drop, take, All, AllPairs, Contains}
+use Rattle.fapp_model.specs.declared.instance.Instance.{Instance}
+use Rattle.fapp_model.specs.declared.literal.Literal.{Literal}
+use Rattle.fapp_model.specs.declared.triple.Triple.{Triple}
+use Rattle.fapp_model.specs.Dead.{Dead}
+use Rattle.fapp_model.specs.Prefixes.{GoesOn, IsPrefix, lists_along}
+use Rattle.fapp_model.specs.Tries.{IsTries}
+use Rattle.fapp_model.specs.WorkOrder.{work_order}
+
+-- A prefix has at most one number of tries at a tag.
+abbrev pub OneNumberOfTries : Type 0
+OneNumberOfTries = (instance : Instance) (t : Triple) (prefix : List Literal) (m n : ℕ) →
+    IsTries instance t prefix m → IsTries instance t prefix n → m ≡ n
+
+-- prefixes that go on from one, none dead at a tag, and with each longer one also the one that is one shorter
+pub record AreTried (instance : Instance) (t : Triple) (prefix : List Literal) (tried : List (List Literal)) : Type 0 where
+  pub apart : AllPairs (λ a b. a ≢ b) tried
+  pub prefixes : All (IsPrefix instance) tried
+  pub go_on : All (GoesOn prefix) tried
+  pub alive : All (λ literals. Dead instance t literals → ⊥) tried
+  pub closed : All (λ literals. length prefix < length literals → Contains tried (take (length literals - 1) literals)) tried
+
+-- Tries count prefixes: of prefixes that are not dead, with each the ones before it, there are at most so many.
+abbrev pub TriesCountPrefixes : Type 0
+TriesCountPrefixes = (instance : Instance) (t : Triple) (prefix : List Literal) (tried : List (List Literal)) (n : ℕ) →
+    IsPrefix instance prefix → IsTries instance t prefix n → AreTried instance t prefix tried → length tried ≤ n
+
+-- Tries are at most the prefixes that go on from a prefix: so many lists of choices follow it along the work order.
+abbrev pub TriesAtMostPrefixes : Type 0
+TriesAtMostPrefixes = (instance : Instance) (t : Triple) (prefix : List Literal) (n : ℕ) →
+    IsTries instance t prefix n → n ≤ length (lists_along instance (drop (length prefix) (work_order instance)))

@@ -1,0 +1,21 @@
+ghost use Rattle.tries_laws.specs.JobLaws.{DepthIsGreatest, JobsByNumber, PrefixesAreAll, TargetsAreTags};
+
+/// A job's target is a tag.
+pub fn targets_are_tags()
+    ensures { TargetsAreTags }
+{}
+
+/// The depth is the greatest number of paths that have few enough ways to choose.
+pub fn depth_is_greatest()
+    ensures { DepthIsGreatest }
+{}
+
+/// The prefixes of jobs are all of the depth's length.
+pub fn prefixes_are_all()
+    ensures { PrefixesAreAll }
+{}
+
+/// Jobs and their numbers.
+pub fn jobs_by_number()
+    ensures { JobsByNumber }
+{}
