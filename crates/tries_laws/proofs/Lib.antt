@@ -7,3 +7,4 @@ pub mod PrefixParts
 pub mod Sums
 pub mod TriesParts
 pub mod TriesCounts
+pub mod Decided
