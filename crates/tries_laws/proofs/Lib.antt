@@ -8,3 +8,4 @@ pub mod Sums
 pub mod TriesParts
 pub mod TriesCounts
 pub mod Decided
+pub mod ArcTables
