@@ -9,3 +9,5 @@ pub mod TriesParts
 pub mod TriesCounts
 pub mod Decided
 pub mod ArcTables
+pub mod DeadDecided
+pub mod LineParts

@@ -2,3 +2,4 @@ pub mod OrderLaws
 pub mod PrefixLaws
 pub mod JobLaws
 pub mod TriesLaws
+pub mod LineLaws

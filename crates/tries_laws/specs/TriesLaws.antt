@@ -1,5 +1,5 @@
 -- What holds of tries.
-use Rattle.std.specs.Prelude.{◌≡◌, ◌≢◌, ℕ, ◌-◌, ◌<◌, ◌≤◌, List, length, drop, take, All, AllPairs, Contains}
+use Rattle.std.specs.Prelude.{◌≡◌, ◌≢◌, ◌⊎◌, ℕ, ◌-◌, ◌<◌, ◌≤◌, List, length, drop, take, All, AllPairs, Contains}
 use Rattle.fapp_model.specs.declared.instance.Instance.{Instance}
 use Rattle.fapp_model.specs.declared.literal.Literal.{Literal}
 use Rattle.fapp_model.specs.declared.triple.Triple.{Triple}
@@ -8,10 +8,16 @@ use Rattle.fapp_model.specs.Prefixes.{GoesOn, IsPrefix, lists_along}
 use Rattle.fapp_model.specs.Tries.{IsTries}
 use Rattle.fapp_model.specs.WorkOrder.{work_order}
 
--- A prefix has at most one number of tries at a tag.
-abbrev pub OneNumberOfTries : Type 0
-OneNumberOfTries = (instance : Instance) (t : Triple) (prefix : List Literal) (m n : ℕ) →
-    IsTries instance t prefix m → IsTries instance t prefix n → m ≡ n
+-- It is decided whether literals are dead at a tag.
+abbrev pub DeadIsDecided : Type 0
+DeadIsDecided = (instance : Instance) (t : Triple) (literals : List Literal) →
+    Dead instance t literals ⊎ (Dead instance t literals → ⊥)
+
+-- A prefix has one number of tries at a tag.
+pub record OneNumberOfTries : Type 0 where
+  pub some : (instance : Instance) (t : Triple) (prefix : List Literal) → (n : ℕ) × IsTries instance t prefix n
+  pub one : (instance : Instance) (t : Triple) (prefix : List Literal) (m n : ℕ) →
+      IsTries instance t prefix m → IsTries instance t prefix n → m ≡ n
 
 -- prefixes that go on from one, none dead at a tag, and with each longer one also the one that is one shorter
 pub record AreTried (instance : Instance) (t : Triple) (prefix : List Literal) (tried : List (List Literal)) : Type 0 where

@@ -1,3 +1,4 @@
+ghost use Rattle.tries_laws.specs.LineLaws.{OneMostLines};
 ghost use Rattle.tries_laws.specs.JobLaws.{DepthIsGreatest, JobsByNumber, PrefixesAreAll, TargetsAreTags};
 
 /// A job's target is a tag.
@@ -19,3 +20,9 @@ pub fn prefixes_are_all()
 pub fn jobs_by_number()
     ensures { JobsByNumber }
 {}
+
+/// The bound on lines is one number.
+pub fn one_most_lines()
+    ensures { OneMostLines }
+{
+}

@@ -1,6 +1,12 @@
-ghost use Rattle.tries_laws.specs.TriesLaws.{OneNumberOfTries, TriesAtMostPrefixes, TriesCountPrefixes};
+ghost use Rattle.tries_laws.specs.TriesLaws.{DeadIsDecided, OneNumberOfTries, TriesAtMostPrefixes, TriesCountPrefixes};
 
-/// A prefix has at most one number of tries at a tag.
+/// It is decided whether literals are dead at a tag.
+pub fn dead_is_decided()
+    ensures { DeadIsDecided }
+{
+}
+
+/// A prefix has one number of tries at a tag.
 pub fn one_number_of_tries()
     ensures { OneNumberOfTries }
 {}
