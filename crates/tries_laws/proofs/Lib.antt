@@ -11,3 +11,5 @@ pub mod Decided
 pub mod ArcTables
 pub mod DeadDecided
 pub mod LineParts
+pub mod ListPlaces
+pub mod PlanPrefixes

@@ -1,7 +1,7 @@
 -- Lists of choices along paths: which there are, and that each stands once.
-use Rattle.std.proofs.Common.{◌≡◌, ◌≢◌, ℕ, suc, ◌+◌, ◌*◌, ◌<◌, List, [], ◌∷◌, length, map, AllPairs, Contains, sum_by, refl, ap, sym, ◌∙◌, subst, inl, inr, ⊎_elim, arith}
+use Rattle.std.proofs.Common.{◌≡◌, ◌≢◌, ℕ, suc, ◌+◌, ◌*◌, ◌<◌, List, [], ◌∷◌, length, map, flat_map, AllPairs, Contains, sum_by, refl, ap, sym, ◌∙◌, subst, inl, inr, ⊎_elim, arith}
 use Rattle.std.specs.List.{range_with_len}
-use Rattle.std.proofs.lemmas.List.{length-map}
+use Rattle.std.proofs.lemmas.List.{length-append, length-map}
 use Rattle.std.proofs.lemmas.List.Concat.{length-flat_map}
 use Rattle.std.proofs.lemmas.List.FromFn.{length-range_with_len}
 use Rattle.std.proofs.lemmas.List.Sums.{sum_by-cons}
@@ -17,10 +17,6 @@ use Rattle.tries_laws.proofs.Pairs.{pairs-nil, pairs-cons, pairs-map, pairs-flat
 -- a literal by its parts
 by_parts : (a : Literal) (path : ℕ) → a.path ≡ path → literal path a.choice ≡ a
 by_parts a path e = ap (λ p. literal p a.choice) (sym e)
-
-sum_by-constant : {X : Type 0} (n : ℕ) (xs : List X) → sum_by (λ x. n) xs ≡ length xs * n
-sum_by-constant n [] = omega arith
-sum_by-constant n (x ∷ xs) = omega (arith, sum_by-cons (λ y. n) x xs, sum_by-constant n xs)
 
 -- members of the lists that one choice of a path begins
 pub in-one_more : (instance : Instance) (path index : ℕ) (lists : List (List Literal)) (more : List Literal) → index < count_at instance path → Contains lists more → Contains (one_more instance path lists) (literal path index ∷ more)
@@ -42,18 +38,15 @@ from-one_more instance path lists literals m =
     let back = from-map (λ rest. literal path found.0 ∷ rest) lists literals found.2 in
     record { index = found.0; more = back.0; below = from-range (count_at instance path) found.0 found.1; member = back.1; is = back.2 }
 
+-- how many lists some choices of a path begin
+pub length-pieces : (path : ℕ) (lists : List (List Literal)) (is : List ℕ) → length (flat_map (λ i. map (λ rest. literal path i ∷ rest) lists) is) ≡ length is * length lists
+length-pieces path lists [] = omega arith
+length-pieces path lists (i ∷ is) =
+    omega (arith, length-append (map (λ rest. literal path i ∷ rest) lists) (flat_map (λ j. map (λ rest. literal path j ∷ rest) lists) is), length-map lists (λ rest. literal path i ∷ rest), length-pieces path lists is)
+
 pub length-one_more : (instance : Instance) (path : ℕ) (lists : List (List Literal)) → length (one_more instance path lists) ≡ count_at instance path * length lists
 length-one_more instance path lists =
-    let count = count_at instance path in
-    let f : ℕ → List (List Literal) = λ i. map (λ rest. literal path i ∷ rest) lists in
-    length-flat_map f (range_with_len 0 count)
-    ∙ (same_sum f (range_with_len 0 count)
-    ∙ (sum_by-constant (length lists) (range_with_len 0 count)
-    ∙ ap (λ n. n * length lists) (length-range_with_len 0 count)))
-  where
-    same_sum : (f : ℕ → List (List Literal)) (is : List ℕ) → sum_by (λ i. length (map (λ rest. literal path i ∷ rest) lists)) is ≡ sum_by (λ i. length lists) is
-    same_sum f [] = refl
-    same_sum f (i ∷ is) = omega (arith, sum_by-cons (λ j. length (map (λ rest. literal path j ∷ rest) lists)) i is, sum_by-cons (λ j. length lists) i is, length-map lists (λ rest. literal path i ∷ rest), same_sum f is)
+    length-pieces path lists (range_with_len 0 (count_at instance path)) ∙ ap (λ n. n * length lists) (length-range_with_len 0 (count_at instance path))
 
 -- what holds of each two of the lists holds of each two that one choice begins
 pairs-one_more : (R : List Literal → List Literal → Type 0) (instance : Instance) (path : ℕ) (lists : List (List Literal)) → ((i : ℕ) (more others : List Literal) → R more others → R (literal path i ∷ more) (literal path i ∷ others)) → ((i j : ℕ) (more others : List Literal) → i < j → R (literal path i ∷ more) (literal path j ∷ others)) → AllPairs R lists → AllPairs R (one_more instance path lists)

@@ -1,9 +1,12 @@
 -- What holds of jobs.
-use Rattle.std.specs.Prelude.{◌≡◌, ◌↔◌, ℕ, ◌<◌, ◌≤◌, List, [], length, take, slice_index_or, AllPairs, Contains}
+use Rattle.std.specs.Prelude.{◌≡◌, ◌≢◌, ◌↔◌, ℕ, ◌<◌, ◌≤◌, List, [], length, take, slice_index_or, AllPairs, Contains}
 use Rattle.fapp_model.specs.declared.instance.Instance.{Instance}
 use Rattle.fapp_model.specs.declared.literal.Literal.{Literal}
+use Rattle.fapp_model.specs.Assignments.{IsAssignment}
+use Rattle.fapp_model.specs.Instances.{IsInstance}
 use Rattle.fapp_model.specs.Jobs.{IsJob, depth, job_count, job_level, job_number, job_prefix, most_depth, prefixes, target, ways}
 use Rattle.fapp_model.specs.Levels.{levels_of}
+use Rattle.fapp_model.specs.Partials.{Extends}
 use Rattle.fapp_model.specs.Prefixes.{IsListBefore, IsPrefix}
 use Rattle.fapp_model.specs.Tags.{IsTagOf}
 use Rattle.fapp_model.specs.WorkOrder.{work_order}
@@ -23,13 +26,22 @@ pub record DepthIsGreatest : Type 0 where
   pub is : (instance : Instance) (split : ℕ) → 1 ≤ split → IsDepth instance split (depth instance split)
   pub greatest : (instance : Instance) (split d : ℕ) → IsDepth instance split d → d ≤ depth instance split
 
--- The prefixes of jobs are all prefixes as long as the depth, each once and in the order of their choices' indices. There is
--- one, and they are no more than the split number.
+-- The prefixes of jobs are all prefixes as long as the depth, each once and in the order of their choices' indices. There are
+-- no more than the split number, and a valid instance has one.
 pub record PrefixesAreAll : Type 0 where
   pub all : (instance : Instance) (split : ℕ) (literals : List Literal) →
       Contains (prefixes instance split) literals ↔ (IsPrefix instance literals × (length literals ≡ depth instance split))
   pub ordered : (instance : Instance) (split : ℕ) → AllPairs IsListBefore (prefixes instance split)
+  pub once : (instance : Instance) (split : ℕ) → AllPairs (λ a b. a ≢ b) (prefixes instance split)
   pub few : (instance : Instance) (split : ℕ) → 1 ≤ split → length (prefixes instance split) ≤ split
+  pub some : (instance : Instance) (split : ℕ) → IsInstance instance → 0 < length (prefixes instance split)
+
+-- Each assignment extends one prefix of the jobs.
+pub record AssignmentsHavePrefixes : Type 0 where
+  pub some : (instance : Instance) (split : ℕ) (plan : List ℕ) → IsAssignment instance plan →
+      (prefix : List Literal) × Contains (prefixes instance split) prefix × Extends plan prefix
+  pub one : (instance : Instance) (split : ℕ) (plan : List ℕ) (a b : List Literal) → Contains (prefixes instance split) a →
+      Contains (prefixes instance split) b → Extends plan a → Extends plan b → a ≡ b
 
 -- Each number below the count is that of one job, and each job has one such number.
 pub record JobsByNumber : Type 0 where

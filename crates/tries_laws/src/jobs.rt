@@ -1,5 +1,5 @@
 ghost use Rattle.tries_laws.specs.LineLaws.{OneMostLines};
-ghost use Rattle.tries_laws.specs.JobLaws.{DepthIsGreatest, JobsByNumber, PrefixesAreAll, TargetsAreTags};
+ghost use Rattle.tries_laws.specs.JobLaws.{AssignmentsHavePrefixes, DepthIsGreatest, JobsByNumber, PrefixesAreAll, TargetsAreTags};
 
 /// A job's target is a tag.
 pub fn targets_are_tags()
@@ -15,6 +15,12 @@ pub fn depth_is_greatest()
 pub fn prefixes_are_all()
     ensures { PrefixesAreAll }
 {}
+
+/// Each assignment extends one prefix of the jobs.
+pub fn assignments_have_prefixes()
+    ensures { AssignmentsHavePrefixes }
+{
+}
 
 /// Jobs and their numbers.
 pub fn jobs_by_number()

@@ -1,4 +1,4 @@
-ghost use Rattle.tries_laws.specs.PrefixLaws.{ChoiceListsAreAll, ListsAlongAreAll, PrefixesArePartial};
+ghost use Rattle.tries_laws.specs.PrefixLaws.{ChoiceListsAreAll, ChoiceListsByPlace, ListsAlongAreAll, ListsAlongByLength, PrefixesArePartial};
 
 /// A prefix is a partial assignment.
 pub fn prefixes_are_partial()
@@ -14,3 +14,15 @@ pub fn lists_along_are_all()
 pub fn choice_lists_are_all()
     ensures { ChoiceListsAreAll }
 {}
+
+/// The list of choices of all of some paths at a place.
+pub fn choice_lists_by_place()
+    ensures { ChoiceListsByPlace }
+{
+}
+
+/// How many lists of choices there are along the first few of some paths.
+pub fn lists_along_by_length()
+    ensures { ListsAlongByLength }
+{
+}
