@@ -1,9 +1,9 @@
 -- The arcs of a level as a table: what is left where choices without a partner go, until none goes.
-use Rattle.std.proofs.Common.{◌≡◌, ◌⊎◌, ℕ, zero, suc, ◌+◌, ◌<◌, ◌≤◌, Bool, true, false, cond, not, ◌&&◌, ◌||◌, ltb, eqb, List, [], ◌∷◌, length, get_or, map, flat_map, All, Contains, IsTrue, Decides, sum_by, count_by, refl, sym, ap, ◌∙◌, subst, inl, inr, ⊎_elim, arith}
-use Rattle.std.specs.List.{list_any, list_all, range_with_len, AllPass}
-use Rattle.std.proofs.lemmas.Bool.{cases_Bool, cases_lt, and_parts, and_from, or_cases, or_left, or_right, ltb-true, lt-ltb, eqb-true, eq-eqb, not-true, not_from_false, both_ways}
-use Rattle.std.proofs.lemmas.List.Elements.{All-head, All-tail, All-contains}
-use Rattle.std.proofs.lemmas.List.Sums.{sum_by-cons, AllPass-from_list_all, list_all-from_AllPass, count_by-le-length}
+use Rattle.std.proofs.Common.{◌≡◌, ℕ, zero, suc, ◌<◌, ◌≤◌, Bool, true, false, cond, not, ◌&&◌, ◌||◌, ltb, eqb, List, [], ◌∷◌, length, map, flat_map, Contains, Decides, count_by, refl, ap, ◌∙◌, subst, inl, inr, ⊎_elim, arith}
+use Rattle.std.specs.List.{list_any, list_all, range_with_len}
+use Rattle.std.proofs.lemmas.Bool.{cases_Bool, cases_lt, and_parts, and_from, or_cases, or_left, or_right, ltb-true, lt-ltb, eqb-true, not-true, not_from_false, both_ways}
+use Rattle.std.proofs.lemmas.List.Elements.{All-contains}
+use Rattle.std.proofs.lemmas.List.Sums.{sum_by-cons, AllPass-from_list_all, list_all-from_AllPass}
 use Rattle.fapp_model.specs.declared.instance.Instance.{Instance}
 use Rattle.fapp_model.specs.declared.literal.Literal.{Literal}
 use Rattle.fapp_model.specs.declared.record.Record.{Record}
@@ -12,7 +12,7 @@ use Rattle.fapp_model.specs.Assignments.{count_at}
 use Rattle.fapp_model.specs.Clashes.{joins, shares_record, clashes}
 use Rattle.fapp_model.specs.Partials.{literal, IsLiteral}
 use Rattle.fapp_model.specs.Records.{first_path, second_path}
-use Rattle.tries_laws.proofs.Members.{at_front, behind, no_member, front_or_behind, in-map, in-flat_map, in-range, from-range, All-from_members}
+use Rattle.tries_laws.proofs.Members.{at_front, behind, no_member, front_or_behind, in-map, in-flat_map, in-range, All-from_members}
 use Rattle.tries_laws.proofs.Decided.{IsDecided, any-some, some-any}
 use Rattle.tries_laws.proofs.Sums.{sum-le}
 
@@ -113,7 +113,7 @@ module _ (instance : Instance) (level : ℕ) where
   kept-supported : (family : Literal → Bool) (a : Literal) (path : ℕ) → is_kept family a ≡ true → shares_record instance a.path path ≡ true → HasPartner instance level family a path
   kept-supported family a path h shares =
       let here = All-contains (λ p. (not (shares_record instance a.path p) || has_partner family a p) ≡ true) named path
-          (AllPass-from_list_all (λ p. not (shares_record instance a.path p) || has_partner family a p) named h) (shares-named a.path path shares) in
+      (AllPass-from_list_all (λ p. not (shares_record instance a.path p) || has_partner family a p) named h) (shares-named a.path path shares) in
       ⊎_elim
       (λ apart. absurd (both_ways (shares_record instance a.path path) (not-true (shares_record instance a.path path) apart) shares))
       (λ partner. partner-is family a path partner)

@@ -1,6 +1,5 @@
 -- It is decided whether literals are dead.
-use Rattle.std.proofs.Common.{◌≡◌, ◌⊎◌, ℕ, ◌+◌, ◌<◌, ◌≤◌, Bool, true, false, cond, List, length, Contains, IsTrue, sum_by, refl, sym, ap, ap₂, ◌∙◌, subst, inl, inr, ⊎_elim, arith}
-use Rattle.std.specs.List.{range_with_len}
+use Rattle.std.proofs.Common.{◌≡◌, ◌⊎◌, ℕ, ◌+◌, ◌<◌, ◌≤◌, true, false, cond, List, length, Contains, IsTrue, refl, ap, ap₂, ◌∙◌, subst, inl, inr, ⊎_elim, arith}
 use Rattle.std.proofs.lemmas.Bool.{cases_Bool, cases_lt, cases_eq, both_ways}
 use Rattle.fapp_model.specs.declared.instance.Instance.{Instance}
 use Rattle.fapp_model.specs.declared.literal.Literal.{Literal}
@@ -8,7 +7,7 @@ use Rattle.fapp_model.specs.declared.triple.Triple.{Triple}
 use Rattle.fapp_model.specs.Arcs.{OutsideArc}
 use Rattle.fapp_model.specs.Assignments.{count_at}
 use Rattle.fapp_model.specs.Clashes.{clashes, clashes_with}
-use Rattle.fapp_model.specs.Dead.{Dead, DeadBy, Remains, IsLeastAdded, least, clash, outside_literal, no_choice_left, over_limit}
+use Rattle.fapp_model.specs.Dead.{Dead, Remains, IsLeastAdded, least, clash, outside_literal, no_choice_left, over_limit}
 use Rattle.fapp_model.specs.Pairs.{Pair, IsPairAtMost, limit_of}
 use Rattle.fapp_model.specs.Partials.{literal, names}
 use Rattle.fapp_model.specs.Tags.{least_tag, has_limit, mode_level}
@@ -147,10 +146,13 @@ module _ (instance : Instance) (t : Triple) (literals : List Literal) where
   refuted no_least no_clash no_outside no_emptied no_sum (clash a b ma mb h) = no_clash a ma (b, mb, h)
   refuted no_least no_clash no_outside no_emptied no_sum (outside_literal a m h) = no_outside a m h
   refuted no_least no_clash no_outside no_emptied no_sum (no_choice_left path l open_path each) =
-      no_emptied path l (open_path, λ index small remains. ⊎_elim
-      (λ outside. remains.kept outside)
-      (λ bad. both_ways (clashes_with instance (mode_level t) literals (literal path index)) remains.free bad)
-      (each index small))
+      no_emptied path l (
+        open_path,
+        λ index small remains. ⊎_elim
+            (λ outside. remains.kept outside)
+            (λ bad. both_ways (clashes_with instance (mode_level t) literals (literal path index)) remains.free bad)
+            (each index small),
+      )
   refuted no_least no_clash no_outside no_emptied no_sum (over_limit some other each most) = no_sum some other each most
 
   by_sum : (t ≡ least_tag → ⊥) → ((a : Literal) → Contains literals a → HasClash a → ⊥) → ((a : Literal) → Contains literals a → Outside a → ⊥) → ((path : ℕ) → path < length instance.paths → IsEmptied path → ⊥) → IsDecided (Dead instance t literals)

@@ -1,7 +1,7 @@
 -- What is decided: a search below a number or in a list, the least of some pairs.
-use Rattle.std.proofs.Common.{◌≡◌, ◌⊎◌, ℕ, zero, suc, ◌+◌, ◌<◌, ◌≤◌, Bool, true, false, ◌||◌, List, [], ◌∷◌, length, Contains, refl, sym, ap, ap₂, ◌∙◌, subst, inl, inr, ⊎_elim, arith}
+use Rattle.std.proofs.Common.{◌≡◌, ◌⊎◌, ℕ, zero, suc, ◌<◌, Bool, true, List, [], ◌∷◌, Contains, refl, sym, ap, ap₂, ◌∙◌, subst, inl, inr, ⊎_elim, arith}
 use Rattle.std.specs.List.{list_any}
-use Rattle.std.proofs.lemmas.Bool.{cases_lt, cases_order, cases_eq, or_cases, or_left, or_right, true≢false}
+use Rattle.std.proofs.lemmas.Bool.{cases_lt, cases_order, or_cases, or_left, or_right, true≢false}
 use Rattle.fapp_model.specs.Pairs.{Pair, IsPairAtMost}
 use Rattle.tries_laws.proofs.Members.{at_front, behind, front_or_behind, no_member}
 
@@ -86,6 +86,7 @@ pair-decided p q = ⊎_elim
     below : (p q : Pair) → p.v ≡ q.v → q.s < p.s → IsPairAtMost p q → ⊥
     below p q e l (inl h) = absurd (omega arith)
     below p q e l (inr h) = absurd (let k = h.1 in omega arith)
+
     above : (p q : Pair) → q.v < p.v → IsPairAtMost p q → ⊥
     above p q l (inl h) = absurd (omega arith)
     above p q l (inr h) = absurd (let k = h.0 in omega arith)

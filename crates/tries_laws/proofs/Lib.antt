@@ -13,3 +13,6 @@ pub mod DeadDecided
 pub mod LineParts
 pub mod ListPlaces
 pub mod PlanPrefixes
+pub mod AlivePlans
+pub mod FreePaths
+pub mod TwoPaths

@@ -1,5 +1,5 @@
 -- Lists of choices by place and by length.
-use Rattle.std.proofs.Common.{◌≡◌, ◌⊎◌, ℕ, zero, suc, ◌+◌, ◌*◌, ◌/◌, ◌%◌, ◌<◌, ◌≤◌, List, [], ◌∷◌, ◌++◌, length, get_or, take, map, flat_map, All, sum_by, refl, ap, sym, ◌∙◌, subst, inl, inr, ⊎_elim, arith, mul_comm, mul-pos, add-one, length-take-le}
+use Rattle.std.proofs.Common.{◌≡◌, ℕ, zero, suc, ◌+◌, ◌*◌, ◌/◌, ◌%◌, ◌<◌, List, [], ◌∷◌, length, get_or, take, map, flat_map, All, sum_by, refl, ap, sym, ◌∙◌, inl, inr, ⊎_elim, arith, mul-pos, add-one, length-take-le}
 use Rattle.std.specs.List.{range_with_len}
 use Rattle.std.proofs.lemmas.List.{get_or-map, length-map}
 use Rattle.std.proofs.lemmas.List.Concat.{get_or-flat_map}
@@ -28,7 +28,7 @@ piece_at instance path lists i j l m =
     let f : ℕ → List (List Literal) = λ k. map (λ rest. literal path k ∷ rest) lists in
     let at : get_or (range_with_len 0 count) i 0 ≡ i = omega (arith, get_or-range_with_len 0 count i 0 l) in
     let before : length (flat_map f (take i (range_with_len 0 count))) ≡ i * length lists =
-        length-pieces path lists (take i (range_with_len 0 count)) ∙ ap (λ n. n * length lists) (length-take-le i (range_with_len 0 count) (omega (arith, length-range_with_len 0 count))) in
+    length-pieces path lists (take i (range_with_len 0 count)) ∙ ap (λ n. n * length lists) (length-take-le i (range_with_len 0 count) (omega (arith, length-range_with_len 0 count))) in
     let wide : j < length (f (get_or (range_with_len 0 count) i 0)) = omega (arith, length-map lists (λ rest. literal path (get_or (range_with_len 0 count) i 0) ∷ rest)) in
     let whole = get_or-flat_map f (range_with_len 0 count) i j 0 [] (omega (arith, length-range_with_len 0 count)) wide in
     ap (λ n. get_or (one_more instance path lists) (n + j) []) (sym before)
@@ -45,7 +45,7 @@ list_at_place instance path paths place l =
     let i : place / w < count = div_below place w count some l in
     let j : place % w < w = mod_below place w some in
     let whole : place / w * length (choice_lists instance paths) + place % w ≡ place =
-        ap (λ n. place / w * n + place % w) long ∙ div-add-mod' place w in
+    ap (λ n. place / w * n + place % w) long ∙ div-add-mod' place w in
     ap (λ n. get_or (choice_lists instance (path ∷ paths)) n []) (sym whole)
     ∙ piece_at instance path (choice_lists instance paths) (place / w) (place % w) i (omega arith)
   where
@@ -72,13 +72,13 @@ length-by_length instance (path ∷ paths) =
     let g : ℕ → ℕ = λ n. length (choice_lists instance (take n paths)) in
     let long : suc (length paths) + 1 ≡ suc (length paths + 1) = omega arith in
     let unfold_one : sum_by f (range_with_len 0 (suc (length paths + 1))) ≡ 1 + sum_by f (range_with_len (0 + 1) (length paths + 1)) =
-        sum_by-cons f 0 (range_with_len (0 + 1) (length paths + 1)) in
+    sum_by-cons f 0 (range_with_len (0 + 1) (length paths + 1)) in
     let each : sum_by (λ k. f (k + 1)) (range_with_len 0 (length paths + 1)) ≡ sum_by (λ k. count_at instance path * g k) (range_with_len 0 (length paths + 1)) =
-        sum-same (λ k. f (k + 1)) (λ k. count_at instance path * g k) (range_with_len 0 (length paths + 1)) (λ k d l. step instance path paths (get_or (range_with_len 0 (length paths + 1)) k d)) in
+    sum-same (λ k. f (k + 1)) (λ k. count_at instance path * g k) (range_with_len 0 (length paths + 1)) (λ k d l. step instance path paths (get_or (range_with_len 0 (length paths + 1)) k d)) in
     let scale = scaled (count_at instance path) g (range_with_len 0 (length paths + 1)) in
     let shift = shifted f 0 (length paths + 1) in
     let rest : count_at instance path * length (lists_along instance paths) ≡ count_at instance path * sum_by g (range_with_len 0 (length paths + 1)) =
-        ap (λ n. count_at instance path * n) (length-by_length instance paths) in
+    ap (λ n. count_at instance path * n) (length-by_length instance paths) in
     let whole = length-lists_along instance path paths in
     let total : length (lists_along instance (path ∷ paths)) ≡ sum_by f (range_with_len 0 (suc (length paths + 1))) = omega arith in
     total ∙ ap (λ n. sum_by f (range_with_len 0 n)) (sym long)

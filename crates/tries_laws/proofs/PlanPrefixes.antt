@@ -1,13 +1,13 @@
 -- Each assignment extends one prefix of the jobs.
-use Rattle.std.proofs.Common.{◌≡◌, ◌⊎◌, ℕ, zero, suc, ◌+◌, ◌<◌, ◌≤◌, List, [], ◌∷◌, length, get_or, take, map, All, Contains, refl, ap, sym, ◌∙◌, subst, arith}
+use Rattle.std.proofs.Common.{◌≡◌, ℕ, ◌<◌, List, [], ◌∷◌, length, get_or, take, map, All, Contains, refl, ap, sym, ◌∙◌, arith}
 use Rattle.std.proofs.lemmas.List.{length-map}
 use Rattle.std.proofs.lemmas.List.Elements.{All-head, All-tail, All-map, All-take}
 use Rattle.fapp_model.specs.declared.instance.Instance.{Instance}
 use Rattle.fapp_model.specs.declared.literal.Literal.{Literal}
-use Rattle.fapp_model.specs.Assignments.{IsAssignment, count_at}
+use Rattle.fapp_model.specs.Assignments.{IsAssignment}
 use Rattle.fapp_model.specs.Jobs.{depth, prefixes}
 use Rattle.fapp_model.specs.Partials.{Extends, literal}
-use Rattle.fapp_model.specs.Prefixes.{IsAlong, choice_lists}
+use Rattle.fapp_model.specs.Prefixes.{IsAlong}
 use Rattle.fapp_model.specs.WorkOrder.{work_order}
 use Rattle.tries_laws.proofs.Lists.{in-choice_lists, from-choice_lists}
 use Rattle.tries_laws.proofs.WorkOrders.{order-is}
@@ -24,10 +24,11 @@ literals-along instance plan (path ∷ paths) h small =
 pub plan-prefix : (instance : Instance) (split : ℕ) (plan : List ℕ) → IsAssignment instance plan → (prefix : List Literal) × Contains (prefixes instance split) prefix × Extends plan prefix
 plan-prefix instance split plan h =
     let paths : List ℕ = take (depth instance split) (work_order instance) in
-    let small : All (λ p. p < length instance.paths) paths = All-take (λ p. p < length instance.paths) (depth instance split) (work_order instance) (order-is instance).in_range in
-    (literals_of plan paths,
-    in-choice_lists instance paths (literals_of plan paths) (literals-along instance plan paths h small) (length-map paths (λ path. literal path (get_or plan path 0))),
-    All-map (λ a. get_or plan a.path 0 ≡ a.choice) (λ path. literal path (get_or plan path 0)) paths (λ k d l. refl))
+    let small : All (λ p. p < length instance.paths) paths = All-take (λ p. p < length instance.paths) (depth instance split) (work_order instance) (order-is instance).in_range in (
+      literals_of plan paths,
+      in-choice_lists instance paths (literals_of plan paths) (literals-along instance plan paths h small) (length-map paths (λ path. literal path (get_or plan path 0))),
+      All-map (λ a. get_or plan a.path 0 ≡ a.choice) (λ path. literal path (get_or plan path 0)) paths (λ k d l. refl),
+    )
 
 same_literals : (instance : Instance) (plan paths : List ℕ) (a b : List Literal) → IsAlong instance paths a → IsAlong instance paths b → length a ≡ length paths → length b ≡ length paths → Extends plan a → Extends plan b → a ≡ b
 same_literals instance plan paths [] [] h k l m e f = refl

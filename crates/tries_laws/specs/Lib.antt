@@ -3,3 +3,5 @@ pub mod PrefixLaws
 pub mod JobLaws
 pub mod TriesLaws
 pub mod LineLaws
+pub mod Networks
+pub mod RowLaws

@@ -19,8 +19,7 @@ pub fn prefixes_are_all()
 /// Each assignment extends one prefix of the jobs.
 pub fn assignments_have_prefixes()
     ensures { AssignmentsHavePrefixes }
-{
-}
+{}
 
 /// Jobs and their numbers.
 pub fn jobs_by_number()
@@ -30,5 +29,4 @@ pub fn jobs_by_number()
 /// The bound on lines is one number.
 pub fn one_most_lines()
     ensures { OneMostLines }
-{
-}
+{}

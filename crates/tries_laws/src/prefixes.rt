@@ -18,11 +18,9 @@ pub fn choice_lists_are_all()
 /// The list of choices of all of some paths at a place.
 pub fn choice_lists_by_place()
     ensures { ChoiceListsByPlace }
-{
-}
+{}
 
 /// How many lists of choices there are along the first few of some paths.
 pub fn lists_along_by_length()
     ensures { ListsAlongByLength }
-{
-}
+{}

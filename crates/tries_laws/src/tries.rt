@@ -3,8 +3,7 @@ ghost use Rattle.tries_laws.specs.TriesLaws.{DeadIsDecided, OneNumberOfTries, Tr
 /// It is decided whether literals are dead at a tag.
 pub fn dead_is_decided()
     ensures { DeadIsDecided }
-{
-}
+{}
 
 /// A prefix has one number of tries at a tag.
 pub fn one_number_of_tries()
