@@ -1,5 +1,5 @@
 -- Partial assignments that name the first few paths of a list, in its order.
-use Rattle.std.specs.Prelude.{◌≡◌, ℕ, ◌<◌, ◌⊎◌, List, [], ◌∷◌, ◌++◌, map, flat_map}
+use Rattle.std.specs.Prelude.{◌≡◌, ℕ, ◌<◌, ◌⊎◌, List, [], ◌∷◌, ◌++◌, length, drop, map, flat_map}
 use Rattle.std.specs.List.{range_with_len}
 use Rattle.fapp_model.specs.declared.instance.Instance.{Instance}
 use Rattle.fapp_model.specs.declared.literal.Literal.{Literal}
@@ -30,6 +30,11 @@ one_more instance path lists = flat_map (λ index. map (λ more. literal path in
 abbrev pub lists_along : Instance → List ℕ → List (List Literal)
 lists_along instance [] = [] ∷ []
 lists_along instance (path ∷ paths) = [] ∷ one_more instance path (lists_along instance paths)
+
+-- all prefixes that go on from a prefix, itself among them
+abbrev pub extensions : Instance → List Literal → List (List Literal)
+extensions instance prefix =
+    map (λ more. prefix ++ more) (lists_along instance (drop (length prefix) (work_order instance)))
 
 -- all lists of choices of all of some paths
 abbrev pub choice_lists : Instance → List ℕ → List (List Literal)

@@ -16,3 +16,4 @@ pub mod PlanPrefixes
 pub mod AlivePlans
 pub mod FreePaths
 pub mod TwoPaths
+pub mod Extensions

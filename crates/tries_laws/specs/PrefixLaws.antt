@@ -5,11 +5,17 @@ use Rattle.fapp_model.specs.declared.instance.Instance.{Instance}
 use Rattle.fapp_model.specs.declared.literal.Literal.{Literal}
 use Rattle.fapp_model.specs.Jobs.{ways}
 use Rattle.fapp_model.specs.Partials.{IsPartial, literal}
-use Rattle.fapp_model.specs.Prefixes.{IsAlong, IsListBefore, IsPrefix, choice_lists, lists_along}
+use Rattle.fapp_model.specs.Prefixes.{GoesOn, IsAlong, IsListBefore, IsPrefix, choice_lists, extensions, lists_along}
 
 -- A prefix is a partial assignment.
 abbrev pub PrefixesArePartial : Type 0
 PrefixesArePartial = (instance : Instance) (prefix : List Literal) → IsPrefix instance prefix → IsPartial instance prefix
+
+-- The extensions of a prefix are all prefixes that go on from it, each once.
+pub record ExtensionsAreAll : Type 0 where
+  pub all : (instance : Instance) (prefix literals : List Literal) → IsPrefix instance prefix →
+      Contains (extensions instance prefix) literals ↔ (IsPrefix instance literals × GoesOn prefix literals)
+  pub once : (instance : Instance) (prefix : List Literal) → AllPairs (λ a b. a ≢ b) (extensions instance prefix)
 
 -- The lists along the first few of some paths are all that there are, each once.
 pub record ListsAlongAreAll : Type 0 where

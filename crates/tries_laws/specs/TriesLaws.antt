@@ -1,10 +1,13 @@
 -- What holds of tries.
-use Rattle.std.specs.Prelude.{◌≡◌, ◌≢◌, ◌⊎◌, ℕ, ◌-◌, ◌<◌, ◌≤◌, List, length, drop, take, All, AllPairs, Contains}
+use Rattle.std.specs.Prelude.{◌≡◌, ◌≢◌, ◌⊎◌, ℕ, ◌+◌, ◌-◌, ◌<◌, ◌≤◌, Some, List, [], ◌∷◌, ◌++◌, length, take, slice_get, sum_by, All, AllPairs, Contains}
+use Rattle.std.specs.List.{range_with_len}
 use Rattle.fapp_model.specs.declared.instance.Instance.{Instance}
 use Rattle.fapp_model.specs.declared.literal.Literal.{Literal}
 use Rattle.fapp_model.specs.declared.triple.Triple.{Triple}
+use Rattle.fapp_model.specs.Assignments.{count_at}
 use Rattle.fapp_model.specs.Dead.{Dead}
-use Rattle.fapp_model.specs.Prefixes.{GoesOn, IsPrefix, lists_along}
+use Rattle.fapp_model.specs.Partials.{literal}
+use Rattle.fapp_model.specs.Prefixes.{GoesOn, IsPrefix, extensions}
 use Rattle.fapp_model.specs.Tries.{IsTries}
 use Rattle.fapp_model.specs.WorkOrder.{work_order}
 
@@ -32,7 +35,18 @@ abbrev pub TriesCountPrefixes : Type 0
 TriesCountPrefixes = (instance : Instance) (t : Triple) (prefix : List Literal) (tried : List (List Literal)) (n : ℕ) →
     IsPrefix instance prefix → IsTries instance t prefix n → AreTried instance t prefix tried → length tried ≤ n
 
--- Tries are at most the prefixes that go on from a prefix: so many lists of choices follow it along the work order.
+-- Tries are at most the prefixes that go on from a prefix.
 abbrev pub TriesAtMostPrefixes : Type 0
 TriesAtMostPrefixes = (instance : Instance) (t : Triple) (prefix : List Literal) (n : ℕ) →
-    IsTries instance t prefix n → n ≤ length (lists_along instance (drop (length prefix) (work_order instance)))
+    IsTries instance t prefix n → n ≤ length (extensions instance prefix)
+
+-- Tries go from a prefix to the next path of the work order: none where the prefix is dead, else one and those of each choice
+-- of that path, or one where no path is left.
+pub record TriesByNext : Type 0 where
+  pub dead : (instance : Instance) (t : Triple) (prefix : List Literal) → Dead instance t prefix → IsTries instance t prefix 0
+  pub last : (instance : Instance) (t : Triple) (prefix : List Literal) → (Dead instance t prefix → ⊥) →
+      length instance.paths ≤ length prefix → IsTries instance t prefix 1
+  pub next : (instance : Instance) (t : Triple) (prefix : List Literal) (path : ℕ) (tries : ℕ → ℕ) →
+      (Dead instance t prefix → ⊥) → slice_get (work_order instance) (length prefix) ≡ Some path →
+      ((index : ℕ) → index < count_at instance path → IsTries instance t (prefix ++ literal path index ∷ []) (tries index)) →
+      IsTries instance t prefix (1 + sum_by tries (range_with_len 0 (count_at instance path)))

@@ -14,13 +14,14 @@ pub use jobs::{
 };
 pub use order::one_work_order;
 pub use prefixes::{
-    choice_lists_are_all, choice_lists_by_place, lists_along_are_all, lists_along_by_length,
-    prefixes_are_partial,
+    choice_lists_are_all, choice_lists_by_place, extensions_are_all, lists_along_are_all,
+    lists_along_by_length, prefixes_are_partial,
 };
 pub use rows::{
     free_tries, most_paths_tries, one_path_jobs, small_network_order, three_alike_jobs,
     two_paths_tries,
 };
 pub use tries::{
-    dead_is_decided, one_number_of_tries, tries_at_most_prefixes, tries_count_prefixes,
+    dead_is_decided, one_number_of_tries, tries_at_most_prefixes, tries_by_next,
+    tries_count_prefixes,
 };

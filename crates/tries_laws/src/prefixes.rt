@@ -1,8 +1,13 @@
-ghost use Rattle.tries_laws.specs.PrefixLaws.{ChoiceListsAreAll, ChoiceListsByPlace, ListsAlongAreAll, ListsAlongByLength, PrefixesArePartial};
+ghost use Rattle.tries_laws.specs.PrefixLaws.{ChoiceListsAreAll, ChoiceListsByPlace, ExtensionsAreAll, ListsAlongAreAll, ListsAlongByLength, PrefixesArePartial};
 
 /// A prefix is a partial assignment.
 pub fn prefixes_are_partial()
     ensures { PrefixesArePartial }
+{}
+
+/// The extensions of a prefix are all that there are.
+pub fn extensions_are_all()
+    ensures { ExtensionsAreAll }
 {}
 
 /// The lists of choices along the first few of some paths.

@@ -1,4 +1,4 @@
-ghost use Rattle.tries_laws.specs.TriesLaws.{DeadIsDecided, OneNumberOfTries, TriesAtMostPrefixes, TriesCountPrefixes};
+ghost use Rattle.tries_laws.specs.TriesLaws.{DeadIsDecided, OneNumberOfTries, TriesAtMostPrefixes, TriesByNext, TriesCountPrefixes};
 
 /// It is decided whether literals are dead at a tag.
 pub fn dead_is_decided()
@@ -18,4 +18,9 @@ pub fn tries_count_prefixes()
 /// Tries are at most as many as the prefixes that go on.
 pub fn tries_at_most_prefixes()
     ensures { TriesAtMostPrefixes }
+{}
+
+/// The tries of a prefix by those of the choices of the next path.
+pub fn tries_by_next()
+    ensures { TriesByNext }
 {}
