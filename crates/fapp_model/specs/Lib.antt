@@ -15,3 +15,8 @@ pub mod Clashes
 pub mod Arcs
 pub mod Weights
 pub mod Dead
+pub mod WorkOrder
+pub mod Prefixes
+pub mod Tries
+pub mod Jobs
+pub mod LineBound

@@ -1,0 +1,9 @@
+use Rattle.std.proofs.Common.{refl}
+use Rattle.fapp_model.specs.Jobs.{depth}
+use Rattle.fapp_model.specs.WorkOrder.{work_order}
+use Rattle.tries_laws.specs.Networks.{one_path}
+use Rattle.tries_laws.proofs.rows.one_path_jobs.Goals as goal
+
+pub returns : goal.returns
+unfolding depth work_order one_path
+returns c = record { depth = refl; prefix = refl; jobs = refl }

@@ -1,0 +1,10 @@
+use Rattle.std.proofs.Common.{refl}
+use Rattle.fapp_model.specs.Jobs.{depth}
+use Rattle.fapp_model.specs.WorkOrder.{work_order}
+use Rattle.tries_laws.specs.Networks.{two_paths}
+use Rattle.tries_laws.proofs.TwoPaths.{two_paths-tries}
+use Rattle.tries_laws.proofs.rows.two_paths_tries.Goals as goal
+
+pub returns : goal.returns
+unfolding depth work_order two_paths
+returns c = record { depth = refl; prefix = refl; level = refl; tries = two_paths-tries }

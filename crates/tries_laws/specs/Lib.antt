@@ -1,0 +1,7 @@
+pub mod OrderLaws
+pub mod PrefixLaws
+pub mod JobLaws
+pub mod TriesLaws
+pub mod LineLaws
+pub mod Networks
+pub mod RowLaws

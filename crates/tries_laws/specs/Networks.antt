@@ -1,0 +1,54 @@
+-- Small networks whose work orders, jobs and tries are known.
+use Rattle.std.specs.Prelude.{ℕ, true, false, List, [], ◌∷◌, ℤ, pos, negsuc, replicate}
+use Rattle.fapp_model.specs.declared.instance.Instance.{Instance}
+use Rattle.fapp_model.specs.declared.instance.Path.{Path}
+use Rattle.fapp_model.specs.declared.record.Record.TheVariants.{Freq, Same, Other}
+
+abbrev pub path_with : ℕ → List ℕ → ℤ → Path
+path_with number freqs polarization = record { number = number; freqs = freqs; pol = polarization }
+
+-- four paths, of which 0 and 2 share more records than 1 and 3
+unfoldable pub small_network : Instance
+small_network = record {
+  paths =
+      path_with 1 (1000 ∷ 1040 ∷ []) (pos 1)
+      ∷ path_with 2 (1100 ∷ 1140 ∷ 1180 ∷ []) (pos 1)
+      ∷ path_with 3 (1000 ∷ 1040 ∷ 1080 ∷ []) (pos 1)
+      ∷ path_with 4 (1100 ∷ 1140 ∷ 1180 ∷ []) (pos 0)
+      ∷ [];
+  records =
+      Freq 0 1 true 100
+      ∷ Freq 2 3 true 100
+      ∷ Freq 0 2 false 0
+      ∷ Same 0 2 (100 ∷ 95 ∷ 90 ∷ 85 ∷ 80 ∷ 75 ∷ 70 ∷ 65 ∷ 60 ∷ 55 ∷ 50 ∷ [])
+      ∷ Other 0 2 (60 ∷ 56 ∷ 52 ∷ 48 ∷ 44 ∷ 40 ∷ 36 ∷ 32 ∷ 28 ∷ 24 ∷ 20 ∷ [])
+      ∷ Same 1 3 (100 ∷ 95 ∷ 90 ∷ 85 ∷ 80 ∷ 75 ∷ 70 ∷ 65 ∷ 60 ∷ 55 ∷ 50 ∷ [])
+      ∷ Other 1 3 (60 ∷ 56 ∷ 52 ∷ 48 ∷ 44 ∷ 40 ∷ 36 ∷ 32 ∷ 28 ∷ 24 ∷ 20 ∷ [])
+      ∷ [];
+}
+
+-- one path with one choice
+unfoldable pub one_path : Instance
+one_path = record { paths = path_with 9 (5 ∷ []) (negsuc 0) ∷ []; records = [] }
+
+-- three paths of two frequencies each, no two of which may have one at any level
+unfoldable pub three_alike : Instance
+three_alike = record {
+  paths =
+      path_with 1 (10 ∷ 20 ∷ []) (pos 1)
+      ∷ path_with 2 (10 ∷ 20 ∷ []) (pos 1)
+      ∷ path_with 3 (10 ∷ 20 ∷ []) (pos 1)
+      ∷ [];
+  records =
+      Same 0 1 (replicate 11 10)
+      ∷ Same 0 2 (replicate 11 10)
+      ∷ Same 1 2 (replicate 11 10)
+      ∷ [];
+}
+
+-- two paths, of which the second has one frequency only
+unfoldable pub two_paths : Instance
+two_paths = record {
+  paths = path_with 1 (10 ∷ 20 ∷ []) (pos 1) ∷ path_with 2 (10 ∷ []) (pos 1) ∷ [];
+  records = Same 0 1 (replicate 11 10) ∷ [];
+}
