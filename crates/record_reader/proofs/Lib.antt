@@ -10,5 +10,4 @@ pub mod Orders
 pub mod Clean
 pub mod Texts
 pub mod Unique
-
 pub mod Validity

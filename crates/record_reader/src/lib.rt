@@ -8,6 +8,8 @@ mod line;
 mod reading;
 mod row;
 mod sheet;
+#[cfg(test)]
+mod tests;
 
 pub use error::ReadError;
 pub use reading::read_instance;
