@@ -11,3 +11,5 @@ pub mod Clean
 pub mod Texts
 pub mod Unique
 pub mod Validity
+pub mod SameInstance
+pub mod Written

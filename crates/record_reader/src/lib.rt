@@ -4,6 +4,7 @@
 mod error;
 mod field;
 mod instance;
+mod laws;
 mod line;
 mod reading;
 mod row;
@@ -12,4 +13,5 @@ mod sheet;
 mod tests;
 
 pub use error::ReadError;
+pub use laws::{each_network_has_a_text, one_network};
 pub use reading::read_instance;
