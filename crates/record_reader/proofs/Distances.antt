@@ -39,8 +39,8 @@ pub rises : (texts : List (List ℕ)) (sofar : List ℕ) (level n : ℕ) → Are
 rises texts sofar level n so_far lt few some short is less dist are e =
     let size : length dist ≡ length texts = omega (arith, ap length e, length-map dist decimal) in
     let before : get_or sofar (level - 1) 0 ≡ get_or dist (level - 1) 0 = decimal_injective (get_or sofar (level - 1) 0) (get_or dist (level - 1) 0)
-          (omega (arith, short_so_far texts sofar level (level - 1) so_far few (omega arith))) (omega (arith, are.numbers (level - 1) 0 (omega arith)))
-          (sym (at_so_far texts sofar level (level - 1) so_far (omega arith) few (omega arith)) ∙ spelled_at texts dist (level - 1) e (omega arith)) in
+    (omega (arith, short_so_far texts sofar level (level - 1) so_far few (omega arith))) (omega (arith, are.numbers (level - 1) 0 (omega arith)))
+    (sym (at_so_far texts sofar level (level - 1) so_far (omega arith) few (omega arith)) ∙ spelled_at texts dist (level - 1) e (omega arith)) in
     let here : n ≡ get_or dist level 0 = decimal_injective n (get_or dist level 0) (omega (arith, short)) (omega (arith, are.numbers level 0 (omega arith))) (sym is ∙ spelled_at texts dist level e lt) in
     omega (arith, are.falling (level - 1) level 0 (omega arith) (omega arith), before, here)
 
@@ -51,16 +51,16 @@ distance_more texts dist level n so_far lt few short is below =
     let size : length front ≡ level = omega (arith, length-take level dist, so_far.size) in
     let more : take (level + 1) (set dist level n) ≡ front ++ n ∷ [] = take_more_set dist level n (omega (arith, so_far.size)) in
     let each : (k d : ℕ) → k < length front → n ≤ get_or front k d = λ k d in_front.
-          let last : n ≤ get_or dist (level - 1) 0 = below (omega (arith, size)) in
-          let this : get_or front k d ≡ get_or dist k d = get_or-take level dist k d (omega (arith, size)) in
-          elim (cases_lt k (level - 1)) [
-            | inl earlier ↦
-              let falls : get_or front (level - 1) d ≤ get_or front k d = so_far.falling k (level - 1) d earlier (omega (arith, size)) in
-              omega (arith, falls, get_or-take level dist (level - 1) d (omega (arith, size)), get_or_default dist (level - 1) d 0 (omega (arith, so_far.size)), last)
-            | inr late ↦
-              let same : k ≡ level - 1 = omega (arith, size) in
-              omega (arith, this, get_or_default dist k d 0 (omega (arith, so_far.size)), ap (λ (i : ℕ). get_or dist i 0) same, last)
-          ] in
+    let last : n ≤ get_or dist (level - 1) 0 = below (omega (arith, size)) in
+    let this : get_or front k d ≡ get_or dist k d = get_or-take level dist k d (omega (arith, size)) in
+    elim (cases_lt k (level - 1)) [
+      | inl earlier ↦
+          let falls : get_or front (level - 1) d ≤ get_or front k d = so_far.falling k (level - 1) d earlier (omega (arith, size)) in
+          omega (arith, falls, get_or-take level dist (level - 1) d (omega (arith, size)), get_or_default dist (level - 1) d 0 (omega (arith, so_far.size)), last)
+      | inr late ↦
+          let same : k ≡ level - 1 = omega (arith, size) in
+          omega (arith, this, get_or_default dist k d 0 (omega (arith, so_far.size)), ap (λ (i : ℕ). get_or dist i 0) same, last)
+    ] in
     record {
       size = length-set dist level n ∙ so_far.size;
       spelled = rw (more, take_more texts level [] lt, is, so_far.spelled) (sym (map_push decimal front n));

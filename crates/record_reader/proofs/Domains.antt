@@ -65,17 +65,17 @@ pub members_push : (front : List DomainRow) (row : DomainRow) (set new : BTreeSe
     → ((q : DomainRow) → Contains set.keys q ↔ Contains front q) → (q : DomainRow) → Contains new.keys q ↔ Contains (front ++ row ∷ []) q
 members_push front row set new u so_far q =
     let there : Contains new.keys q → Contains (front ++ row ∷ []) q = λ has.
-        let known : cond (is_at (row_cmp row) q) true (contains row_cmp set q) ≡ true = sym (u.0 q) ∙ (member new q).1 has in
-        elim (cond_cases (is_at (row_cmp row) q) (contains row_cmp set q) known) [
-          | inl at ↦ subst (λ (x : DomainRow). Contains (front ++ row ∷ []) x) (row_exact row q (equal_from_is_eq (row_cmp row q) at)) (Contains-push front row)
-          | inr old ↦ Contains-append_left front (row ∷ []) q ((so_far q).0 ((member set q).0 old))
-        ] in
+    let known : cond (is_at (row_cmp row) q) true (contains row_cmp set q) ≡ true = sym (u.0 q) ∙ (member new q).1 has in
+    elim (cond_cases (is_at (row_cmp row) q) (contains row_cmp set q) known) [
+      | inl at ↦ subst (λ (x : DomainRow). Contains (front ++ row ∷ []) x) (row_exact row q (equal_from_is_eq (row_cmp row q) at)) (Contains-push front row)
+      | inr old ↦ Contains-append_left front (row ∷ []) q ((so_far q).0 ((member set q).0 old))
+    ] in
     let back : Contains (front ++ row ∷ []) q → Contains new.keys q = λ has.
-        let known : (is_at (row_cmp row) q ≡ true) ⊎ (contains row_cmp set q ≡ true) = elim (Contains-push_cases front row q has) [
-          | inl old ↦ inr ((member set q).1 ((so_far q).1 old))
-          | inr same ↦ inl (subst (λ (x : DomainRow). is_at (row_cmp row) x ≡ true) same (ap is_eq (tied_itself row_total row)))
-        ] in
-        (member new q).0 (u.0 q ∙ cond_from (is_at (row_cmp row) q) (contains row_cmp set q) known) in
+    let known : (is_at (row_cmp row) q ≡ true) ⊎ (contains row_cmp set q ≡ true) = elim (Contains-push_cases front row q has) [
+      | inl old ↦ inr ((member set q).1 ((so_far q).1 old))
+      | inr same ↦ inl (subst (λ (x : DomainRow). is_at (row_cmp row) x ≡ true) same (ap is_eq (tied_itself row_total row)))
+    ] in
+    (member new q).0 (u.0 q ∙ cond_from (is_at (row_cmp row) q) (contains row_cmp set q) known) in
     (there, back)
 
 -- a row that the set has not is none of those so far
@@ -83,9 +83,9 @@ pub once_push : (front : List DomainRow) (row : DomainRow) (set : BTreeSet Domai
     → true ≡ not (contains row_cmp set row) → IsOnce front → IsOnce (front ++ row ∷ [])
 once_push front row set so_far absent once =
     all_pairs_push (λ a b. a ≢ b) front row once (λ k d lt same.
-        let has : Contains front row = (k, lt, get_or_any front k d row lt ∙ same) in
-        let known : contains row_cmp set row ≡ true = (member set row).1 ((so_far row).1 has) in
-        absurd cc)
+    let has : Contains front row = (k, lt, get_or_any front k d row lt ∙ same) in
+    let known : contains row_cmp set row ≡ true = (member set row).1 ((so_far row).1 has) in
+    absurd cc)
 
 -- a row that the set has is one of those so far
 pub twice : (rows : List DomainRow) (i : ℕ) (d : DomainRow) (set : BTreeSet DomainRow) → i < length rows
@@ -105,8 +105,9 @@ pub goes_on : (rows : List DomainRow) (i : ℕ) (d : DomainRow) (set new : BTree
 goes_on rows i d set new lt so_far absent u longer =
     let row : DomainRow = get_or rows i d in
     rw (take_more rows i d lt) (
-        once_push (take i rows) row set so_far.1.members absent so_far.0,
-        record {
-          members = members_push (take i rows) row set new u so_far.1.members;
-          count = omega (arith, so_far.1.count, length_push (take i rows) row);
-        })
+      once_push (take i rows) row set so_far.1.members absent so_far.0,
+      record {
+        members = members_push (take i rows) row set new u so_far.1.members;
+        count = omega (arith, so_far.1.count, length_push (take i rows) row);
+      },
+    )

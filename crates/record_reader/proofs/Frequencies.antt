@@ -58,8 +58,8 @@ frequencies_are set d fit sorted =
     let part : List DomainRow = filter (within d) keys in
     let part_sorted : IsStrictlySortedBy row_cmp part = IsStrictlySortedBy-filter row_cmp (within d) keys sorted in
     let of_domain : (q : DomainRow) → Contains part q → Contains keys q × (q.domain ≡ d) = λ q has.
-        let both = filter_contains (within d) keys q has in
-        (both.0, within_numbers d q.domain q.frequency both.1) in
+    let both = filter_contains (within d) keys q has in
+    (both.0, within_numbers d q.domain q.frequency both.1) in
     record {
       ascending = λ k lt. rises d part part_sorted (λ q has. (of_domain q has).1) k (omega (arith, length-map part (λ (r : DomainRow). r.frequency)));
       members = λ f. (
@@ -69,7 +69,8 @@ frequencies_are set d fit sorted =
             subst (λ (q : DomainRow). Contains keys q) (same_rows found.0 (row_at d f) known.1 found.2) known.0),
         (λ has.
             let short : IsDomainRow (row_at d f) = All-contains IsDomainRow keys (row_at d f) fit has in
-            contains_map (λ (r : DomainRow). r.frequency) part (row_at d f) (contains_filter (within d) keys (row_at d f) has (numbers_within d f short.frequency))));
+            contains_map (λ (r : DomainRow). r.frequency) part (row_at d f) (contains_filter (within d) keys (row_at d f) has (numbers_within d f short.frequency))),
+      );
       few = omega (arith, length-map part (λ (r : DomainRow). r.frequency), length-filter (within d) keys, count_by-le-length (within d) keys);
     }
 
@@ -82,6 +83,6 @@ pub frequencies_from : (set : BTreeSet DomainRow) (d : ℕ) (first last : Domain
     → freqs ≡ map (λ (r : DomainRow). r.frequency) (keys_between row_cmp (Included first) (Included last) set) → AreFrequencies set.keys d freqs
 frequencies_from set d first last freqs fit sorted low high e =
     let there : freqs ≡ map (λ (r : DomainRow). r.frequency) (keys_between row_cmp (Included (row_at d 0)) (Included (row_at d 1000000000)) set)
-      = e ∙ ap (λ (r : DomainRow). map (λ (r : DomainRow). r.frequency) (keys_between row_cmp (Included r) (Included last) set)) low
-          ∙ ap (λ (r : DomainRow). map (λ (r : DomainRow). r.frequency) (keys_between row_cmp (Included (row_at d 0)) (Included r) set)) high in
+    = e ∙ ap (λ (r : DomainRow). map (λ (r : DomainRow). r.frequency) (keys_between row_cmp (Included r) (Included last) set)) low
+    ∙ ap (λ (r : DomainRow). map (λ (r : DomainRow). r.frequency) (keys_between row_cmp (Included (row_at d 0)) (Included r) set)) high in
     subst (λ (found : List ℕ). AreFrequencies set.keys d found) (sym there) (frequencies_are set d fit sorted)

@@ -131,7 +131,8 @@ path_of rows set of row path by = record {
   ascending = by.network.ascending;
   freqs = λ f. (
     (λ h. (of.members (record { domain = row.domain; frequency = f })).0 ((by.network.freqs f).0 h)),
-    (λ h. (by.network.freqs f).1 ((of.members (record { domain = row.domain; frequency = f })).1 h)));
+    (λ h. (by.network.freqs f).1 ((of.members (record { domain = row.domain; frequency = f })).1 h)),
+  );
 }
 
 record_by : (paths : List PathRow) (positions : BTreeMap ℕ ℕ) → PlacesNumbers (path_numbers paths) positions → (row : ConstraintRow) (r : Record) → IsRecordBy positions row r → IsRecordOf paths row r
@@ -158,4 +159,5 @@ whole sheet set positions paths records written once of few apart places each_pa
     paths = all_zip_weaker (IsPathBy set.keys) (IsPathOf sheet.domains) (path_of sheet.domains set of) sheet.paths paths each_path;
     records = all_zip_weaker (IsRecordBy positions) (IsRecordOf sheet.paths) (record_by sheet.paths positions places) sheet.constraints records each_record;
   },
-  all_right (IsPathBy set.keys) (λ p. length p.freqs ≤ length sheet.domains) (λ row path by. omega (arith, by.few, of.count)) sheet.paths paths each_path)
+  all_right (IsPathBy set.keys) (λ p. length p.freqs ≤ length sheet.domains) (λ row path by. omega (arith, by.few, of.count)) sheet.paths paths each_path,
+)

@@ -10,5 +10,6 @@ pub mod Orders
 pub mod Clean
 pub mod Texts
 pub mod Unique
-
 pub mod Validity
+pub mod SameInstance
+pub mod Written

@@ -41,8 +41,8 @@ pub decimal_start : (n : ℕ) → IsShort n → get_or (decimal n) 0 0 ≡ 48 �
 decimal_start n short e =
     elim (cases_lt n 1) [
       | inl none ↦
-        let is : n ≡ 0 = omega arith in
-        subst (λ (m : ℕ). length (decimal m) ≡ 1) (sym is) (ap length (decimal_digit 0 (omega arith)))
+          let is : n ≡ 0 = omega arith in
+          subst (λ (m : ℕ). length (decimal m) ≡ 1) (sym is) (ap length (decimal_digit 0 (omega arith)))
       | inr some ↦ absurd (omega (arith, first_decimal n (omega arith) (omega arith), e))
     ]
 

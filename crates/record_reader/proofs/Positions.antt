@@ -37,33 +37,33 @@ pub places_push : (front : List ℕ) (n : ℕ) (positions new : BTreeMap ℕ ℕ
     → PlacesNumbers front positions → PlacesNumbers (front ++ n ∷ []) new
 places_push front n positions new u absent so_far number position =
     let there : get nat_cmp new number ≡ Some position → slice_get (front ++ n ∷ []) position ≡ Some number = λ e.
-        elim (at_cases n number) [
-          | inl at ↦
-            let value : ◌≡◌ {A = Option ℕ} (Some (length front)) (Some position) = sym (u.0 number ∙ ap (λ b. cond b (Some (length front)) (get nat_cmp positions number)) at.0) ∙ e in
-            let place : length front ≡ position = some_is (length front) position value in
-            rw (← place, ← at.1) (slice_get_end front n)
-          | inr apart ↦
-            let old : get nat_cmp positions number ≡ Some position = sym (u.0 number ∙ ap (λ b. cond b (Some (length front)) (get nat_cmp positions number)) apart) ∙ e in
-            slice_get_front front n position number ((so_far number position).0 old)
-        ] in
+    elim (at_cases n number) [
+      | inl at ↦
+          let value : ◌≡◌ {A = Option ℕ} (Some (length front)) (Some position) = sym (u.0 number ∙ ap (λ b. cond b (Some (length front)) (get nat_cmp positions number)) at.0) ∙ e in
+          let place : length front ≡ position = some_is (length front) position value in
+          rw (← place, ← at.1) (slice_get_end front n)
+      | inr apart ↦
+          let old : get nat_cmp positions number ≡ Some position = sym (u.0 number ∙ ap (λ b. cond b (Some (length front)) (get nat_cmp positions number)) apart) ∙ e in
+          slice_get_front front n position number ((so_far number position).0 old)
+    ] in
     let back : slice_get (front ++ n ∷ []) position ≡ Some number → get nat_cmp new number ≡ Some position = λ e.
-        elim (slice_get_cases front n position number e) [
-          | inl old ↦
-            let known : get nat_cmp positions number ≡ Some position = (so_far number position).1 old in
-            elim (at_cases n number) [
-              | inl at ↦ absurd (not_none (get nat_cmp positions n) position absent (rw (at.1) known))
-              | inr apart ↦ (u.0 number ∙ ap (λ b. cond b (Some (length front)) (get nat_cmp positions number)) apart) ∙ known
-            ]
-          | inr last ↦
-            let at : is_at (nat_cmp n) number ≡ true = subst (λ (x : ℕ). is_at (nat_cmp n) x ≡ true) last.1 (at_itself n) in
-            (u.0 number ∙ ap (λ b. cond b (Some (length front)) (get nat_cmp positions number)) at) ∙ ap Some last.0
-        ] in
+    elim (slice_get_cases front n position number e) [
+      | inl old ↦
+          let known : get nat_cmp positions number ≡ Some position = (so_far number position).1 old in
+          elim (at_cases n number) [
+            | inl at ↦ absurd (not_none (get nat_cmp positions n) position absent (rw (at.1) known))
+            | inr apart ↦ (u.0 number ∙ ap (λ b. cond b (Some (length front)) (get nat_cmp positions number)) apart) ∙ known
+          ]
+      | inr last ↦
+          let at : is_at (nat_cmp n) number ≡ true = subst (λ (x : ℕ). is_at (nat_cmp n) x ≡ true) last.1 (at_itself n) in
+          (u.0 number ∙ ap (λ b. cond b (Some (length front)) (get nat_cmp positions number)) at) ∙ ap Some last.0
+    ] in
     (there, back)
 
 pub apart_push : (front : List ℕ) (n : ℕ) (positions : BTreeMap ℕ ℕ) → get nat_cmp positions n ≡ None → PlacesNumbers front positions → AreApart front → AreApart (front ++ n ∷ [])
 apart_push front n positions absent so_far apart =
     all_pairs_push (λ a b. a ≢ b) front n apart (λ k d lt same.
-        not_none (get nat_cmp positions n) k absent ((so_far n k).1 (slice_get-get_or front k d lt ∙ ap Some same)))
+    not_none (get nat_cmp positions n) k absent ((so_far n k).1 (slice_get-get_or front k d lt ∙ ap Some same)))
 
 pub number_twice : (numbers : List ℕ) (i n old : ℕ) (positions : BTreeMap ℕ ℕ) → i < length numbers → get_or numbers i n ≡ n → get nat_cmp positions n ≡ Some old
     → PlacesNumbers (take i numbers) positions → AreApart numbers → ⊥
@@ -92,7 +92,7 @@ row_twice rows i d None positions lt was is so_far apart = absurd cc
 row_twice rows i d (Some old) positions lt was is so_far apart =
     let row : PathRow = get_or rows i d in
     number_twice (path_numbers rows) i row.number old positions (omega (arith, length-map rows (λ (r : PathRow). r.number)))
-      (get_or-map (λ (r : PathRow). r.number) rows i d row.number lt) (sym was) (rw (take-map (λ (r : PathRow). r.number) i rows) so_far) apart
+    (get_or-map (λ (r : PathRow). r.number) rows i d row.number lt) (sym was) (rw (take-map (λ (r : PathRow). r.number) i rows) so_far) apart
 
 pub none_is : {X : Type 0} (o : Option X) → false ≡ is_some o → o ≡ None
 none_is None e = refl

@@ -53,8 +53,15 @@ few_rows sheet =
     let c : List (List (List ℕ)) = map constraint_fields sheet.constraints in
     let outer = ap (length {A = ℕ}) (flat_map-append line_of d (p ++ c)) in
     let inner = ap (length {A = ℕ}) (flat_map-append line_of p c) in
-    omega (arith, outer, inner, length-append (flat_map line_of d) (flat_map line_of (p ++ c)), length-append (flat_map line_of p) (flat_map line_of c),
-      rows_long domain_fields (λ r. omega arith) sheet.domains, rows_long constraint_fields (λ r. omega arith) sheet.constraints)
+    omega (
+      arith,
+      outer,
+      inner,
+      length-append (flat_map line_of d) (flat_map line_of (p ++ c)),
+      length-append (flat_map line_of p) (flat_map line_of c),
+      rows_long domain_fields (λ r. omega arith) sheet.domains,
+      rows_long constraint_fields (λ r. omega arith) sheet.constraints,
+    )
 
 -- ---- paths
 
@@ -80,9 +87,9 @@ path_valid domains fit row path good of few =
       some = omega (arith, there.1);
       few = few;
       numbers = λ k d lt.
-        let f : ℕ = get_or path.freqs k d in
-        let row_fits : IsDomainRow (record { domain = row.domain; frequency = f }) = All-contains IsDomainRow domains (record { domain = row.domain; frequency = f }) fit ((of.freqs f).0 (Contains-get_or path.freqs k d lt)) in
-        omega (arith, row_fits.frequency);
+          let f : ℕ = get_or path.freqs k d in
+          let row_fits : IsDomainRow (record { domain = row.domain; frequency = f }) = All-contains IsDomainRow domains (record { domain = row.domain; frequency = f }) fit ((of.freqs f).0 (Contains-get_or path.freqs k d lt)) in
+          omega (arith, row_fits.frequency);
       ascending = of.ascending;
       polarization = subst (λ (z : ℤ). IsPolarization z) (sym of.pol) good.fit.polarization;
     }
@@ -104,7 +111,7 @@ paths_apart rows paths is apart i j d lt below e =
     let numbers : List ℕ = map (λ (p : Path). p.number) paths in
     let there : AllPairs (λ (m n : ℕ). m ≢ n) numbers = subst (λ (ns : List ℕ). AllPairs (λ (m n : ℕ). m ≢ n) ns) (sym is) apart in
     there i j 0 lt (omega (arith, below, length-map paths (λ (p : Path). p.number)))
-      (get_or-map (λ (p : Path). p.number) paths i d 0 (omega (arith, lt, below)) ∙ e ∙ sym (get_or-map (λ (p : Path). p.number) paths j d 0 below))
+    (get_or-map (λ (p : Path). p.number) paths i d 0 (omega (arith, lt, below)) ∙ e ∙ sym (get_or-map (λ (p : Path). p.number) paths j d 0 below))
 
 -- ---- choices
 

@@ -4,3 +4,4 @@ pub mod Texts
 pub mod Networks
 pub mod Reading
 pub mod Stages
+pub mod Laws

@@ -13,11 +13,7 @@ use std::alloc::{AllocError, Global};
 const MAX_DIGITS: usize = 9;
 
 /// The parts of some bytes between the separators.
-pub(crate) fn pieces(
-    alloc: Global,
-    bytes: &[u8],
-    separator: u8,
-) -> Result<Vec<&[u8]>, AllocError>
+pub(crate) fn pieces(alloc: Global, bytes: &[u8], separator: u8) -> Result<Vec<&[u8]>, AllocError>
     ensures { IfOk result (λ v. map (λ x. x.now) v.items ≡ slice_split (λ b. b == separator) bytes.now) }
 {
     bytes.split(|byte| *byte == separator).collect(alloc)

@@ -21,7 +21,7 @@ returns-then-dist-level c =
     let long = texts_long c.args.fields.now in
     let at = text_at c.args.fields.now c.loop-level.level none c.loop-level-test.true in
     rises texts c.loop-level.dist c.loop-level.level c.in_ok-distance.distance c.loop-level.invariant (omega (arith, long, c.loop-level-test.true)) (omega (arith, c.loop-level-test.true, c.if-fields-ne11.false)) (omega (arith, c.if-level-gt0.true))
-      c.in_ok-distance.ensures.0 (at ∙ c.in_ok-distance.ensures.1) c.if-dist-level.true
+    c.in_ok-distance.ensures.0 (at ∙ c.in_ok-distance.ensures.1) c.if-dist-level.true
 
 pub loop-level-preserved : goal.loop-level-preserved
 loop-level-preserved c =
@@ -29,9 +29,9 @@ loop-level-preserved c =
     let long = texts_long c.args.fields.now in
     let at = text_at c.args.fields.now c.loop-level.level none c.loop-level-test.true in
     let below : 0 < c.loop-level.level → c.in_ok-distance.distance ≤ get_or c.loop-level.dist (c.loop-level.level - 1) 0 = λ some.
-      elim c.else-level-gt0.branch [
-        | else-level-gt0-via-then-level-gt0+else-dist-level w ↦ w.if-dist-level.false
-        | else-level-gt0-via-else-level-gt0 w ↦ absurd (omega (arith, w.if-level-gt0.false, some))
-      ] in
+    elim c.else-level-gt0.branch [
+      | else-level-gt0-via-then-level-gt0+else-dist-level w ↦ w.if-dist-level.false
+      | else-level-gt0-via-else-level-gt0 w ↦ absurd (omega (arith, w.if-level-gt0.false, some))
+    ] in
     distance_more texts c.loop-level.dist c.loop-level.level c.in_ok-distance.distance c.loop-level.invariant (omega (arith, long, c.loop-level-test.true)) (omega (arith, c.loop-level-test.true, c.if-fields-ne11.false))
-      c.in_ok-distance.ensures.0 (at ∙ c.in_ok-distance.ensures.1) below
+    c.in_ok-distance.ensures.0 (at ∙ c.in_ok-distance.ensures.1) below

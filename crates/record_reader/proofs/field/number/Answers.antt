@@ -20,8 +20,8 @@ pub returns : goal.returns
 returns c =
     let some : 0 < length c.args.field.now = grind (arith, nat_tests, c.is_empty.ensures, c.if-is_empty.false) in
     let start : get_or c.args.field.now 0 0 ≡ 48 → length c.args.field.now ≡ 1 = λ e.
-      elim c.else-field-gt1.branch [
-        | else-field-gt1-via-then-field-gt1+else-field-eq48 w ↦ absurd (w.if-field-eq48.false e)
-        | else-field-gt1-via-else-field-gt1 w ↦ omega (arith, w.if-field-gt1.false, some)
-      ] in
+    elim c.else-field-gt1.branch [
+      | else-field-gt1-via-then-field-gt1+else-field-eq48 w ↦ absurd (w.if-field-eq48.false e)
+      | else-field-gt1-via-else-field-gt1 w ↦ omega (arith, w.if-field-gt1.false, some)
+    ] in
     reads_number c.args.field.now c.value.result some (omega (arith, c.if-field-gt-MAX_DIGITS.false)) start c.value.ensures

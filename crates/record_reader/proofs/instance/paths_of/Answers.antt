@@ -16,4 +16,4 @@ pub loop-row-preserved : goal.loop-row-preserved
 loop-row-preserved c =
     let some : 0 < length c.in_ok-freqs.freqs.items = grind (arith, nat_tests, c.is_empty.ensures, c.if-is_empty.false, c.in_ok-freqs.freqs.ok.0) in
     path_more c.args.domains.now.keys c.args.rows.now c.loop-row.row-index none c.in_ok-freqs.freqs.items c.from_vec.result _ c.loop-row.paths.items c.push.new.self.items c.loop-row-test.true
-      c.loop-row.invariant c.in_ok-freqs.ensures c.from_vec.ensures some (polarization_kept _ (c.requires.rows c.loop-row.row-index none c.loop-row-test.true).polarization) c.in_ok-push.ensures.items
+    c.loop-row.invariant c.in_ok-freqs.ensures c.from_vec.ensures some (polarization_kept _ (c.requires.rows c.loop-row.row-index none c.loop-row-test.true).polarization) c.in_ok-push.ensures.items

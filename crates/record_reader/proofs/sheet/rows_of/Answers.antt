@@ -15,13 +15,13 @@ returns-then-len-lines c =
     let raw = c.args.lines.now in
     let raw2 = rest raw c.len.result in
     no_sheet fields raw raw2 (rest raw2 c.len-2.result) c.len.result c.len-2.result c.in_ok-domains.domains.items c.in_ok-paths.paths.items c.in_ok-constraints.constraints.items refl refl
-      (omega (arith, c.len.ensures, c.in_ok-domains.domains.ok.0)) (omega (arith, c.len-2.ensures, c.in_ok-paths.paths.ok.0)) c.in_ok-domains.ensures c.in_ok-paths.ensures c.in_ok-constraints.ensures
-      (omega (arith, c.if-len-lines.true, c.len-3.ensures, c.in_ok-constraints.constraints.ok.0))
+    (omega (arith, c.len.ensures, c.in_ok-domains.domains.ok.0)) (omega (arith, c.len-2.ensures, c.in_ok-paths.paths.ok.0)) c.in_ok-domains.ensures c.in_ok-paths.ensures c.in_ok-constraints.ensures
+    (omega (arith, c.if-len-lines.true, c.len-3.ensures, c.in_ok-constraints.constraints.ok.0))
 
 pub returns : goal.returns
 returns c =
     let raw = c.args.lines.now in
     let raw2 = rest raw c.len.result in
     rw (c.from_vec.ensures, c.from_vec-2.ensures, c.from_vec-3.ensures) (rows_are fields raw raw2 (rest raw2 c.len-2.result) c.len.result c.len-2.result c.in_ok-domains.domains.items c.in_ok-paths.paths.items c.in_ok-constraints.constraints.items refl refl
-      (omega (arith, c.len.ensures, c.in_ok-domains.domains.ok.0)) (omega (arith, c.len-2.ensures, c.in_ok-paths.paths.ok.0)) c.in_ok-domains.ensures c.in_ok-paths.ensures c.in_ok-constraints.ensures
-      (omega (arith, c.if-len-lines.false, c.len-3.ensures, c.in_ok-constraints.constraints.ok.0)))
+    (omega (arith, c.len.ensures, c.in_ok-domains.domains.ok.0)) (omega (arith, c.len-2.ensures, c.in_ok-paths.paths.ok.0)) c.in_ok-domains.ensures c.in_ok-paths.ensures c.in_ok-constraints.ensures
+    (omega (arith, c.if-len-lines.false, c.len-3.ensures, c.in_ok-constraints.constraints.ok.0)))

@@ -14,12 +14,12 @@ pub returns-then-not-is_empty : goal.returns-then-not-is_empty
 returns-then-not-is_empty c =
     let some : length c.in-Some.last.now.now ≡ 0 → ⊥ = λ none. grind (arith, nat_tests, c.is_empty.ensures, c.if-not-is_empty.true) in
     no_end c.args.text.now c.in-Some.last.now.now (map (λ (x : Bor (List ℕ)). x.now) c.in-Some.lines.now)
-      (seen c.in_ok-parts.parts.items c.as_slice.result.now c.in-Some.lines.now c.in-Some.last.now c.args.text.now c.in_ok-parts.ensures c.as_slice.ensures.value c.in-Some.ensures.cases.0)
-      (λ e. some (ap length e))
+    (seen c.in_ok-parts.parts.items c.as_slice.result.now c.in-Some.lines.now c.in-Some.last.now c.args.text.now c.in_ok-parts.ensures c.as_slice.ensures.value c.in-Some.ensures.cases.0)
+    (λ e. some (ap length e))
 
 pub returns : goal.returns
 returns c =
     let none : length c.in-Some.last.now.now ≡ 0 = grind (arith, nat_tests, c.is_empty.ensures, c.if-not-is_empty.false) in
     reads_lines c.args.text.now c.in-Some.lines.now c.in-Some.last.now.now c.rows_of.result
-      (seen c.in_ok-parts.parts.items c.as_slice.result.now c.in-Some.lines.now c.in-Some.last.now c.args.text.now c.in_ok-parts.ensures c.as_slice.ensures.value c.in-Some.ensures.cases.0)
-      none c.rows_of.ensures
+    (seen c.in_ok-parts.parts.items c.as_slice.result.now c.in-Some.lines.now c.in-Some.last.now c.args.text.now c.in_ok-parts.ensures c.as_slice.ensures.value c.in-Some.ensures.cases.0)
+    none c.rows_of.ensures
