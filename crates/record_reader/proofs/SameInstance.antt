@@ -36,10 +36,10 @@ same_rising xs ys p q same =
     let s : BTreeSet ℕ = record { keys = xs } in
     let t : BTreeSet ℕ = record { keys = ys } in
     btree_set_from_contains nat_cmp_total s t (sorted_from_strictly_increasing xs p) (sorted_from_strictly_increasing ys q)
-      (λ n. same_bools (contains nat_cmp s n) (contains nat_cmp t n)
-        (λ e. (btree_set_contains_iff nat_cmp_total exact_unsigned t n).1 ((same n).0 ((btree_set_contains_iff nat_cmp_total exact_unsigned s n).0 e)))
-        (λ e. (btree_set_contains_iff nat_cmp_total exact_unsigned s n).1 ((same n).1 ((btree_set_contains_iff nat_cmp_total exact_unsigned t n).0 e))))
-      exact_unsigned
+    (λ n. same_bools (contains nat_cmp s n) (contains nat_cmp t n)
+    (λ e. (btree_set_contains_iff nat_cmp_total exact_unsigned t n).1 ((same n).0 ((btree_set_contains_iff nat_cmp_total exact_unsigned s n).0 e)))
+    (λ e. (btree_set_contains_iff nat_cmp_total exact_unsigned s n).1 ((same n).1 ((btree_set_contains_iff nat_cmp_total exact_unsigned t n).0 e))))
+    exact_unsigned
 
 cons_same : {X : Type 0} {x y : X} {xs ys : List X} → x ≡ y → xs ≡ ys → x ∷ xs ≡ y ∷ ys
 cons_same e f = cc

@@ -69,7 +69,7 @@ rows_fit (p ∷ ps) n f =
     let freqs : All IsShort p.freqs = All-head HasShortFreqs p ps f in
     let here : All (λ (g : ℕ). IsDomainRow (row_at p.number g)) p.freqs = λ k d lt. record { domain = number; frequency = freqs k d lt } in
     All-append IsDomainRow (domain_rows p) (flat_map domain_rows ps) (All-map IsDomainRow (row_at p.number) p.freqs here)
-      (rows_fit ps (All-tail (λ (q : Path). IsShort q.number) p ps n) (All-tail HasShortFreqs p ps f))
+    (rows_fit ps (All-tail (λ (q : Path). IsShort q.number) p ps n) (All-tail HasShortFreqs p ps f))
 
 none_within : {X : Type 0} (y : X) → Contains [] y → ⊥
 none_within y h = omega (arith, h.1)
@@ -118,7 +118,8 @@ once_append : {X : Type 0} (xs ys : List X) → EachOnce xs → EachOnce ys → 
 once_append [] ys p q apart = q
 once_append (x ∷ xs) ys p q apart = (
   (λ h. elim (Contains-append_cases xs ys x h) [ inl here ↦ p.0 here | inr there ↦ apart x (contains_head x xs) there ]),
-  once_append xs ys p.1 q (λ z h. apart z (contains_tail x xs z h)))
+  once_append xs ys p.1 q (λ z h. apart z (contains_tail x xs z h)),
+)
 
 pairs_tail : {X : Type 0} (R : X → X → Type 0) (x : X) (xs : List X) → AllPairs R (x ∷ xs) → AllPairs R xs
 pairs_tail R x xs h i j d lt below = h (suc i) (suc j) d (omega (arith, lt)) (omega (arith, below))
@@ -130,10 +131,11 @@ once_rising : (n : ℕ) (fs : List ℕ) → AllPairs (λ a b. a < b) fs → Each
 once_rising n [] h = tt
 once_rising n (f ∷ fs) h = (
   (λ c.
-    let found = map_contains (row_at n) fs (row_at n f) c in
-    let same : found.0 ≡ f = ap (λ (r : DomainRow). r.frequency) found.2 in
-    omega (arith, same, pairs_head (λ (a b : ℕ). a < b) f fs found.0 h found.1)),
-  once_rising n fs (pairs_tail (λ (a b : ℕ). a < b) f fs h))
+      let found = map_contains (row_at n) fs (row_at n f) c in
+      let same : found.0 ≡ f = ap (λ (r : DomainRow). r.frequency) found.2 in
+      omega (arith, same, pairs_head (λ (a b : ℕ). a < b) f fs found.0 h found.1)),
+  once_rising n fs (pairs_tail (λ (a b : ℕ). a < b) f fs h),
+)
 
 abbrev DifferByNumber : Path → Path → Type 0
 DifferByNumber p q = p.number ≢ q.number
@@ -142,11 +144,11 @@ rows_once : (paths : List Path) → All IsPath paths → AllPairs DifferByNumber
 rows_once [] valid apart = tt
 rows_once (p ∷ ps) valid apart =
     once_append (domain_rows p) (flat_map domain_rows ps) (once_rising p.number p.freqs (AllPairs-from_increasing p.freqs (All-head IsPath p ps valid).ascending))
-      (rows_once ps (All-tail IsPath p ps valid) (pairs_tail DifferByNumber p ps apart))
-      (λ row here there.
-        let one = row_of_one p row here in
-        let other = row_of ps row there in
-        pairs_head DifferByNumber p ps other.0 apart other.1.among (one.0 ∙ sym other.1.number))
+    (rows_once ps (All-tail IsPath p ps valid) (pairs_tail DifferByNumber p ps apart))
+    (λ row here there.
+    let one = row_of_one p row here in
+    let other = row_of ps row there in
+    pairs_head DifferByNumber p ps other.0 apart other.1.among (one.0 ∙ sym other.1.number))
 
 -- ---- paths
 
@@ -159,7 +161,7 @@ numbers_apart paths apart i j d lt below e =
     let long : length (numbers_of paths) ≡ length paths = length-map paths (λ (p : Path). p.number) in
     let none : Path = record { number = 0; freqs = []; pol = pos 0 } in
     apart i j none lt (omega (arith, below, long))
-      (sym (get_or-map (λ (p : Path). p.number) paths i none d (omega (arith, lt, below, long))) ∙ e ∙ get_or-map (λ (p : Path). p.number) paths j none d (omega (arith, below, long)))
+    (sym (get_or-map (λ (p : Path). p.number) paths i none d (omega (arith, lt, below, long))) ∙ e ∙ get_or-map (λ (p : Path). p.number) paths j none d (omega (arith, below, long)))
 
 same_member : (paths : List Path) (p q : Path) → AllPairs DifferByNumber paths → Contains paths p → Contains paths q → p.number ≡ q.number → p ≡ q
 same_member paths p q apart h g e =
@@ -171,8 +173,8 @@ same_member paths p q apart h g e =
       | inr le ↦ elim (cases_lt g.0 h.0) [
         | inl gt ↦ absurd (apart g.0 h.0 p gt h.1 (sym numbers))
         | inr ge ↦
-          let same : h.0 ≡ g.0 = omega (arith, le, ge) in
-          sym here ∙ ap (λ (k : ℕ). get_or paths k p) same ∙ there
+            let same : h.0 ≡ g.0 = omega (arith, le, ge) in
+            sym here ∙ ap (λ (k : ℕ). get_or paths k p) same ∙ there
       ]
     ]
 
@@ -186,8 +188,9 @@ path_of paths valid apart p among =
       freqs = λ f. (
         (λ h. has_row paths p f among h),
         (λ h.
-          let found = row_of paths (row_at p.number f) h in
-          subst (λ (x : Path). Contains x.freqs f) (same_member paths found.0 p apart found.1.among among found.1.number) found.1.freq));
+            let found = row_of paths (row_at p.number f) h in
+            subst (λ (x : Path). Contains x.freqs f) (same_member paths found.0 p apart found.1.among among found.1.number) found.1.freq),
+      );
     }
 
 zip_map : {A B : Type 0} (R : A → B → Type 0) (f : B → A) (ys : List B) → ((b : B) → Contains ys b → R (f b) b) → AllZip R (map f ys) ys
@@ -269,17 +272,17 @@ proper instance valid small =
           polarization = (All-contains IsPath paths p valid.paths among).polarization;
         });
         constraints = all_map IsConstraintRow (constraint_row numbers) instance.records (λ r among.
-          constraint_fits paths r small.numbers (All-contains (IsRecord (length paths)) instance.records r valid.records among) (All-contains HasShortNumbers instance.records r small.records among));
+            constraint_fits paths r small.numbers (All-contains (IsRecord (length paths)) instance.records r valid.records among) (All-contains HasShortNumbers instance.records r small.records among));
       };
       once = once_from (flat_map domain_rows paths) (rows_once paths valid.paths valid.apart);
       few = omega (arith, small.few, length-map paths path_row);
       apart = subst (λ (ns : List ℕ). AllPairs (λ (m n : ℕ). m ≢ n) ns) (sym (numbers_are paths)) (numbers_apart paths valid.apart);
       known = all_map (λ (p : PathRow). Contains (domain_numbers (flat_map domain_rows paths)) p.domain) path_row paths (λ p among.
-        let f : ℕ = get_or p.freqs 0 0 in
-        let has : Contains p.freqs f = Contains-get_or p.freqs 0 0 (All-contains IsPath paths p valid.paths among).some in
-        contains_map (λ (r : DomainRow). r.domain) (flat_map domain_rows paths) (row_at p.number f) (has_row paths p f among has));
+          let f : ℕ = get_or p.freqs 0 0 in
+          let has : Contains p.freqs f = Contains-get_or p.freqs 0 0 (All-contains IsPath paths p valid.paths among).some in
+          contains_map (λ (r : DomainRow). r.domain) (flat_map domain_rows paths) (row_at p.number f) (has_row paths p f among has));
       named = all_map (NamesTwo (path_numbers (map path_row paths))) (constraint_row numbers) instance.records (λ r among.
-        names_two paths r valid.apart (All-contains (IsRecord (length paths)) instance.records r valid.records among));
+          names_two paths r valid.apart (All-contains (IsRecord (length paths)) instance.records r valid.records among));
     }
 
 pub has_text : (instance : Instance) → IsInstance instance → IsSmall instance → HasText instance
