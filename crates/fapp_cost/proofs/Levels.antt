@@ -24,7 +24,8 @@ clear_at count levels k h all none =
     (λ j below. rw (get_or-range_with_len 0 levels j 0 (omega arith), zero-add) (above_zero (count j) (all j below)))
     (λ below. let lt : k < levels = rw length-range_with_len at below in rw (get_or-range_with_len 0 levels k 0 lt, zero-add) (at_zero (count k) (none lt)))
 
-range_more : (a n : ℕ) → range_with_len a (n + 1) ≡ range_with_len a n ++ (a + n) ∷ []
+-- the numbers up to one more
+pub range_more : (a n : ℕ) → range_with_len a (n + 1) ≡ range_with_len a n ++ (a + n) ∷ []
 range_more a zero = rw add-zero refl
 range_more a (suc n) =
     let more : suc n + 1 ≡ suc (n + 1) = omega arith in

@@ -1,1 +1,2 @@
 pub mod PlanCost
+pub mod CostLaws

@@ -2,17 +2,24 @@
 #![tactic(auto)]
 
 mod calls;
+mod clean;
 mod feed;
 mod memory_sink;
 mod memory_source;
 mod sink;
 mod source;
-mod std_streams;
+mod std_sink;
+mod std_source;
 mod whole;
 
+pub use clean::{CleanSink, CleanSource};
 pub use memory_sink::{MemSink, NoMemory};
 pub use memory_source::MemSource;
 pub use sink::Sink;
 pub use source::{Failed, Source};
-pub use std_streams::{StdSink, StdSource};
+pub use std_sink::StdSink;
+pub use std_source::StdSource;
 pub use whole::{ReadEnd, WriteEnd, read_all, write_all};
+
+#[cfg(test)]
+mod tests;

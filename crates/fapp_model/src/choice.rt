@@ -1,8 +1,9 @@
-ghost use Rattle.std.specs.Prelude.{◌≡◌, ◌<◌, length, slice_index, slice_index_or, pos};
+ghost use Rattle.std.specs.Prelude.{◌≡◌, ◌*◌, ◌<◌, ◌≤◌, length, slice_index, slice_index_or, pos};
 ghost use Rattle.fapp_model.specs.Choices.{both_polarizations, choices, choice};
 ghost use Rattle.fapp_model.specs.Assignments.{chosen, count_at};
 ghost use Rattle.fapp_model.specs.Instances.{IsPath, IsInstance};
 
+use crate::limits::MAX_DOMAIN_FREQUENCIES;
 use crate::{Instance, Path};
 
 /// A frequency and a polarization, -1 or 1.
@@ -15,7 +16,8 @@ pub struct Choice {
 /// How many choices a path has: one for each of its frequencies, and two where its polarization is free.
 pub fn choice_count(path: &Path) -> u32
     requires { IsPath path.now }
-    ensures { result ≡ length (choices path.now) }
+    ensures count { result ≡ length (choices path.now) }
+    ensures few { result ≤ 2 * MAX_DOMAIN_FREQUENCIES }
 {
     let frequencies = path.freqs.len() as u32;
     if path.pol == 0 {

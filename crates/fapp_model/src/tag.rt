@@ -54,3 +54,51 @@ pub fn level_of(t: Tag) -> u32
     let triple = triple_of(t);
     if triple.v > 0 { triple.k } else { triple.k - 1 }
 }
+
+#[cfg(test)]
+mod tests {
+    use super::*;
+
+    #[test]
+    fn codes(rt: HostRuntime) {
+        assert_eq!(rt; tag_of(Triple { k: 0, v: 0, s: 0 }).code, 0);
+        assert_eq!(rt;
+            tag_of(Triple { k: 5, v: 1, s: 4 }).code,
+            22_517_998_203_961_348
+        );
+        assert_eq!(rt;
+            tag_of(Triple { k: 12, v: 0, s: 0 }).code,
+            54_043_195_528_445_952
+        );
+    }
+
+    #[test]
+    fn triples_and_levels(rt: HostRuntime) {
+        let limited = tag_of(Triple { k: 5, v: 1, s: 4 });
+        assert_eq!(rt; triple_of(limited), Triple { k: 5, v: 1, s: 4 });
+        assert_eq!(rt; level_of(limited), 5);
+        assert_eq!(rt; level_of(tag_of(Triple { k: 12, v: 0, s: 0 })), 11);
+    }
+
+    #[test]
+    fn edges(rt: HostRuntime) {
+        assert!(rt;
+            is_tag(Triple {
+                k: 11,
+                v: 67_108_863,
+                s: 67_108_863
+            })
+        );
+        assert!(rt;
+            !is_tag(Triple {
+                k: 11,
+                v: 67_108_864,
+                s: 0
+            })
+        );
+        assert!(rt; !is_tag(Triple { k: 0, v: 1, s: 0 }));
+        assert!(rt; !is_tag(Triple { k: 12, v: 1, s: 0 }));
+        assert!(rt; !is_tag(Triple { k: 1, v: 0, s: 1 }));
+        assert!(rt; !is_tag(Triple { k: 13, v: 0, s: 0 }));
+    }
+}

@@ -1,0 +1,5 @@
+use Rattle.dead_laws.proofs.ImpliedLemmas.{none-at-top}
+use Rattle.dead_laws.proofs.implied.none_at_top.Goals as goal
+
+pub returns : goal.returns
+returns c = λ instance plan. none-at-top instance plan

@@ -1,0 +1,4 @@
+pub mod TagLaws
+pub mod ArcLaws
+pub mod ImpliedLaws
+pub mod DeadLaws

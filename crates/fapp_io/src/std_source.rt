@@ -1,0 +1,43 @@
+// A source over a reader of std. What a file or a terminal gives is known to no proof.
+ghost use Rattle.std.specs.Prelude.{◌≡◌, ◌<◌, length};
+ghost use Rattle.fapp_io.specs.Counts.{CountsFaults};
+ghost use Rattle.fapp_io.specs.Source.{Reads};
+
+use crate::source::{Failed, Source};
+use std::io::Read;
+
+/// A source over a reader. It counts each error of the reader, up to the last value of its counter.
+#[derive(Drop)]
+pub struct StdSource<R> {
+    reader: R,
+    faults: u64,
+}
+
+impl<R: Read> StdSource<R> {
+    /// Has failed no time so far.
+    pub fn new(reader: R) -> Self
+        ensures { result ≡ record { reader = reader; faults = 0 } }
+    {
+        StdSource { reader, faults: 0 }
+    }
+}
+
+impl<R: Read> Source for StdSource<R> {
+    ghost left = { λ source. R.remaining source.reader };
+
+    ghost faults = { λ source. source.faults };
+
+    fn read(&mut self, buf: &mut [u8]) -> Result<usize, Failed>
+        requires { 0 < length buf.old }
+        ensures reads { Reads (R.remaining self.old.reader) (R.remaining self.new.reader) self.old.faults self.new.faults buf.new result }
+        ensures counted { CountsFaults self.old.faults self.new.faults result }
+    {
+        match self.reader.read(buf) {
+            Ok(count) => Ok(count),
+            Err(_) => {
+                self.faults = self.faults.saturating_add(1);
+                Err(Failed)
+            }
+        }
+    }
+}

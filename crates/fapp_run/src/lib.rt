@@ -1,0 +1,15 @@
+//! The one call that the program makes: from its words and its input to what it writes and its status.
+#![tactic(auto)]
+
+mod enumeration;
+mod outcome;
+mod plan_text;
+mod status;
+mod top;
+mod words;
+
+pub use status::Status;
+pub use top::run;
+
+#[cfg(test)]
+mod tests;

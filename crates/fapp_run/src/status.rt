@@ -1,0 +1,63 @@
+ghost use Rattle.std.specs.Prelude.{◌≡◌, IfOk, string_bytes};
+ghost use Rattle.fapp_run.specs.Statuses.{code_of, refusal_line};
+
+use std::alloc::{AllocError, Global};
+
+/// How a run ended.
+#[derive(Clone, Copy, Debug, PartialEq, Eq)]
+pub enum Status {
+    /// The least plan was written.
+    Best,
+    /// No plan meets the imperative records. Nothing was written.
+    NoneFeasible,
+    /// The words are not `solve --answer-only`. Nothing was read.
+    Usage,
+    /// The input is no text of a network in the form that is read.
+    UnbuiltRecord,
+    /// The source failed.
+    ReadFault,
+    /// The sink failed. A front of what was to be written was taken.
+    WriteFault,
+    /// There was no memory. Nothing was written.
+    NoMemory,
+}
+
+impl Status {
+    /// The program's exit status.
+    pub fn code(&self) -> u8
+        ensures { result ≡ code_of self.now }
+    {
+        match self {
+            Status::Best => 0,
+            Status::NoneFeasible => 1,
+            Status::Usage => 64,
+            Status::UnbuiltRecord => 65,
+            Status::ReadFault => 66,
+            Status::WriteFault => 67,
+            Status::NoMemory => 68,
+        }
+    }
+
+    /// The line that tells of a refusal, and nothing where an answer or nothing at all is written.
+    pub fn refusal(self, alloc: Global) -> Result<String, AllocError>
+        ensures { IfOk result (λ text. string_bytes text ≡ refusal_line self) }
+    {
+        let line = match self {
+            Status::Usage => "USAGE\n",
+            Status::UnbuiltRecord => "UNBUILT\n",
+            Status::ReadFault => "READFAULT\n",
+            Status::Best | Status::NoneFeasible | Status::WriteFault | Status::NoMemory => "",
+        };
+        String::from_str(alloc, line)
+    }
+}
+
+/// There was no memory.
+#[derive(Clone, Copy, Debug, PartialEq, Eq)]
+pub struct NoMemory;
+
+impl From<AllocError> for NoMemory {
+    fn from(_: AllocError) -> Self {
+        NoMemory
+    }
+}
