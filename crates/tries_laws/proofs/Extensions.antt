@@ -17,7 +17,7 @@ use Rattle.tries_laws.proofs.Pairs.{pairs-map, pairs-weaker}
 use Rattle.tries_laws.proofs.TriesCounts.{along-drop}
 use Rattle.tries_laws.proofs.WorkOrders.{order-length}
 
-along-append : (instance : Instance) (paths : List ℕ) (start more : List Literal) → IsAlong instance paths start → IsAlong instance (drop (length start) paths) more → IsAlong instance paths (start ++ more)
+pub along-append : (instance : Instance) (paths : List ℕ) (start more : List Literal) → IsAlong instance paths start → IsAlong instance (drop (length start) paths) more → IsAlong instance paths (start ++ more)
 along-append instance paths [] more h k = k
 along-append instance [] (a ∷ start) more h k = absurd h
 along-append instance (path ∷ paths) (a ∷ start) more h k = (h.0, h.1, along-append instance paths start more h.2 k)

@@ -2,7 +2,7 @@
 use Rattle.std.proofs.Common.{◌≡◌, ◌↔◌, ℕ, zero, suc, ◌+◌, ◌-◌, ◌*◌, ◌/◌, ◌%◌, ◌<◌, ◌≤◌, min, Bool, cond, leb, List, [], ◌∷◌, length, get_or, take, Contains, IsTrue, ap, sym, ◌∙◌, subst, ⊎_elim, arith, mul_comm, mul-le-mul_left, mul-suc, length-take-le}
 use Rattle.std.proofs.lemmas.Bool.{cases_Bool, leb-true, le-leb, cases_lt, both_ways}
 use Rattle.std.proofs.lemmas.List.Elements.{Contains-get_or}
-use Rattle.std.proofs.lemmas.Nat.{div-mul-add, div_below, mod-mul-add}
+use Rattle.std.proofs.lemmas.Nat.{div-add-mod', mod_below, div-mul-add, div_below, mod-mul-add}
 use Rattle.fapp_model.specs.declared.instance.Instance.{Instance}
 use Rattle.fapp_model.specs.declared.literal.Literal.{Literal}
 use Rattle.fapp_model.specs.Jobs.{IsJob, depth, greatest_to, job_count, job_level, job_number, job_prefix, most_depth, prefixes, target, ways}
@@ -139,3 +139,12 @@ job-level instance place level l = level_of (levels_of instance) place level l
 
 pub job-prefix : (instance : Instance) (split place level : ℕ) → job_prefix instance split (job_number instance place level) ≡ get_or (prefixes instance split) place []
 job-prefix instance split place level = ap (λ n. get_or (prefixes instance split) n []) (place_of (levels_of instance) place level)
+
+number_of : (levels id : ℕ) → (levels + 1) * (id / (levels + 1)) + (levels - (levels - id % (levels + 1))) ≡ id
+number_of levels id =
+    let whole = div-add-mod' id (levels + 1) in
+    let small = mod_below id (levels + 1) (omega arith) in
+    rw (mul_comm (levels + 1) (id / (levels + 1))) (omega arith)
+
+pub job-number : (instance : Instance) (id : ℕ) → job_number instance (id / (levels_of instance + 1)) (job_level instance id) ≡ id
+job-number instance id = number_of (levels_of instance) id

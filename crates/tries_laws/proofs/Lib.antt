@@ -7,9 +7,6 @@ pub mod PrefixParts
 pub mod Sums
 pub mod TriesParts
 pub mod TriesCounts
-pub mod Decided
-pub mod ArcTables
-pub mod DeadDecided
 pub mod LineParts
 pub mod ListPlaces
 pub mod PlanPrefixes

@@ -1,9 +1,9 @@
 -- What is a member of a list that is made of others.
 use Rattle.std.proofs.Common.{◌≡◌, ◌⊎◌, ℕ, zero, suc, ◌<◌, Bool, true, List, [], ◌∷◌, length, get_or, map, flat_map, filter, All, Contains, refl, sym, subst, inl, inr, ⊎_elim, arith}
-use Rattle.std.specs.List.{range_with_len}
+use Rattle.std.specs.List.{list_any, range_with_len}
 use Rattle.std.proofs.lemmas.List.Elements.{All-nil, All-cons, Contains-append_left, Contains-append_right, Contains-append_cases}
 use Rattle.std.proofs.lemmas.List.FromFn.{length-range_with_len, get_or-range_with_len}
-use Rattle.std.proofs.lemmas.Bool.{cases_Bool}
+use Rattle.std.proofs.lemmas.Bool.{cases_Bool, or_cases, true≢false}
 
 module _ {X : Type 0} where
   pub at_front : (x : X) (xs : List X) → Contains (x ∷ xs) x
@@ -47,6 +47,14 @@ module _ {X : Type 0} where
       (front_or_behind y (filter p xs) x (rw yes at h)))
       (λ no. let r = from-filter p xs x (rw no at h) in (behind y xs x r.0, r.1))
       (cases_Bool (p y))
+
+  -- a member that passes a test
+  pub any-some : (p : X → Bool) (xs : List X) → list_any p xs ≡ true → (x : X) × Contains xs x × (p x ≡ true)
+  any-some p [] h = absurd (true≢false (sym h))
+  any-some p (x ∷ xs) h = ⊎_elim
+      (λ here. (x, at_front x xs, here))
+      (λ later. let r = any-some p xs later in (r.0, behind x xs r.0 r.1, r.2))
+      (or_cases (p x) (list_any p xs) h)
 
 -- the members of what a function makes of each
 module _ {X Y : Type 0} where

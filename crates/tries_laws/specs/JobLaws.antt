@@ -1,5 +1,5 @@
 -- What holds of jobs.
-use Rattle.std.specs.Prelude.{◌≡◌, ◌≢◌, ◌↔◌, ℕ, ◌<◌, ◌≤◌, List, [], length, take, slice_index_or, AllPairs, Contains}
+use Rattle.std.specs.Prelude.{◌≡◌, ◌≢◌, ◌↔◌, ℕ, ◌+◌, ◌/◌, ◌<◌, ◌≤◌, List, [], length, take, slice_index_or, AllPairs, Contains}
 use Rattle.fapp_model.specs.declared.instance.Instance.{Instance}
 use Rattle.fapp_model.specs.declared.literal.Literal.{Literal}
 use Rattle.fapp_model.specs.Assignments.{IsAssignment}
@@ -49,6 +49,8 @@ pub record JobsByNumber : Type 0 where
       IsJob instance split (job_level instance id) (job_prefix instance split id)
   pub below : (instance : Instance) (split place level : ℕ) → place < length (prefixes instance split) →
       level ≤ levels_of instance → job_number instance place level < job_count instance split
+  pub number : (instance : Instance) (id : ℕ) →
+      job_number instance (id / (levels_of instance + 1)) (job_level instance id) ≡ id
   pub level : (instance : Instance) (place level : ℕ) → level ≤ levels_of instance →
       job_level instance (job_number instance place level) ≡ level
   pub prefix : (instance : Instance) (split place level : ℕ) →

@@ -1,24 +1,22 @@
 -- What holds of tries.
-use Rattle.std.specs.Prelude.{◌≡◌, ◌≢◌, ◌⊎◌, ℕ, ◌+◌, ◌-◌, ◌<◌, ◌≤◌, Some, List, [], ◌∷◌, ◌++◌, length, take, slice_get, sum_by, All, AllPairs, Contains}
+use Rattle.std.specs.Prelude.{◌≡◌, ◌≢◌, ℕ, ◌+◌, ◌-◌, ◌<◌, ◌≤◌, Some, List, [], ◌∷◌, ◌++◌, length, take, slice_get, sum_by, All, AllPairs, Contains}
 use Rattle.std.specs.List.{range_with_len}
 use Rattle.fapp_model.specs.declared.instance.Instance.{Instance}
 use Rattle.fapp_model.specs.declared.literal.Literal.{Literal}
 use Rattle.fapp_model.specs.declared.triple.Triple.{Triple}
 use Rattle.fapp_model.specs.Assignments.{count_at}
 use Rattle.fapp_model.specs.Dead.{Dead}
+use Rattle.fapp_model.specs.Instances.{IsInstance}
 use Rattle.fapp_model.specs.Partials.{literal}
 use Rattle.fapp_model.specs.Prefixes.{GoesOn, IsPrefix, extensions}
+use Rattle.fapp_model.specs.Tags.{IsTagOf}
 use Rattle.fapp_model.specs.Tries.{IsTries}
 use Rattle.fapp_model.specs.WorkOrder.{work_order}
 
--- It is decided whether literals are dead at a tag.
-abbrev pub DeadIsDecided : Type 0
-DeadIsDecided = (instance : Instance) (t : Triple) (literals : List Literal) →
-    Dead instance t literals ⊎ (Dead instance t literals → ⊥)
-
--- A prefix has one number of tries at a tag.
+-- A prefix has one number of tries at a tag: at most one, and in a valid instance some.
 pub record OneNumberOfTries : Type 0 where
-  pub some : (instance : Instance) (t : Triple) (prefix : List Literal) → (n : ℕ) × IsTries instance t prefix n
+  pub some : (instance : Instance) (t : Triple) (prefix : List Literal) → IsInstance instance → IsTagOf instance t →
+      IsPrefix instance prefix → (n : ℕ) × IsTries instance t prefix n
   pub one : (instance : Instance) (t : Triple) (prefix : List Literal) (m n : ℕ) →
       IsTries instance t prefix m → IsTries instance t prefix n → m ≡ n
 

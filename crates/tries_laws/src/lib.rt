@@ -21,7 +21,4 @@ pub use rows::{
     free_tries, most_paths_tries, one_path_jobs, small_network_order, three_alike_jobs,
     two_paths_tries,
 };
-pub use tries::{
-    dead_is_decided, one_number_of_tries, tries_at_most_prefixes, tries_by_next,
-    tries_count_prefixes,
-};
+pub use tries::{one_number_of_tries, tries_at_most_prefixes, tries_by_next, tries_count_prefixes};

@@ -1,9 +1,4 @@
-ghost use Rattle.tries_laws.specs.TriesLaws.{DeadIsDecided, OneNumberOfTries, TriesAtMostPrefixes, TriesByNext, TriesCountPrefixes};
-
-/// It is decided whether literals are dead at a tag.
-pub fn dead_is_decided()
-    ensures { DeadIsDecided }
-{}
+ghost use Rattle.tries_laws.specs.TriesLaws.{OneNumberOfTries, TriesAtMostPrefixes, TriesByNext, TriesCountPrefixes};
 
 /// A prefix has one number of tries at a tag.
 pub fn one_number_of_tries()
