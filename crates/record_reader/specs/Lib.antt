@@ -1,7 +1,0 @@
-pub mod Rows
-pub mod Sheets
-pub mod Texts
-pub mod Networks
-pub mod Reading
-pub mod Stages
-pub mod Laws
