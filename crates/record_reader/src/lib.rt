@@ -1,0 +1,10 @@
+//! Reads the text of a network: a record a line, of domains, paths and constraints, in any order.
+#![tactic(auto)]
+
+mod cause;
+mod field;
+mod line;
+mod reader;
+mod row;
+
+pub use cause::{BadInput, Cause, ReadError};
