@@ -4,3 +4,10 @@ pub mod Entries
 pub mod Places
 pub mod Frequencies
 pub mod Added
+pub mod Ascending
+pub mod Results
+pub mod ValidRows
+pub mod ValidSheets
+pub mod ValidNetworks
+pub mod Drafts
+pub mod Settled

@@ -6,3 +6,5 @@ pub mod Sheets
 pub mod Wide
 pub mod Texts
 pub mod Readers
+pub mod Valid
+pub mod Drafts

@@ -1,3 +1,6 @@
+ghost use Rattle.std.specs.Prelude.{◌≡◌};
+ghost use Rattle.record_reader.specs.declared.cause.ReadError.TheVariants.{Bad};
+
 use std::alloc::{AllocError, AllocFailed};
 
 /// What is wrong with a line. The first ten are found at the line, given the lines before it, and are tested in
@@ -85,4 +88,11 @@ impl<T: Drop> From<AllocFailed<T>> for ReadError {
     fn from(_: AllocFailed<T>) -> Self {
         ReadError::NoMemory
     }
+}
+
+/// A line that is refused.
+pub(crate) fn bad(line: u32, cause: Cause) -> ReadError
+    ensures { result ≡ Bad (record { line = line; cause = cause }) }
+{
+    ReadError::Bad(BadInput { line, cause })
 }

@@ -2,9 +2,12 @@
 #![tactic(auto)]
 
 mod cause;
+mod draft;
 mod field;
 mod line;
 mod reader;
+mod reading;
 mod row;
 
 pub use cause::{BadInput, Cause, ReadError};
+pub use reading::read_instance;

@@ -1,17 +1,17 @@
 ghost use Rattle.std.specs.Prelude.{◌≡◌, ℕ, ◌≤◌, ◌==◌, false, length};
 ghost use Rattle.record_reader.specs.declared.row.Row.TheVariants as rows;
 ghost use Rattle.record_reader.specs.declared.row.Entry.TheVariants as entries;
-ghost use Rattle.record_reader.specs.declared.cause.ReadError.TheVariants.{Bad};
 ghost use Rattle.record_reader.specs.Fields.{fields_of};
 ghost use Rattle.record_reader.specs.Sheets.{read_row, read_line, at_line, read_lines};
 ghost use Rattle.record_reader.specs.Texts.{no_row};
 ghost use Rattle.record_reader.specs.Readers.{frequencies_in, AddsFrequency, IsIndexed, Goes, GivesReader};
 ghost use Rattle.fapp_text.specs.Lines.{lines};
 
+use crate::cause::bad;
 use crate::field::fields_of;
 use crate::line::row_of;
 use crate::row::{ConstraintRow, DomainRow, Entry, PathRow, Row, Sheet};
-use crate::{BadInput, Cause, ReadError};
+use crate::{Cause, ReadError};
 use fapp_model::{Items, MAX_DOMAIN_FREQUENCIES, MAX_DOMAIN_RECORDS, MAX_PATHS, MAX_RECORDS};
 use fapp_text::Lines;
 use std::alloc::Global;
@@ -115,12 +115,6 @@ impl Reader {
             Err(cause) => Err(bad(line, cause)),
         }
     }
-}
-
-fn bad(line: u32, cause: Cause) -> ReadError
-    ensures { result ≡ Bad (record { line = line; cause = cause }) }
-{
-    ReadError::Bad(BadInput { line, cause })
 }
 
 /// The frequencies of a domain, which it has no longer.
