@@ -1,0 +1,4 @@
+pub mod LineLemmas
+pub mod FieldLemmas
+pub mod DigitLemmas
+pub mod PlaceLemmas

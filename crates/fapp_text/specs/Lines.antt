@@ -1,0 +1,11 @@
+-- The lines of a text: the bytes up to each line feed, and those after the last one, if there are any.
+use Rattle.std.specs.Prelude.{ℕ, ◌==◌, List, [], ◌∷◌, if◌then◌else◌}
+use Rattle.std.specs.List.{onto_first}
+
+abbrev pub line_feed : ℕ
+line_feed = 10
+
+-- a line feed ends a line, and another byte stands at the front of the line that follows it
+abbrev pub lines : List ℕ → List (List ℕ)
+lines [] = []
+lines (b ∷ text) = if b == line_feed then [] ∷ lines text else onto_first b (lines text)

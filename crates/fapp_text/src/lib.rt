@@ -1,0 +1,50 @@
+//! Texts of lines, fields and numbers: what formats of one record a line are read and written by.
+#![tactic(auto)]
+
+mod field;
+mod line;
+mod numeral;
+
+pub use field::Fields;
+pub use line::Lines;
+pub use numeral::{MAX_NUMBER, NoMemory, NumFault, number, push_number};
+
+#[cfg(test)]
+mod tests {
+    use super::*;
+
+    #[test]
+    fn gives_lines_with_numbers(rt: HostRuntime) {
+        let mut lines = Lines::new(b"a b\n\nc\r");
+        assert_eq!(rt; lines.next(), Some((1, &b"a b"[..])));
+        assert_eq!(rt; lines.next(), Some((2, &b""[..])));
+        assert_eq!(rt; lines.next(), Some((3, &b"c\r"[..])));
+        assert_eq!(rt; lines.next(), None);
+    }
+
+    #[test]
+    fn gives_fields(rt: HostRuntime) {
+        let mut fields = Fields::new(b" \tTR  1\t02 ");
+        assert_eq!(rt; fields.next(), Some(&b"TR"[..]));
+        assert_eq!(rt; fields.next(), Some(&b"1"[..]));
+        assert_eq!(rt; fields.next(), Some(&b"02"[..]));
+        assert_eq!(rt; fields.next(), None);
+    }
+
+    #[test]
+    fn reads_numbers(rt: HostRuntime) {
+        assert_eq!(rt; number(b"007"), Ok(7));
+        assert_eq!(rt; number(b"1000000000"), Ok(1_000_000_000));
+        assert_eq!(rt; number(b"99999999999999999999"), Err(NumFault::TooLarge));
+        assert_eq!(rt; number(b"9999999999999999999x"), Err(NumFault::NotDigits));
+        assert_eq!(rt; number(b""), Err(NumFault::NotDigits));
+    }
+
+    #[test]
+    fn pushes_numbers(rt: HostRuntime) {
+        let mut out = Vec::new(rt.alloc());
+        assert_eq!(rt; push_number(&mut out, u64::MAX), Ok(()));
+        assert_eq!(rt; push_number(&mut out, 0), Ok(()));
+        assert_eq!(rt; out.as_slice(), &b"184467440737095516150"[..]);
+    }
+}

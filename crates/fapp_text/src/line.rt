@@ -1,0 +1,60 @@
+ghost use Rattle.std.specs.Prelude.{◌≡◌, ◌+◌, ◌<◌, ◌≤◌, ◌==◌, ◌∷◌, length};
+ghost use Rattle.std.specs.List.{position};
+ghost use Rattle.fapp_text.specs.Lines.{lines};
+
+/// The lines of a text, from its first on.
+#[derive(Debug, Drop)]
+pub struct Lines<'a> {
+    rest: &'a [u8],
+    given: u32,
+    ghost few: { given + length rest.now ≤ 1073741824 },
+}
+
+impl<'a> Lines<'a> {
+    ghost use Rattle.fapp_text.specs.Left.{lines_left, GivesLine};
+
+    /// All lines of a text of at most 2^30 bytes.
+    pub fn new(bytes: &'a [u8]) -> Lines<'a>
+        requires { length bytes.now ≤ 1073741824 }
+        ensures left { lines_left result ≡ lines bytes.now }
+        ensures given { result.given ≡ 0 }
+    {
+        Lines {
+            rest: bytes,
+            given: 0,
+        }
+    }
+
+    /// The next line and its number, from 1: the bytes up to a line feed, or all that follow the last line feed.
+    /// `None` where all bytes were given.
+    pub fn next(&mut self) -> Option<(u32, &'a [u8])>
+        ensures { GivesLine self.old result self.new }
+    {
+        if self.rest.is_empty() {
+            return None;
+        }
+        let (line, rest) = first_line(self.rest);
+        self.rest = rest;
+        self.given += 1;
+        Some((self.given, line))
+    }
+}
+
+/// The first line, and what stands after its line feed, if it has one.
+fn first_line(bytes: &[u8]) -> (&[u8], &[u8])
+    requires { 0 < length bytes.now }
+    ensures cut { lines bytes.now ≡ result.0.now ∷ lines result.1.now }
+    ensures shorter { length result.1.now < length bytes.now }
+{
+    match line_feed_at(bytes) {
+        Some(end) => (&bytes[..end], &bytes[end + 1..]),
+        None => (bytes, &[]),
+    }
+}
+
+/// Where the first line feed stands.
+fn line_feed_at(bytes: &[u8]) -> Option<usize>
+    ensures { result ≡ position (λ b. b == 10) bytes.now }
+{
+    bytes.iter().position(|byte| *byte == b'\n')
+}

@@ -1,0 +1,13 @@
+pub mod Rising
+pub mod Distances
+pub mod Entries
+pub mod Places
+pub mod Frequencies
+pub mod Added
+pub mod Ascending
+pub mod Results
+pub mod ValidRows
+pub mod ValidSheets
+pub mod ValidNetworks
+pub mod Drafts
+pub mod Settled

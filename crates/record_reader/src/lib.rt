@@ -1,0 +1,13 @@
+//! Reads the text of a network: a record a line, of domains, paths and constraints, in any order.
+#![tactic(auto)]
+
+mod cause;
+mod draft;
+mod field;
+mod line;
+mod reader;
+mod reading;
+mod row;
+
+pub use cause::{BadInput, Cause, ReadError};
+pub use reading::read_instance;

@@ -1,0 +1,20 @@
+ghost use Rattle.std.specs.Prelude.{◌≤◌, length, IfOk};
+ghost use Rattle.fapp_model.specs.Instances.{IsInstance};
+ghost use Rattle.record_reader.specs.Texts.{instance_of_text, Gives};
+
+use crate::ReadError;
+use crate::draft::instance_of;
+use crate::reader::read_rows;
+use fapp_model::Instance;
+use std::alloc::Global;
+
+/// Reads the network of a text of at most 2^30 bytes.
+pub fn read_instance(alloc: Global, bytes: &[u8]) -> Result<Instance, ReadError>
+    requires { length bytes.now ≤ 1073741824 }
+    // The network of the text, or the first line that is refused and why.
+    ensures reads { Gives (λ instance. instance) result (instance_of_text bytes.now) }
+    ensures valid { IfOk result IsInstance }
+{
+    let reader = read_rows(alloc, bytes)?;
+    instance_of(alloc, &reader)
+}
