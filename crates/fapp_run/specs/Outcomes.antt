@@ -1,27 +1,16 @@
 -- What is answered to the words and the input.
-use Rattle.std.specs.Prelude.{◌≡◌, ◌⊎◌, ℕ, ◌<◌, ◌≤◌, List, [], length, Option, IfSome, String}
+use Rattle.std.specs.Prelude.{◌≡◌, ℕ, ◌<◌, ◌≤◌, List, [], length, Option, Ok, Err, IfSome, String}
 use Rattle.std.specs.Global.{Global}
 use Rattle.fapp_io.specs.Counts.{Rose}
 use Rattle.fapp_model.specs.declared.instance.Instance.{Instance}
 use Rattle.fapp_model.specs.Least.{IsFeasible, Least}
-use Rattle.record_reader.specs.Texts.{text_of}
-use Rattle.record_reader.specs.Networks.{IsInstanceOf}
-use Rattle.record_reader.specs.Sheets.{IsProper}
-use Rattle.record_reader.specs.declared.row.Sheet.{Sheet}
+use Rattle.record_reader.specs.Texts.{instance_of_text}
 use Rattle.fapp_run.specs.declared.outcome.TheConstants.{MAX_INPUT}
 use Rattle.fapp_run.specs.declared.status.Status.{Status}
-use Rattle.fapp_run.specs.declared.status.Status.TheVariants.{Best, NoneFeasible, Usage, UnbuiltRecord, ReadFault, WriteFault, NoMemory}
+use Rattle.fapp_run.specs.declared.status.Status.TheVariants.{Best, NoneFeasible, Usage, BadInput, TooLong, ReadFault}
 use Rattle.fapp_run.specs.PlanText.{plan_text}
 use Rattle.fapp_run.specs.Statuses.{refusal_line}
 use Rattle.fapp_run.specs.Words.{ArePromised}
-
--- the bytes are the text of the network
-abbrev pub IsTextOf : List ℕ → Instance → Type 0
-IsTextOf bytes instance = (sheet : Sheet) × IsProper sheet × (bytes ≡ text_of sheet) × IsInstanceOf sheet instance
-
--- the bytes are not of the form that is read
-abbrev pub IsUnbuilt : List ℕ → Type 0
-IsUnbuilt bytes = (sheet : Sheet) → IsProper sheet → bytes ≡ text_of sheet → ⊥
 
 -- a network's answer: its least plan in lines, or nothing where no plan is feasible
 abbrev pub IsPlanOf : Instance → Status → List ℕ → Type 0
@@ -29,10 +18,10 @@ IsPlanOf instance Best text = (plan : List ℕ) × Least instance plan × (text 
 IsPlanOf instance NoneFeasible text = ((plan : List ℕ) → IsFeasible instance plan → ⊥) × (text ≡ [])
 IsPlanOf instance _ text = ⊥
 
--- the answer to an input that was read to its end
+-- the answer to an input that was read to its end: that of the network whose text it is, or its first refused line
 abbrev pub Answers : List ℕ → Status → List ℕ → Type 0
-Answers bytes UnbuiltRecord text = IsUnbuilt bytes × (text ≡ refusal_line UnbuiltRecord)
-Answers bytes status text = (instance : Instance) × IsTextOf bytes instance × IsPlanOf instance status text
+Answers bytes (BadInput refused) text = (instance_of_text bytes ≡ Err refused) × (text ≡ refusal_line (BadInput refused))
+Answers bytes status text = (instance : Instance) × (instance_of_text bytes ≡ Ok instance) × IsPlanOf instance status text
 
 -- the bytes that were left, where the source tells them
 abbrev pub WereLeft : Option (List ℕ) → List ℕ → Type 0
@@ -51,6 +40,6 @@ IsOutcome words left left_after faults faults_after Usage text =
     (ArePromised words → ⊥) × (left_after ≡ left) × (faults_after ≡ faults) × (text ≡ refusal_line Usage)
 IsOutcome words left left_after faults faults_after ReadFault text =
     ArePromised words × Rose faults faults_after × (text ≡ refusal_line ReadFault)
-IsOutcome words left left_after faults faults_after UnbuiltRecord text =
-    ArePromised words × ((IsTooLong left × (text ≡ refusal_line UnbuiltRecord)) ⊎ AnswersInput left UnbuiltRecord text)
+IsOutcome words left left_after faults faults_after TooLong text =
+    ArePromised words × IsTooLong left × (text ≡ refusal_line TooLong)
 IsOutcome words left left_after faults faults_after status text = ArePromised words × AnswersInput left status text

@@ -11,5 +11,3 @@ mod words;
 pub use status::Status;
 pub use top::run;
 
-#[cfg(test)]
-mod tests;

@@ -14,7 +14,7 @@ use record_reader::{ReadError, read_instance};
 use std::alloc::Global;
 
 /// The most bytes of an input.
-pub const MAX_INPUT: usize = 65_536;
+pub const MAX_INPUT: usize = 67_108_864;
 
 /// A status, and all that is to be written before the program ends with it.
 #[derive(Drop)]
@@ -37,7 +37,7 @@ pub fn outcome_of<S: Source>(
     }
     match read_all(alloc, source, MAX_INPUT) {
         Ok(bytes) => answer(alloc, &bytes),
-        Err(ReadEnd::TooLong) => refused(alloc, Status::UnbuiltRecord),
+        Err(ReadEnd::TooLong) => refused(alloc, Status::TooLong),
         Err(ReadEnd::ReadFault) => refused(alloc, Status::ReadFault),
         Err(ReadEnd::NoMemory) => Err(NoMemory),
     }
@@ -50,7 +50,7 @@ fn answer(alloc: Global, bytes: &[u8]) -> Result<Outcome, NoMemory>
 {
     match read_instance(alloc, bytes) {
         Ok(instance) => planned(alloc, &instance),
-        Err(ReadError::Unbuilt) => refused(alloc, Status::UnbuiltRecord),
+        Err(ReadError::Bad(bad)) => refused(alloc, Status::BadInput(bad)),
         Err(ReadError::NoMemory) => Err(NoMemory),
     }
 }

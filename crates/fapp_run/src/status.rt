@@ -1,6 +1,7 @@
-ghost use Rattle.std.specs.Prelude.{◌≡◌, IfOk, string_bytes};
-ghost use Rattle.fapp_run.specs.Statuses.{code_of, refusal_line};
+ghost use Rattle.std.specs.Prelude.{◌≡◌, ◌++◌, [], ◌∷◌, IfOk, string_bytes};
+ghost use Rattle.fapp_run.specs.Statuses.{code_of, refusal_line, bad_input_line};
 
+use record_reader::BadInput;
 use std::alloc::{AllocError, Global};
 
 /// How a run ended.
@@ -12,8 +13,10 @@ pub enum Status {
     NoneFeasible,
     /// The words are not `solve --answer-only`. Nothing was read.
     Usage,
-    /// The input is no text of a network in the form that is read.
-    UnbuiltRecord,
+    /// The input is no text of a network: its first refused line, and why.
+    BadInput(BadInput),
+    /// The input has more bytes than the limit.
+    TooLong,
     /// The source failed.
     ReadFault,
     /// The sink failed. A front of what was to be written was taken.
@@ -31,7 +34,7 @@ impl Status {
             Status::Best => 0,
             Status::NoneFeasible => 1,
             Status::Usage => 64,
-            Status::UnbuiltRecord => 65,
+            Status::BadInput(_) | Status::TooLong => 65,
             Status::ReadFault => 66,
             Status::WriteFault => 67,
             Status::NoMemory => 68,
@@ -43,13 +46,23 @@ impl Status {
         ensures { IfOk result (λ text. string_bytes text ≡ refusal_line self) }
     {
         let line = match self {
+            Status::BadInput(bad) => return bad_input_line(alloc, bad.line, bad.cause.name()),
             Status::Usage => "USAGE\n",
-            Status::UnbuiltRecord => "UNBUILT\n",
+            Status::TooLong => "BADINPUT 0 TooLong\n",
             Status::ReadFault => "READFAULT\n",
             Status::Best | Status::NoneFeasible | Status::WriteFault | Status::NoMemory => "",
         };
         String::from_str(alloc, line)
     }
+}
+
+/// The line that tells of a refused line of the input, from 1, and why it is refused.
+fn bad_input_line(alloc: Global, line: u32, cause: &str) -> Result<String, AllocError>
+    ensures { IfOk result (λ text. string_bytes text ≡ bad_input_line line cause.now) }
+{
+    let mut text = String::new(alloc);
+    writeln!(text, "BADINPUT {line} {cause}")?;
+    Ok(text)
 }
 
 /// There was no memory.

@@ -96,3 +96,30 @@ pub(crate) fn bad(line: u32, cause: Cause) -> ReadError
 {
     ReadError::Bad(BadInput { line, cause })
 }
+
+impl Cause {
+    ghost use Rattle.record_reader.specs.Causes.{cause_name};
+
+    /// Its name, as it is printed.
+    pub fn name(self) -> &'static str
+        ensures { result.now ≡ cause_name self }
+    {
+        match self {
+            Cause::UnknownRecord => "UnknownRecord",
+            Cause::FieldCount => "FieldCount",
+            Cause::BadNumber => "BadNumber",
+            Cause::BadWord => "BadWord",
+            Cause::BadPolarization => "BadPolarization",
+            Cause::DuplicatePath => "DuplicatePath",
+            Cause::UnknownDomain => "UnknownDomain",
+            Cause::UnknownPath => "UnknownPath",
+            Cause::SelfPair => "SelfPair",
+            Cause::Increasing => "Increasing",
+            Cause::TooManyPaths => "TooManyPaths",
+            Cause::TooManyValues => "TooManyValues",
+            Cause::TooManyRecords => "TooManyRecords",
+            Cause::DomainTooLarge => "DomainTooLarge",
+            Cause::TooManyChoices => "TooManyChoices",
+        }
+    }
+}
