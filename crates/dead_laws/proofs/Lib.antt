@@ -18,3 +18,6 @@ pub mod DeadFull
 pub mod BestChoices
 pub mod DeadMore
 pub mod DeadTests
+pub mod RowTests
+pub mod TiedPair
+pub mod ThreeAlike

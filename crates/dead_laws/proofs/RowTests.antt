@@ -1,0 +1,113 @@
+-- Arcs and dead partial assignments of small networks by tests that are computed.
+use Rattle.std.proofs.Common.{◌≡◌, ◌≢◌, ◌⊎◌, ℕ, ◌<◌, Bool, true, false, ◌&&◌, ◌||◌, ltb, List, [], ◌∷◌, length, All, IsTrue, refl, sym, subst, inl, inr, arith}
+use Rattle.std.specs.List.{list_all, list_any, range_with_len}
+use Rattle.std.proofs.lemmas.Bool.{and_parts, and_from, both_ways, lt-ltb, ltb-true, or_cases, true≢false}
+use Rattle.std.proofs.lemmas.List.Elements.{All-contains, All-cons, All-nil}
+use Rattle.std.proofs.lemmas.List.Kept.{AllPairs-cons}
+use Rattle.std.proofs.lemmas.List.Sums.{AllPass-from_list_all}
+use Rattle.fapp_model.specs.declared.instance.Instance.{Instance}
+use Rattle.fapp_model.specs.declared.literal.Literal.{Literal}
+use Rattle.fapp_model.specs.declared.record.Record.{Record}
+use Rattle.fapp_model.specs.declared.triple.Triple.{Triple}
+use Rattle.fapp_model.specs.Arcs.{InArc, IsSupported, OutsideArc}
+use Rattle.fapp_model.specs.Assignments.{count_at}
+use Rattle.fapp_model.specs.Clashes.{clashes, joins, shares_record}
+use Rattle.fapp_model.specs.Dead.{Dead}
+use Rattle.fapp_model.specs.Pairs.{IsPairBelow, limit_of}
+use Rattle.fapp_model.specs.Partials.{literal, IsLiteral, IsPartial}
+use Rattle.fapp_model.specs.Records.{first_path, second_path}
+use Rattle.fapp_model.specs.Tags.{has_limit, least_tag, mode_level}
+use Rattle.fapp_model.specs.Weights.{pair_with}
+use Rattle.dead_laws.specs.DeadLaws.{AgreeOn}
+use Rattle.dead_laws.proofs.Anys.{contains-range, no-member, passing}
+use Rattle.dead_laws.proofs.ArcTest.{has_lonely, supported-by_test}
+use Rattle.dead_laws.proofs.DeadTests.{alive, dead_by-along, has_clash, is_stuck, least_pairs}
+use Rattle.dead_laws.proofs.RecordEnds.{joins-ends}
+
+-- what a test says of each number below another
+pub below-all : (n : ℕ) (p : ℕ → Bool) → list_all p (range_with_len 0 n) ≡ true → (m : ℕ) → m < n → p m ≡ true
+below-all n p h m small = All-contains (λ k. p k ≡ true) (range_with_len 0 n) m (AllPass-from_list_all p (range_with_len 0 n) h) (contains-range n m small)
+
+-- ---- outside
+
+-- whether a literal clashes with each choice of a path
+abbrev pub is_alone : Instance → Literal → ℕ → ℕ → Bool
+is_alone instance a path level = list_all (λ index. clashes instance level a (literal path index)) (range_with_len 0 (count_at instance path))
+
+alone-outside : (instance : Instance) (level : ℕ) (a : Literal) (path : ℕ) → shares_record instance a.path path ≡ true → is_alone instance a path level ≡ true → OutsideArc instance level a
+alone-outside instance level a path shares alone (family, supported, member) =
+    let friend = supported.supported a path member shares in
+    let small = (supported.in_range (literal path friend.index) friend.member).choice in
+    both_ways (clashes instance level a (literal path friend.index)) friend.apart
+    (below-all (count_at instance path) (λ index. clashes instance level a (literal path index)) alone friend.index small)
+
+pub outside-below : (instance : Instance) (a : Literal) (path levels : ℕ) → shares_record instance a.path path ≡ true → list_all (is_alone instance a path) (range_with_len 0 levels) ≡ true → (level : ℕ) → level < levels → OutsideArc instance level a
+outside-below instance a path levels shares alone level small = alone-outside instance level a path shares (below-all levels (is_alone instance a path) alone level small)
+
+-- ---- inside
+
+-- the records name paths below a number
+abbrev pub names_below : ℕ → Record → Bool
+names_below n r = ltb (first_path r) n && ltb (second_path r) n
+
+abbrev pub is_within : Instance → Bool
+is_within instance = list_all (names_below (length instance.paths)) instance.records
+
+shares-below : (instance : Instance) → is_within instance ≡ true → (p q : ℕ) → shares_record instance p q ≡ true → q < length instance.paths
+shares-below instance within p q h =
+    let n = length instance.paths in
+    let found = passing (λ r. joins p q r || joins q p r) instance.records h in
+    let parts = and_parts (ltb (first_path found.item) n) (ltb (second_path found.item) n)
+    (All-contains (λ r. names_below n r ≡ true) instance.records found.item (AllPass-from_list_all (names_below n) instance.records within) found.member) in
+    elim (or_cases (joins p q found.item) (joins q p found.item) found.passes) [
+      | inl e ↦ subst (λ k. k < n) (joins-ends p q found.item e).1 (ltb-true (second_path found.item) n parts.1)
+      | inr e ↦ subst (λ k. k < n) (joins-ends q p found.item e).0 (ltb-true (first_path found.item) n parts.0)
+    ]
+
+-- all choices
+abbrev pub each_choice : Instance → Literal → Bool
+each_choice instance a = ltb a.path (length instance.paths) && ltb a.choice (count_at instance a.path)
+
+pub each-literal : (instance : Instance) (a : Literal) → each_choice instance a ≡ true → IsLiteral instance a
+each-literal instance a h =
+    let parts = and_parts (ltb a.path (length instance.paths)) (ltb a.choice (count_at instance a.path)) h in
+    record { path = ltb-true a.path (length instance.paths) parts.0; choice = ltb-true a.choice (count_at instance a.path) parts.1 }
+
+literal-each : (instance : Instance) (a : Literal) → IsLiteral instance a → each_choice instance a ≡ true
+literal-each instance a h =
+    and_from (ltb a.path (length instance.paths)) (ltb a.choice (count_at instance a.path))
+    (lt-ltb a.path (length instance.paths) h.path) (lt-ltb a.choice (count_at instance a.path) h.choice)
+
+pub inside-by : (instance : Instance) (level : ℕ) (family : Literal → Bool) → ((a : Literal) → family a ≡ true → IsLiteral instance a) → is_within instance ≡ true → has_lonely instance level family ≡ false → (a : Literal) → family a ≡ true → InArc instance level a
+inside-by instance level family in_range within none a member =
+    (family, supported-by_test instance level family in_range (shares-below instance within) none, member)
+
+-- where no choice lacks a partner
+pub each-inside : (instance : Instance) (level : ℕ) → is_within instance ≡ true → has_lonely instance level (each_choice instance) ≡ false → (a : Literal) → IsLiteral instance a → InArc instance level a
+each-inside instance level within none a h = inside-by instance level (each_choice instance) (each-literal instance) within none a (literal-each instance a h)
+
+-- ---- partial assignments
+
+pub no-literals : (instance : Instance) → IsPartial instance []
+no-literals instance = record { in_range = All-nil (IsLiteral instance); distinct = λ i j d l m. absurd (omega arith) }
+
+pub one-more : (instance : Instance) (a : Literal) (literals : List Literal) → IsLiteral instance a → All (λ b. a.path ≢ b.path) literals → IsPartial instance literals → IsPartial instance (a ∷ literals)
+one-more instance a literals h apart partial = record {
+  in_range = All-cons (IsLiteral instance) a literals h partial.in_range;
+  distinct = AllPairs-cons (λ a b. a.path ≢ b.path) a literals apart partial.distinct;
+}
+
+-- ---- not dead, where no choice lacks a partner
+
+module _ (instance : Instance) (t : Triple) (literals : List Literal) (partial : IsPartial instance literals) (within : is_within instance ≡ true) (none : has_lonely instance (mode_level t) (each_choice instance) ≡ false) where
+  agree : AgreeOn instance (OutsideArc instance (mode_level t)) (λ a. false ≡ true)
+  agree a h = (λ out. absurd (out (each-inside instance (mode_level t) within none a h)), λ e. absurd (true≢false (sym e)))
+
+  pub lives : has_clash instance (mode_level t) literals ≡ false →
+      list_any (is_stuck instance (mode_level t) (λ a. false) literals) (range_with_len 0 (length instance.paths)) ≡ false →
+      (t ≡ least_tag → ⊥) →
+      (IsTrue (has_limit t) → IsPairBelow (pair_with instance (mode_level t) literals (least_pairs instance (mode_level t) (λ a. false) literals)) (limit_of t)) →
+      Dead instance t literals → ⊥
+  lives calm loose above under dead =
+      alive instance t (λ a. false) literals partial calm (no-member (λ a. false) literals (λ x c. refl)) loose above under
+      (dead_by-along instance (OutsideArc instance (mode_level t)) (λ a. false ≡ true) agree t literals partial dead)
