@@ -1,5 +1,5 @@
 -- Arcs and dead partial assignments of small networks by tests that are computed.
-use Rattle.std.proofs.Common.{◌≡◌, ◌≢◌, ◌⊎◌, ℕ, ◌<◌, Bool, true, false, ◌&&◌, ◌||◌, ltb, List, [], ◌∷◌, length, All, IsTrue, refl, sym, subst, inl, inr, arith}
+use Rattle.std.proofs.Common.{◌≡◌, ◌≢◌, ℕ, ◌<◌, Bool, true, false, ◌&&◌, ◌||◌, ltb, List, [], ◌∷◌, length, All, IsTrue, refl, sym, subst, inl, inr, arith}
 use Rattle.std.specs.List.{list_all, list_any, range_with_len}
 use Rattle.std.proofs.lemmas.Bool.{and_parts, and_from, both_ways, lt-ltb, ltb-true, or_cases, true≢false}
 use Rattle.std.proofs.lemmas.List.Elements.{All-contains, All-cons, All-nil}
@@ -9,7 +9,7 @@ use Rattle.fapp_model.specs.declared.instance.Instance.{Instance}
 use Rattle.fapp_model.specs.declared.literal.Literal.{Literal}
 use Rattle.fapp_model.specs.declared.record.Record.{Record}
 use Rattle.fapp_model.specs.declared.triple.Triple.{Triple}
-use Rattle.fapp_model.specs.Arcs.{InArc, IsSupported, OutsideArc}
+use Rattle.fapp_model.specs.Arcs.{InArc, OutsideArc}
 use Rattle.fapp_model.specs.Assignments.{count_at}
 use Rattle.fapp_model.specs.Clashes.{clashes, joins, shares_record}
 use Rattle.fapp_model.specs.Dead.{Dead}
@@ -24,15 +24,26 @@ use Rattle.dead_laws.proofs.ArcTest.{has_lonely, supported-by_test}
 use Rattle.dead_laws.proofs.DeadTests.{alive, dead_by-along, has_clash, is_stuck, least_pairs}
 use Rattle.dead_laws.proofs.RecordEnds.{joins-ends}
 
--- what a test says of each number below another
-pub below-all : (n : ℕ) (p : ℕ → Bool) → list_all p (range_with_len 0 n) ≡ true → (m : ℕ) → m < n → p m ≡ true
+-- whether each number below another passes a test
+abbrev pub all_below : ℕ → (ℕ → Bool) → Bool
+all_below n p = list_all p (range_with_len 0 n)
+
+-- what such a test says of each
+pub below-all : (n : ℕ) (p : ℕ → Bool) → all_below n p ≡ true → (m : ℕ) → m < n → p m ≡ true
 below-all n p h m small = All-contains (λ k. p k ≡ true) (range_with_len 0 n) m (AllPass-from_list_all p (range_with_len 0 n) h) (contains-range n m small)
+
+-- the same of each three
+pub below-three : (n : ℕ) (p : ℕ → ℕ → ℕ → Bool) → all_below n (λ i. all_below n (λ j. all_below n (p i j))) ≡ true → (i j k : ℕ) → i < n → j < n → k < n → p i j k ≡ true
+below-three n p h i j k small_i small_j small_k =
+    below-all n (p i j)
+    (below-all n (λ b. all_below n (p i b)) (below-all n (λ a. all_below n (λ b. all_below n (p a b))) h i small_i) j small_j)
+    k small_k
 
 -- ---- outside
 
 -- whether a literal clashes with each choice of a path
 abbrev pub is_alone : Instance → Literal → ℕ → ℕ → Bool
-is_alone instance a path level = list_all (λ index. clashes instance level a (literal path index)) (range_with_len 0 (count_at instance path))
+is_alone instance a path level = all_below (count_at instance path) (λ index. clashes instance level a (literal path index))
 
 alone-outside : (instance : Instance) (level : ℕ) (a : Literal) (path : ℕ) → shares_record instance a.path path ≡ true → is_alone instance a path level ≡ true → OutsideArc instance level a
 alone-outside instance level a path shares alone (family, supported, member) =
@@ -41,7 +52,7 @@ alone-outside instance level a path shares alone (family, supported, member) =
     both_ways (clashes instance level a (literal path friend.index)) friend.apart
     (below-all (count_at instance path) (λ index. clashes instance level a (literal path index)) alone friend.index small)
 
-pub outside-below : (instance : Instance) (a : Literal) (path levels : ℕ) → shares_record instance a.path path ≡ true → list_all (is_alone instance a path) (range_with_len 0 levels) ≡ true → (level : ℕ) → level < levels → OutsideArc instance level a
+pub outside-below : (instance : Instance) (a : Literal) (path levels : ℕ) → shares_record instance a.path path ≡ true → all_below levels (is_alone instance a path) ≡ true → (level : ℕ) → level < levels → OutsideArc instance level a
 outside-below instance a path levels shares alone level small = alone-outside instance level a path shares (below-all levels (is_alone instance a path) alone level small)
 
 -- ---- inside

@@ -1,6 +1,6 @@
 -- Three paths of two frequencies each, no two of which may have one at any level.
-use Rattle.std.proofs.Common.{◌≡◌, ◌≢◌, ◌⊎◌, ℕ, zero, suc, ◌+◌, ◌<◌, Bool, true, false, [], ◌∷◌, length, IsTrue, refl, sym, ap, ◌∙◌, subst, inr, arith}
-use Rattle.std.proofs.lemmas.Bool.{false≢true, true≢false}
+use Rattle.std.proofs.Common.{◌≡◌, ◌≢◌, ◌⊎◌, ℕ, zero, suc, ◌+◌, ◌<◌, Bool, true, false, not, [], ◌∷◌, length, IsTrue, refl, sym, ap, ◌∙◌, subst, inr, arith}
+use Rattle.std.proofs.lemmas.Bool.{false≢true, not-true, true≢false}
 use Rattle.std.proofs.lemmas.List.Elements.{All-cons, All-nil}
 use Rattle.fapp_model.specs.declared.literal.Literal.{Literal}
 use Rattle.fapp_model.specs.Arcs.{InArc, OutsideArc}
@@ -12,9 +12,9 @@ use Rattle.fapp_model.specs.Partials.{literal, names, IsLiteral, IsPartial}
 use Rattle.fapp_model.specs.Tags.{least_tag, mode_level}
 use Rattle.fapp_model.specs.Weights.{added_pair, pair_with}
 use Rattle.dead_laws.specs.Networks.{three_alike}
-use Rattle.dead_laws.specs.RowLaws.{OneChoiceLives, ThreeChoices, UnlikeSum, UnlikeTags, eleven_levels, tag, three_choices, unlike}
+use Rattle.dead_laws.specs.RowLaws.{EachThreeDie, OneChoiceLives, UnlikeSum, UnlikeTags, eleven_levels, tag, three_choices, unlike}
 use Rattle.dead_laws.proofs.DeadTests.{clash-dead, has_clash, least-pairs, least_pairs}
-use Rattle.dead_laws.proofs.RowTests.{below-all, each-inside, lives, no-literals, one-more}
+use Rattle.dead_laws.proofs.RowTests.{all_below, below-all, below-three, each-inside, lives, no-literals, one-more}
 
 at-three : (path index : ℕ) → path < 3 → index < 2 → IsLiteral three_alike (literal path index)
 unfolding three_alike
@@ -42,9 +42,9 @@ unlike-partial = one-more three_alike (literal 0 0) (literal 1 1 ∷ []) (at-thr
     (All-cons (λ b. 0 ≢ b.path) (literal 1 1) [] (λ e. omega (arith, e)) (All-nil _))
     (one-more three_alike (literal 1 1) [] (at-three 1 1 (omega arith) (omega arith)) (All-nil _) (no-literals three_alike))
 
-inside-last : (path index : ℕ) → path < 3 → index < 2 → InArc three_alike 11 (literal path index)
+third-inside : InArc three_alike 11 (literal 2 0)
 unfolding three_alike
-inside-last path index l m = each-inside three_alike 11 refl refl (literal path index) (at-three path index l m)
+third-inside = each-inside three_alike 11 refl refl (literal 2 0) (at-three 2 0 (omega arith) (omega arith))
 
 -- the third path adds one pair by either choice
 third-adds : (index : ℕ) → index < count_at three_alike 2 → added_pair three_alike 11 unlike (literal 2 index) ≡ eleven_levels
@@ -58,7 +58,7 @@ unfolding three_alike
 unlike-least = record {
   index = 0;
   in_range = omega arith;
-  remains = record { kept = λ out. out (inside-last 2 0 (omega arith) (omega arith)); free = refl };
+  remains = record { kept = λ out. out third-inside; free = refl };
   reached = third-adds 0 (omega arith);
   least = λ other small r. subst (IsPairAtMost eleven_levels) (sym (third-adds other small)) (inr (refl, omega arith));
 }
@@ -113,37 +113,31 @@ three-partial first second third l m n =
     (All-cons (λ b. 1 ≢ b.path) (literal 2 third) [] (λ e. omega (arith, e)) (All-nil _))
     (one-more three_alike (literal 2 third) [] (at-three 2 third (omega arith) n) (All-nil _) (no-literals three_alike)))
 
--- whether two of the literals clash at the level of a tag
+-- whether two of the choices clash at a level
 abbrev clash_at : ℕ → ℕ → ℕ → ℕ → Bool
-clash_at first second third level = has_clash three_alike (mode_level (tag (level + 1) 0 0)) (three_choices first second third)
+clash_at first second third level = has_clash three_alike level (three_choices first second third)
 
-two-clash : (first second third level : ℕ) → first < 2 → second < 2 → third < 2 → level < 11 → clash_at first second third level ≡ true
+two-clash : (first second third level : ℕ) → first < 2 → second < 2 → third < 2 → level < 11 → has_clash three_alike (mode_level (tag (level + 1) 0 0)) (three_choices first second third) ≡ true
 unfolding three_alike
-two-clash zero zero zero level l m n k = below-all 11 (clash_at 0 0 0) refl level k
-two-clash zero zero (suc zero) level l m n k = below-all 11 (clash_at 0 0 1) refl level k
-two-clash zero (suc zero) zero level l m n k = below-all 11 (clash_at 0 1 0) refl level k
-two-clash zero (suc zero) (suc zero) level l m n k = below-all 11 (clash_at 0 1 1) refl level k
-two-clash (suc zero) zero zero level l m n k = below-all 11 (clash_at 1 0 0) refl level k
-two-clash (suc zero) zero (suc zero) level l m n k = below-all 11 (clash_at 1 0 1) refl level k
-two-clash (suc zero) (suc zero) zero level l m n k = below-all 11 (clash_at 1 1 0) refl level k
-two-clash (suc zero) (suc zero) (suc zero) level l m n k = below-all 11 (clash_at 1 1 1) refl level k
-two-clash (suc (suc first)) second third level l m n k = absurd (omega arith)
-two-clash zero (suc (suc second)) third level l m n k = absurd (omega arith)
-two-clash (suc zero) (suc (suc second)) third level l m n k = absurd (omega arith)
-two-clash zero zero (suc (suc third)) level l m n k = absurd (omega arith)
-two-clash zero (suc zero) (suc (suc third)) level l m n k = absurd (omega arith)
-two-clash (suc zero) zero (suc (suc third)) level l m n k = absurd (omega arith)
-two-clash (suc zero) (suc zero) (suc (suc third)) level l m n k = absurd (omega arith)
+two-clash first second third level l m n k =
+    below-all 11 (λ q. clash_at first second third (mode_level (tag (q + 1) 0 0)))
+    (below-three 2 (λ i j k. all_below 11 (λ q. clash_at i j k (mode_level (tag (q + 1) 0 0)))) refl first second third l m n)
+    level k
 
-top-lives : Dead three_alike (tag 12 0 0) (three_choices 0 0 0) → ⊥
+none-clash : (first second third : ℕ) → first < 2 → second < 2 → third < 2 → clash_at first second third 11 ≡ false
 unfolding three_alike
-top-lives = lives three_alike (tag 12 0 0) (three_choices 0 0 0) (three-partial 0 0 0 (omega arith) (omega arith) (omega arith)) refl refl refl refl
-    (positive 12 0 0 (omega arith)) (λ some. absurd (false≢true some))
+none-clash first second third l m n = not-true (clash_at first second third 11) (below-three 2 (λ i j k. not (clash_at i j k 11)) refl first second third l m n)
 
-pub three-choices : ThreeChoices
-three-choices = record {
-  each_level = λ first second third level l m n small.
+last-lives : (first second third : ℕ) → first < 2 → second < 2 → third < 2 → Dead three_alike (tag 12 0 0) (three_choices first second third) → ⊥
+unfolding three_alike
+last-lives first second third l m n =
+    lives three_alike (tag 12 0 0) (three_choices first second third) (three-partial first second third l m n) refl refl
+    (none-clash first second third l m n) refl (positive 12 0 0 (omega arith)) (λ some. absurd (false≢true some))
+
+pub each-three : EachThreeDie
+each-three first second third l m n = record {
+  levels = λ level small.
       clash-dead (OutsideArc three_alike (mode_level (tag (level + 1) 0 0))) three_alike (tag (level + 1) 0 0) (three_choices first second third)
       (two-clash first second third level l m n (omega arith));
-  top = top-lives;
+  last = last-lives first second third l m n;
 }

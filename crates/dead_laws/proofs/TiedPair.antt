@@ -1,5 +1,5 @@
 -- The arcs of two paths whose equal polarizations are demanded, although they are too close.
-use Rattle.std.proofs.Common.{◌≡◌, ℕ, zero, suc, ◌<◌, ◌≤◌, Bool, true, ◌&&◌, not, refl, arith}
+use Rattle.std.proofs.Common.{◌≡◌, ℕ, zero, suc, ◌<◌, ◌≤◌, Bool, true, not, refl, arith}
 use Rattle.std.proofs.lemmas.Bool.{and_parts}
 use Rattle.fapp_model.specs.declared.literal.Literal.{Literal}
 use Rattle.fapp_model.specs.Arcs.{InArc, OutsideArc}

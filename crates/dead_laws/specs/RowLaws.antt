@@ -22,7 +22,7 @@ pub record EntersLast (instance : Instance) (a : Literal) : Type 0 where
   pub inside : InArc instance 11 a
 
 pub record TiedPairArcs : Type 0 where
-  pub first_path : EntersLast tied_pair (literal 0 0)
+  pub first : EntersLast tied_pair (literal 0 0)
   pub unequal : (level : ℕ) → level ≤ 11 → OutsideArc tied_pair level (literal 1 0)
   pub equal : EntersLast tied_pair (literal 1 1)
 
@@ -59,9 +59,11 @@ pub record UnlikeSum : Type 0 where
 abbrev pub three_choices : ℕ → ℕ → ℕ → List Literal
 three_choices first second third = literal 0 first ∷ literal 1 second ∷ literal 2 third ∷ []
 
--- However the three choose, two have one frequency, so that nothing without violations at a level up to 10 is left. At level
--- 11 there are none.
-pub record ThreeChoices : Type 0 where
-  pub each_level : (first second third level : ℕ) → first < 2 → second < 2 → third < 2 → level ≤ 10 →
-      Dead three_alike (tag (level + 1) 0 0) (three_choices first second third)
-  pub top : Dead three_alike (tag 12 0 0) (three_choices 0 0 0) → ⊥
+-- dead at each level up to 10, and alive at level 11
+pub record DiesBelowLast (prefix : List Literal) : Type 0 where
+  pub levels : (level : ℕ) → level ≤ 10 → Dead three_alike (tag (level + 1) 0 0) prefix
+  pub last : Dead three_alike (tag 12 0 0) prefix → ⊥
+
+-- However the three choose, two have one frequency.
+abbrev pub EachThreeDie : Type 0
+EachThreeDie = (first second third : ℕ) → first < 2 → second < 2 → third < 2 → DiesBelowLast (three_choices first second third)

@@ -1,4 +1,4 @@
-ghost use Rattle.dead_laws.specs.RowLaws.{OneChoiceLives, ThreeChoices, TiedPairArcs, TiedPairRoots, UnlikeSum, UnlikeTags};
+ghost use Rattle.dead_laws.specs.RowLaws.{EachThreeDie, OneChoiceLives, TiedPairArcs, TiedPairRoots, UnlikeSum, UnlikeTags};
 
 /// The arcs of two paths whose equal polarizations are demanded, although they are too close.
 pub fn tied_pair_arcs()
@@ -26,6 +26,6 @@ pub fn unlike_sum()
 {}
 
 /// The tags at which choices of all three paths are dead.
-pub fn three_choices()
-    ensures { ThreeChoices }
+pub fn each_three_die()
+    ensures { EachThreeDie }
 {}

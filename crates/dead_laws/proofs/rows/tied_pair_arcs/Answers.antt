@@ -3,7 +3,7 @@ use Rattle.dead_laws.proofs.rows.tied_pair_arcs.Goals as goal
 
 pub returns : goal.returns
 returns c = record {
-  first_path = record { outside = first-outside; inside = first-inside };
+  first = record { outside = first-outside; inside = first-inside };
   unequal = unequal-outside;
   equal = record { outside = equal-outside; inside = equal-inside };
 }
