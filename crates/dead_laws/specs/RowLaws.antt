@@ -6,6 +6,7 @@ use Rattle.fapp_model.specs.declared.triple.Triple.{Triple}
 use Rattle.fapp_model.specs.Arcs.{InArc, OutsideArc}
 use Rattle.fapp_model.specs.Assignments.{count_at}
 use Rattle.fapp_model.specs.Dead.{Dead, IsLeastAdded}
+use Rattle.fapp_model.specs.Instances.{IsInstance}
 use Rattle.fapp_model.specs.Pairs.{Pair}
 use Rattle.fapp_model.specs.Partials.{literal}
 use Rattle.fapp_model.specs.Weights.{pair_with}
@@ -13,6 +14,10 @@ use Rattle.dead_laws.specs.Networks.{three_alike, tied_pair}
 
 abbrev pub tag : ℕ → ℕ → ℕ → Triple
 tag k v s = record { k = k; v = v; s = s }
+
+pub record NetworksAreValid : Type 0 where
+  pub tied_pair : IsInstance tied_pair
+  pub three_alike : IsInstance three_alike
 
 -- ---- equal polarizations that are demanded and too close
 

@@ -1,4 +1,9 @@
-ghost use Rattle.dead_laws.specs.RowLaws.{EachThreeDie, OneChoiceLives, TiedPairArcs, TiedPairRoots, UnlikeSum, UnlikeTags};
+ghost use Rattle.dead_laws.specs.RowLaws.{EachThreeDie, NetworksAreValid, OneChoiceLives, TiedPairArcs, TiedPairRoots, UnlikeSum, UnlikeTags};
+
+/// The networks of the rows are instances.
+pub fn networks_are_valid()
+    ensures { NetworksAreValid }
+{}
 
 /// The arcs of two paths whose equal polarizations are demanded, although they are too close.
 pub fn tied_pair_arcs()
