@@ -55,15 +55,16 @@ pub record Narrower (instance : Instance) (level : ℕ) (family : Literal → Bo
   pub wide : IsWide instance level next
   pub fewer : size instance next < size instance family
 
-module _ (instance : Instance) (level : ℕ) (family : Literal → Bool) (in_range : (a : Literal) → IsTrue (family a) → IsLiteral instance a) (ends : (p q : ℕ) → IsTrue (shares_record instance p q) → q < length instance.paths) where
+module _ (instance : Instance) (level : ℕ) (family : Literal → Bool) (valid : IsInstance instance) (in_range : (a : Literal) → IsTrue (family a) → IsLiteral instance a) where
   -- no member is lonely
   partner : has_lonely instance level family ≡ false → (a : Literal) (path : ℕ) → IsTrue (family a) → IsTrue (shares_record instance a.path path) → HasPartner instance level family a path
   partner none a path member shares =
       let at_home = in_range a member in
+      let other = shares-range instance valid a.path path shares in
       let here = none-member (has_lonely_at instance level family) (range_with_len 0 (length instance.paths)) none a.path (contains-range _ _ at_home.path) in
       let this = none-member (λ index. family (literal a.path index) && is_lonely instance level family (literal a.path index)) (range_with_len 0 (count_at instance a.path)) here a.choice (contains-range _ _ at_home.choice) in
       let befriended : is_lonely instance level family a ≡ false = right_false (family a) (is_lonely instance level family a) member this in
-      let there = none-member (λ path. shares_record instance a.path path && not (partners instance level family a path)) (range_with_len 0 (length instance.paths)) befriended path (contains-range _ _ (ends a.path path shares)) in
+      let there = none-member (λ path. shares_record instance a.path path && not (partners instance level family a path)) (range_with_len 0 (length instance.paths)) befriended path (contains-range _ _ other.1) in
       let some = not-false (partners instance level family a path) (right_false (shares_record instance a.path path) (not (partners instance level family a path)) shares there) in
       let found = passing (λ index. family (literal path index) && not (clashes instance level a (literal path index))) (range_with_len 0 (count_at instance path)) some in
       let parts = and_parts (family (literal path found.item)) (not (clashes instance level a (literal path found.item))) found.passes in
@@ -124,7 +125,7 @@ module _ (instance : Instance) (level : ℕ) (family : Literal → Bool) (valid 
   narrow = by_cases (has_lonely instance level family) refl
     where
       by_cases : (t : Bool) → has_lonely instance level family ≡ t → (IsSupported instance level family) ⊎ Narrower instance level family
-      by_cases false none = inl (supported-by_test instance level family wide.in_range (λ p q shares. (shares-range instance valid p q shares).1) none)
+      by_cases false none = inl (supported-by_test instance level family valid wide.in_range none)
       by_cases true some =
           let home = passing (has_lonely_at instance level family) (range_with_len 0 (length instance.paths)) some in
           let found = passing (λ index. family (literal home.item index) && is_lonely instance level family (literal home.item index)) (range_with_len 0 (count_at instance home.item)) home.passes in

@@ -1,5 +1,5 @@
 -- The small networks are instances.
-use Rattle.std.proofs.Common.{◌≡◌, ◌≢◌, ℕ, zero, suc, ◌<◌, true, [], ◌∷◌, ℤ, pos, replicate, All, refl, inl, inr, arith}
+use Rattle.std.proofs.Common.{◌≢◌, ℕ, zero, suc, ◌<◌, true, [], ◌∷◌, ℤ, pos, replicate, All, refl, inl, inr, arith}
 use Rattle.std.specs.List.{AllPairs}
 use Rattle.std.specs.List.Sorted.{IsStrictlyIncreasing}
 use Rattle.std.proofs.lemmas.List.{get_or-replicate, length-replicate}

@@ -1,28 +1,26 @@
 -- Arcs and dead partial assignments of small networks by tests that are computed.
-use Rattle.std.proofs.Common.{◌≡◌, ◌≢◌, ℕ, ◌<◌, Bool, true, false, ◌&&◌, ◌||◌, ltb, List, [], ◌∷◌, length, All, IsTrue, refl, sym, subst, inl, inr, arith}
+use Rattle.std.proofs.Common.{◌≡◌, ◌≢◌, ℕ, ◌<◌, Bool, true, false, ◌&&◌, ltb, List, [], ◌∷◌, length, All, IsTrue, refl, sym, arith}
 use Rattle.std.specs.List.{list_all, list_any, range_with_len}
-use Rattle.std.proofs.lemmas.Bool.{and_parts, and_from, both_ways, lt-ltb, ltb-true, or_cases, true≢false}
+use Rattle.std.proofs.lemmas.Bool.{and_parts, and_from, both_ways, lt-ltb, ltb-true, true≢false}
 use Rattle.std.proofs.lemmas.List.Elements.{All-contains, All-cons, All-nil}
 use Rattle.std.proofs.lemmas.List.Kept.{AllPairs-cons}
 use Rattle.std.proofs.lemmas.List.Sums.{AllPass-from_list_all}
 use Rattle.fapp_model.specs.declared.instance.Instance.{Instance}
 use Rattle.fapp_model.specs.declared.literal.Literal.{Literal}
-use Rattle.fapp_model.specs.declared.record.Record.{Record}
 use Rattle.fapp_model.specs.declared.triple.Triple.{Triple}
 use Rattle.fapp_model.specs.Arcs.{InArc, OutsideArc}
 use Rattle.fapp_model.specs.Assignments.{count_at}
-use Rattle.fapp_model.specs.Clashes.{clashes, joins, shares_record}
+use Rattle.fapp_model.specs.Clashes.{clashes, shares_record}
 use Rattle.fapp_model.specs.Dead.{Dead}
+use Rattle.fapp_model.specs.Instances.{IsInstance}
 use Rattle.fapp_model.specs.Pairs.{IsPairBelow, limit_of}
 use Rattle.fapp_model.specs.Partials.{literal, IsLiteral, IsPartial}
-use Rattle.fapp_model.specs.Records.{first_path, second_path}
 use Rattle.fapp_model.specs.Tags.{has_limit, least_tag, mode_level}
 use Rattle.fapp_model.specs.Weights.{pair_with}
 use Rattle.dead_laws.specs.DeadLaws.{AgreeOn}
-use Rattle.dead_laws.proofs.Anys.{contains-range, no-member, passing}
+use Rattle.dead_laws.proofs.Anys.{contains-range, no-member}
 use Rattle.dead_laws.proofs.ArcTest.{has_lonely, supported-by_test}
 use Rattle.dead_laws.proofs.DeadTests.{alive, dead_by-along, has_clash, is_stuck, least_pairs}
-use Rattle.dead_laws.proofs.RecordEnds.{joins-ends}
 
 -- whether each number below another passes a test
 abbrev pub all_below : ℕ → (ℕ → Bool) → Bool
@@ -57,24 +55,6 @@ outside-below instance a path levels shares alone level small = alone-outside in
 
 -- ---- inside
 
--- the records name paths below a number
-abbrev pub names_below : ℕ → Record → Bool
-names_below n r = ltb (first_path r) n && ltb (second_path r) n
-
-abbrev pub is_within : Instance → Bool
-is_within instance = list_all (names_below (length instance.paths)) instance.records
-
-shares-below : (instance : Instance) → is_within instance ≡ true → (p q : ℕ) → shares_record instance p q ≡ true → q < length instance.paths
-shares-below instance within p q h =
-    let n = length instance.paths in
-    let found = passing (λ r. joins p q r || joins q p r) instance.records h in
-    let parts = and_parts (ltb (first_path found.item) n) (ltb (second_path found.item) n)
-    (All-contains (λ r. names_below n r ≡ true) instance.records found.item (AllPass-from_list_all (names_below n) instance.records within) found.member) in
-    elim (or_cases (joins p q found.item) (joins q p found.item) found.passes) [
-      | inl e ↦ subst (λ k. k < n) (joins-ends p q found.item e).1 (ltb-true (second_path found.item) n parts.1)
-      | inr e ↦ subst (λ k. k < n) (joins-ends q p found.item e).0 (ltb-true (first_path found.item) n parts.0)
-    ]
-
 -- all choices
 abbrev pub each_choice : Instance → Literal → Bool
 each_choice instance a = ltb a.path (length instance.paths) && ltb a.choice (count_at instance a.path)
@@ -89,13 +69,12 @@ literal-each instance a h =
     and_from (ltb a.path (length instance.paths)) (ltb a.choice (count_at instance a.path))
     (lt-ltb a.path (length instance.paths) h.path) (lt-ltb a.choice (count_at instance a.path) h.choice)
 
-pub inside-by : (instance : Instance) (level : ℕ) (family : Literal → Bool) → ((a : Literal) → family a ≡ true → IsLiteral instance a) → is_within instance ≡ true → has_lonely instance level family ≡ false → (a : Literal) → family a ≡ true → InArc instance level a
-inside-by instance level family in_range within none a member =
-    (family, supported-by_test instance level family in_range (shares-below instance within) none, member)
+pub inside-by : (instance : Instance) (level : ℕ) (family : Literal → Bool) → IsInstance instance → ((a : Literal) → family a ≡ true → IsLiteral instance a) → has_lonely instance level family ≡ false → (a : Literal) → family a ≡ true → InArc instance level a
+inside-by instance level family valid in_range none a member = (family, supported-by_test instance level family valid in_range none, member)
 
 -- where no choice lacks a partner
-pub each-inside : (instance : Instance) (level : ℕ) → is_within instance ≡ true → has_lonely instance level (each_choice instance) ≡ false → (a : Literal) → IsLiteral instance a → InArc instance level a
-each-inside instance level within none a h = inside-by instance level (each_choice instance) (each-literal instance) within none a (literal-each instance a h)
+pub each-inside : (instance : Instance) (level : ℕ) → IsInstance instance → has_lonely instance level (each_choice instance) ≡ false → (a : Literal) → IsLiteral instance a → InArc instance level a
+each-inside instance level valid none a h = inside-by instance level (each_choice instance) valid (each-literal instance) none a (literal-each instance a h)
 
 -- ---- partial assignments
 
@@ -110,9 +89,9 @@ one-more instance a literals h apart partial = record {
 
 -- ---- not dead, where no choice lacks a partner
 
-module _ (instance : Instance) (t : Triple) (literals : List Literal) (partial : IsPartial instance literals) (within : is_within instance ≡ true) (none : has_lonely instance (mode_level t) (each_choice instance) ≡ false) where
+module _ (instance : Instance) (t : Triple) (literals : List Literal) (partial : IsPartial instance literals) (valid : IsInstance instance) (none : has_lonely instance (mode_level t) (each_choice instance) ≡ false) where
   agree : AgreeOn instance (OutsideArc instance (mode_level t)) (λ a. false ≡ true)
-  agree a h = (λ out. absurd (out (each-inside instance (mode_level t) within none a h)), λ e. absurd (true≢false (sym e)))
+  agree a h = (λ out. absurd (out (each-inside instance (mode_level t) valid none a h)), λ e. absurd (true≢false (sym e)))
 
   pub lives : has_clash instance (mode_level t) literals ≡ false →
       list_any (is_stuck instance (mode_level t) (λ a. false) literals) (range_with_len 0 (length instance.paths)) ≡ false →

@@ -14,6 +14,7 @@ use Rattle.fapp_model.specs.Weights.{added_pair, pair_with}
 use Rattle.dead_laws.specs.Networks.{three_alike}
 use Rattle.dead_laws.specs.RowLaws.{EachThreeDie, OneChoiceLives, UnlikeSum, UnlikeTags, eleven_levels, tag, three_choices, unlike}
 use Rattle.dead_laws.proofs.DeadTests.{clash-dead, has_clash, least-pairs, least_pairs}
+use Rattle.dead_laws.proofs.NetworksValid.{three-valid}
 use Rattle.dead_laws.proofs.RowTests.{all_below, below-all, below-three, each-inside, lives, no-literals, one-more}
 
 at-three : (path index : ℕ) → path < 3 → index < 2 → IsLiteral three_alike (literal path index)
@@ -33,7 +34,7 @@ one-partial = one-more three_alike (literal 0 0) [] (at-three 0 0 (omega arith) 
 
 pub one-lives : OneChoiceLives
 unfolding three_alike
-one-lives = lives three_alike (tag 11 0 0) (literal 0 0 ∷ []) one-partial refl refl refl refl (positive 11 0 0 (omega arith)) (λ some. absurd (false≢true some))
+one-lives = lives three_alike (tag 11 0 0) (literal 0 0 ∷ []) one-partial three-valid refl refl refl (positive 11 0 0 (omega arith)) (λ some. absurd (false≢true some))
 
 -- ---- two unlike choices
 
@@ -44,7 +45,7 @@ unlike-partial = one-more three_alike (literal 0 0) (literal 1 1 ∷ []) (at-thr
 
 third-inside : InArc three_alike 11 (literal 2 0)
 unfolding three_alike
-third-inside = each-inside three_alike 11 refl refl (literal 2 0) (at-three 2 0 (omega arith) (omega arith))
+third-inside = each-inside three_alike 11 three-valid refl (literal 2 0) (at-three 2 0 (omega arith) (omega arith))
 
 -- the third path adds one pair by either choice
 third-adds : (index : ℕ) → index < count_at three_alike 2 → added_pair three_alike 11 unlike (literal 2 index) ≡ eleven_levels
@@ -96,7 +97,7 @@ unlike-limit = over_limit refl (λ path. eleven_levels) open-third (inr (refl, o
 
 unlike-lives : Dead three_alike (tag 11 1 11) unlike → ⊥
 unfolding three_alike
-unlike-lives = lives three_alike (tag 11 1 11) unlike unlike-partial refl refl refl refl (positive 11 1 11 (omega arith)) (λ some.
+unlike-lives = lives three_alike (tag 11 1 11) unlike unlike-partial three-valid refl refl refl (positive 11 1 11 (omega arith)) (λ some.
     subst (λ p. IsPairBelow p (limit_of (tag 11 1 11))) (sym (sum-along (λ a. false ≡ true) (least_pairs three_alike 11 (λ a. false) unlike)
     (least-pairs three_alike (tag 11 1 11) (λ a. false) unlike unlike-partial refl refl refl 2 (omega arith) refl))) (inr (refl, omega arith)))
 
@@ -131,7 +132,7 @@ none-clash first second third l m n = not-true (clash_at first second third 11) 
 last-lives : (first second third : ℕ) → first < 2 → second < 2 → third < 2 → Dead three_alike (tag 12 0 0) (three_choices first second third) → ⊥
 unfolding three_alike
 last-lives first second third l m n =
-    lives three_alike (tag 12 0 0) (three_choices first second third) (three-partial first second third l m n) refl refl
+    lives three_alike (tag 12 0 0) (three_choices first second third) (three-partial first second third l m n) three-valid refl
     (none-clash first second third l m n) refl (positive 12 0 0 (omega arith)) (λ some. absurd (false≢true some))
 
 pub each-three : EachThreeDie

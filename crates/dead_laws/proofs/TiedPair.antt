@@ -7,6 +7,7 @@ use Rattle.fapp_model.specs.Assignments.{count_at}
 use Rattle.fapp_model.specs.Partials.{literal, IsLiteral}
 use Rattle.dead_laws.specs.Networks.{tied_pair}
 use Rattle.dead_laws.proofs.ArcTest.{same_literal, without}
+use Rattle.dead_laws.proofs.NetworksValid.{tied-valid}
 use Rattle.dead_laws.proofs.RowTests.{each-literal, each_choice, inside-by, outside-below}
 
 pub first-outside : (level : ℕ) → level ≤ 10 → OutsideArc tied_pair level (literal 0 0)
@@ -35,7 +36,7 @@ equals-literal a h = each-literal tied_pair a (and_parts (each_choice tied_pair 
 
 pub equals-inside : (a : Literal) → equals a ≡ true → InArc tied_pair 11 a
 unfolding tied_pair
-equals-inside = inside-by tied_pair 11 equals equals-literal refl refl
+equals-inside = inside-by tied_pair 11 equals tied-valid equals-literal refl
 
 pub first-inside : InArc tied_pair 11 (literal 0 0)
 unfolding tied_pair

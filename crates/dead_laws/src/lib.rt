@@ -18,6 +18,7 @@ pub use implied::{
     none_at_top,
 };
 pub use rows::{
-    each_three_die, networks_are_valid, one_choice_lives, tied_pair_arcs, tied_pair_roots, unlike_sum, unlike_tags,
+    each_three_die, networks_are_valid, one_choice_lives, tied_pair_arcs, tied_pair_roots,
+    unlike_sum, unlike_tags,
 };
 pub use tags::{codes_follow_tags, cost_against_mode, costs_are_tags};
