@@ -12,6 +12,7 @@ use Rattle.fapp_model.specs.Partials.{literal}
 use Rattle.fapp_model.specs.Weights.{pair_with}
 use Rattle.dead_laws.specs.Networks.{three_alike, tied_pair}
 
+-- a triple by its numbers
 abbrev pub tag : ℕ → ℕ → ℕ → Triple
 tag k v s = record { k = k; v = v; s = s }
 
@@ -46,15 +47,17 @@ OneChoiceLives = Dead three_alike (tag 11 0 0) (literal 0 0 ∷ []) → ⊥
 abbrev pub unlike : List Literal
 unlike = literal 0 0 ∷ literal 1 1 ∷ []
 
--- They leave the third path nothing at level 10. At level 11 they leave it a violation of level 10 and of ten levels below.
+-- They leave the third path nothing at level 10. At level 11 they leave it one record that is bad at all eleven levels.
 pub record UnlikeTags : Type 0 where
   pub level : Dead three_alike (tag 11 0 0) unlike
   pub limit : Dead three_alike (tag 11 1 10) unlike
   pub greater_limit : Dead three_alike (tag 11 1 11) unlike → ⊥
 
+-- a violation of level 10 and of ten levels below
 abbrev pub eleven_levels : Pair
 eleven_levels = record { v = 1; s = 10 }
 
+-- The third path adds that much, and the two nothing.
 pub record UnlikeSum : Type 0 where
   pub least : IsLeastAdded (OutsideArc three_alike 11) three_alike 11 unlike 2 eleven_levels
   pub sum : (least : ℕ → Pair) → IsLeastAdded (OutsideArc three_alike 11) three_alike 11 unlike 2 (least 2) →
@@ -69,6 +72,6 @@ pub record DiesBelowLast (prefix : List Literal) : Type 0 where
   pub levels : (level : ℕ) → level ≤ 10 → Dead three_alike (tag (level + 1) 0 0) prefix
   pub last : Dead three_alike (tag 12 0 0) prefix → ⊥
 
--- However the three choose, two have one frequency.
+-- However the three choose, two of them have one frequency.
 abbrev pub EachThreeDie : Type 0
 EachThreeDie = (first second third : ℕ) → first < 2 → second < 2 → third < 2 → DiesBelowLast (three_choices first second third)
