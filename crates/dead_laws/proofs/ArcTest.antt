@@ -55,11 +55,11 @@ pub record Narrower (instance : Instance) (level : ℕ) (family : Literal → Bo
   pub wide : IsWide instance level next
   pub fewer : size instance next < size instance family
 
-module _ (instance : Instance) (level : ℕ) (family : Literal → Bool) (valid : IsInstance instance) (wide : IsWide instance level family) where
+module _ (instance : Instance) (level : ℕ) (family : Literal → Bool) (valid : IsInstance instance) (in_range : (a : Literal) → IsTrue (family a) → IsLiteral instance a) where
   -- no member is lonely
   partner : has_lonely instance level family ≡ false → (a : Literal) (path : ℕ) → IsTrue (family a) → IsTrue (shares_record instance a.path path) → HasPartner instance level family a path
   partner none a path member shares =
-      let at_home = wide.in_range a member in
+      let at_home = in_range a member in
       let other = shares-range instance valid a.path path shares in
       let here = none-member (has_lonely_at instance level family) (range_with_len 0 (length instance.paths)) none a.path (contains-range _ _ at_home.path) in
       let this = none-member (λ index. family (literal a.path index) && is_lonely instance level family (literal a.path index)) (range_with_len 0 (count_at instance a.path)) here a.choice (contains-range _ _ at_home.choice) in
@@ -73,6 +73,10 @@ module _ (instance : Instance) (level : ℕ) (family : Literal → Bool) (valid 
       right_false : (x y : Bool) → x ≡ true → (x && y) ≡ false → y ≡ false
       right_false x y e h = elim (and_cases x y h) [ inl fails ↦ absurd (both_ways x fails e) | inr holds ↦ holds ]
 
+  pub supported-by_test : has_lonely instance level family ≡ false → IsSupported instance level family
+  supported-by_test none = record { in_range = in_range; supported = partner none }
+
+module _ (instance : Instance) (level : ℕ) (family : Literal → Bool) (valid : IsInstance instance) (wide : IsWide instance level family) where
   -- a supported family has no lonely member
   never : (other : Literal → Bool) → IsSupported instance level other → (a : Literal) → IsTrue (other a) → is_lonely instance level family a ≡ true → ⊥
   never other supported a member lonely =
@@ -121,7 +125,7 @@ module _ (instance : Instance) (level : ℕ) (family : Literal → Bool) (valid 
   narrow = by_cases (has_lonely instance level family) refl
     where
       by_cases : (t : Bool) → has_lonely instance level family ≡ t → (IsSupported instance level family) ⊎ Narrower instance level family
-      by_cases false none = inl (record { in_range = wide.in_range; supported = partner none })
+      by_cases false none = inl (supported-by_test instance level family valid wide.in_range none)
       by_cases true some =
           let home = passing (has_lonely_at instance level family) (range_with_len 0 (length instance.paths)) some in
           let found = passing (λ index. family (literal home.item index) && is_lonely instance level family (literal home.item index)) (range_with_len 0 (count_at instance home.item)) home.passes in

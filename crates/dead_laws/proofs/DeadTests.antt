@@ -150,7 +150,7 @@ module _ (instance : Instance) (t : Triple) (excluded : Literal → Bool) (liter
     least-pairs path small free = least-of instance (mode_level t) excluded literals path
         (best (stays instance (mode_level t) excluded literals path) (adds instance (mode_level t) literals path) (range_with_len 0 (count_at instance path))) (choice-stays path small free)
 
-    alive : (t ≡ least_tag → ⊥) → (IsTrue (has_limit t) → IsPairBelow (pair_with instance (mode_level t) literals (least_pairs instance (mode_level t) excluded literals)) (limit_of t)) →
+    pub alive : (t ≡ least_tag → ⊥) → (IsTrue (has_limit t) → IsPairBelow (pair_with instance (mode_level t) literals (least_pairs instance (mode_level t) excluded literals)) (limit_of t)) →
         DeadBy (λ a. IsTrue (excluded a)) instance t literals → ⊥
     alive above under (least e) = above e
     alive above under (clash a b first second bad) =

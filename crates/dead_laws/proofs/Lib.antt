@@ -18,3 +18,7 @@ pub mod DeadFull
 pub mod BestChoices
 pub mod DeadMore
 pub mod DeadTests
+pub mod NetworksValid
+pub mod RowTests
+pub mod TiedPair
+pub mod ThreeAlike

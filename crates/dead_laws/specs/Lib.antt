@@ -2,3 +2,5 @@ pub mod TagLaws
 pub mod ArcLaws
 pub mod ImpliedLaws
 pub mod DeadLaws
+pub mod Networks
+pub mod RowLaws

@@ -5,6 +5,7 @@
 mod arcs;
 mod dead;
 mod implied;
+mod rows;
 mod tags;
 
 pub use arcs::{arcs_are_supported, arcs_have_each};
@@ -15,5 +16,9 @@ pub use dead::{
 pub use implied::{
     implied_at_greater, implied_at_lower_tags, implied_by_branch, implied_in_extensions,
     none_at_top,
+};
+pub use rows::{
+    each_three_die, networks_are_valid, one_choice_lives, tied_pair_arcs, tied_pair_roots,
+    unlike_sum, unlike_tags,
 };
 pub use tags::{codes_follow_tags, cost_against_mode, costs_are_tags};
