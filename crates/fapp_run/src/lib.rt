@@ -11,3 +11,5 @@ mod words;
 pub use status::Status;
 pub use top::run;
 
+#[cfg(test)]
+mod tests;

@@ -1,11 +1,8 @@
 -- Small networks whose work orders, jobs and tries are known.
 use Rattle.std.specs.Prelude.{ℕ, true, false, List, [], ◌∷◌, ℤ, pos, negsuc, replicate}
 use Rattle.fapp_model.specs.declared.instance.Instance.{Instance}
-use Rattle.fapp_model.specs.declared.instance.Path.{Path}
+use Rattle.dead_laws.specs.Networks.{path_with}
 use Rattle.fapp_model.specs.declared.record.Record.TheVariants.{Freq, Same, Other}
-
-abbrev pub path_with : ℕ → List ℕ → ℤ → Path
-path_with number freqs polarization = record { number = number; freqs = freqs; pol = polarization }
 
 -- four paths, of which 0 and 2 share more records than 1 and 3
 unfoldable pub small_network : Instance
@@ -30,21 +27,6 @@ small_network = record {
 -- one path with one choice
 unfoldable pub one_path : Instance
 one_path = record { paths = path_with 9 (5 ∷ []) (negsuc 0) ∷ []; records = [] }
-
--- three paths of two frequencies each, no two of which may have one at any level
-unfoldable pub three_alike : Instance
-three_alike = record {
-  paths =
-      path_with 1 (10 ∷ 20 ∷ []) (pos 1)
-      ∷ path_with 2 (10 ∷ 20 ∷ []) (pos 1)
-      ∷ path_with 3 (10 ∷ 20 ∷ []) (pos 1)
-      ∷ [];
-  records =
-      Same 0 1 (replicate 11 10)
-      ∷ Same 0 2 (replicate 11 10)
-      ∷ Same 1 2 (replicate 11 10)
-      ∷ [];
-}
 
 -- two paths, of which the second has one frequency only
 unfoldable pub two_paths : Instance

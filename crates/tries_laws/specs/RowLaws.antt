@@ -8,7 +8,8 @@ use Rattle.fapp_model.specs.Partials.{literal}
 use Rattle.fapp_model.specs.Prefixes.{IsPrefix}
 use Rattle.fapp_model.specs.Tries.{IsTries}
 use Rattle.fapp_model.specs.WorkOrder.{work_order}
-use Rattle.tries_laws.specs.Networks.{one_path, small_network, three_alike, two_paths}
+use Rattle.dead_laws.specs.Networks.{three_alike}
+use Rattle.tries_laws.specs.Networks.{one_path, small_network, two_paths}
 
 abbrev pub SmallNetworkOrder : Type 0
 SmallNetworkOrder = work_order small_network ≡ 0 ∷ 2 ∷ 1 ∷ 3 ∷ []

@@ -1,7 +1,7 @@
 use Rattle.std.proofs.Common.{refl}
 use Rattle.fapp_model.specs.Jobs.{depth}
 use Rattle.fapp_model.specs.WorkOrder.{work_order}
-use Rattle.tries_laws.specs.Networks.{three_alike}
+use Rattle.dead_laws.specs.Networks.{three_alike}
 use Rattle.tries_laws.proofs.rows.three_alike_jobs.Goals as goal
 
 pub returns : goal.returns
