@@ -8,6 +8,8 @@ mod line;
 mod reader;
 mod reading;
 mod row;
+#[cfg(test)]
+mod tests;
 
 pub use cause::{BadInput, Cause, ReadError};
 pub use reading::read_instance;
