@@ -8,3 +8,4 @@ pub mod Texts
 pub mod Readers
 pub mod Valid
 pub mod Drafts
+pub mod Laws

@@ -4,6 +4,7 @@
 mod cause;
 mod draft;
 mod field;
+mod laws;
 mod line;
 mod reader;
 mod reading;
@@ -11,5 +12,6 @@ mod row;
 #[cfg(test)]
 mod tests;
 
+pub use laws::{frequencies_law, line_end_law, one_network_law, refusal_law};
 pub use cause::{BadInput, Cause, ReadError};
 pub use reading::read_instance;
