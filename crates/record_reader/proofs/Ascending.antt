@@ -39,17 +39,17 @@ row_step : (Q : List ℕ → Type 0) (acc : List ℕ) (row : DomainRow) (same : 
 row_step Q acc row true old new = new
 row_step Q acc row false old new = old
 
-kept : (Q : List ℕ → Type 0) → ((n : ℕ) (xs : List ℕ) → IsNumber n → Q xs → Q (put n xs)) → (domain : ℕ) (rows : List DomainRow) (acc : List ℕ) → All IsDomainRow rows → Q acc → Q (fold (put_row domain) acc rows)
-kept Q more domain [] acc numbers q = q
-kept Q more domain (row ∷ rows) acc numbers q =
-    kept Q more domain rows (put_row domain acc row) (All-tail IsDomainRow row rows numbers)
-      (row_step Q acc row (eqb row.domain domain) q (more row.frequency acc (All-head IsDomainRow row rows numbers) q))
+kept : (Q : List ℕ → Type 0) (P : ℕ → Type 0) → ((n : ℕ) (xs : List ℕ) → P n → Q xs → Q (put n xs)) → (domain : ℕ) (rows : List DomainRow) (acc : List ℕ) → All (λ row. P row.frequency) rows → Q acc → Q (fold (put_row domain) acc rows)
+kept Q P more domain [] acc fit q = q
+kept Q P more domain (row ∷ rows) acc fit q =
+    kept Q P more domain rows (put_row domain acc row) (All-tail (λ row. P row.frequency) row rows fit)
+      (row_step Q acc row (eqb row.domain domain) q (more row.frequency acc (All-head (λ row. P row.frequency) row rows fit) q))
 
-pub frequencies_ascend : (rows : List DomainRow) (domain : ℕ) → All IsDomainRow rows → IsStrictlyIncreasing (frequencies rows domain)
-frequencies_ascend rows domain numbers = up_increasing 0 (frequencies rows domain) (kept (UpFrom 0) (λ n xs h q. put_up n 0 xs (omega arith) q) domain rows [] numbers tt)
+pub ascends : (rows : List DomainRow) (domain : ℕ) → IsStrictlyIncreasing (frequencies rows domain)
+ascends rows domain = up_increasing 0 (frequencies rows domain) (kept (UpFrom 0) (λ n. Unit {0}) (λ n xs h q. put_up n 0 xs (omega arith) q) domain rows [] (λ k d lt. tt) tt)
 
 pub frequencies_numbers : (rows : List DomainRow) (domain : ℕ) → All IsDomainRow rows → All IsNumber (frequencies rows domain)
-frequencies_numbers rows domain numbers = kept (All IsNumber) (λ n xs h q. rw (put_key n xs) (All-insert_key nat_cmp n IsNumber xs q h)) domain rows [] numbers (All-nil IsNumber)
+frequencies_numbers rows domain numbers = kept (All IsNumber) IsNumber (λ n xs h q. rw (put_key n xs) (All-insert_key nat_cmp n IsNumber xs q h)) domain rows [] numbers (All-nil IsNumber)
 
 some_step : (n m : ℕ) (rest more : List ℕ) (less same : Bool) → ltb 0 (length (cond less (n ∷ m ∷ rest) (cond same (m ∷ rest) (m ∷ more)))) ≡ true
 some_step n m rest more true same = grind arith

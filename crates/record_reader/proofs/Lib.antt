@@ -11,3 +11,4 @@ pub mod ValidSheets
 pub mod ValidNetworks
 pub mod Drafts
 pub mod Settled
+pub mod LawProofs

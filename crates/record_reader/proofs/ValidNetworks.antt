@@ -27,7 +27,7 @@ use Rattle.record_reader.specs.Networks.{frequencies, paths_of, constraints_of, 
 use Rattle.record_reader.specs.Wide.{knows_domain, choice_count, wide_path, wide_constraint, wide, line_of, bad_at, or_later, first_wide}
 use Rattle.record_reader.specs.Valid.{IsDomainRow, IsPathRow, IsRule, IsConstraintRow, IsSheet}
 use Rattle.record_reader.proofs.Entries.{paths_append}
-use Rattle.record_reader.proofs.Ascending.{frequencies_ascend, frequencies_numbers, known}
+use Rattle.record_reader.proofs.Ascending.{ascends, frequencies_numbers, known}
 use Rattle.record_reader.proofs.Results.{if_none}
 
 has_some : (n : ℕ) → ltb 0 n ≡ true → 0 < n
@@ -40,7 +40,7 @@ path_valid sheet row valid fit knows = record {
   some = has_some (length (frequencies sheet.domains row.domain)) (known sheet.domains row.domain ∙ knows);
   few = valid.few_frequencies row.domain;
   numbers = frequencies_numbers sheet.domains row.domain valid.domains;
-  ascending = frequencies_ascend sheet.domains row.domain valid.domains;
+  ascending = ascends sheet.domains row.domain;
   polarization = fit.polarization;
 }
 

@@ -9,3 +9,4 @@ pub mod Readers
 pub mod Valid
 pub mod Drafts
 pub mod Causes
+pub mod Laws

@@ -4,10 +4,14 @@
 mod cause;
 mod draft;
 mod field;
+mod laws;
 mod line;
 mod reader;
 mod reading;
 mod row;
+#[cfg(test)]
+mod tests;
 
+pub use laws::{frequencies_law, line_end_law, one_network_law, refusal_law};
 pub use cause::{BadInput, Cause, ReadError};
 pub use reading::read_instance;
