@@ -1,5 +1,5 @@
 -- The reader after one more row.
-use Rattle.std.proofs.Common.{◌≡◌, ℕ, ◌+◌, ◌<◌, ◌≤◌, Bool, true, false, eqb, ltb, leb, cond, List, [], ◌∷◌, ◌++◌, length, Option, Some, None, Ok, Err, refl, sym, ap, ◌∙◌, arith, append-nil}
+use Rattle.std.proofs.Common.{◌≡◌, ℕ, ◌+◌, ◌<◌, ◌≤◌, Bool, true, false, ltb, leb, cond, [], ◌∷◌, ◌++◌, length, Option, Some, None, Ok, Err, refl, sym, ap, ◌∙◌, arith, append-nil}
 use Rattle.std.specs.Prelude.{is_some}
 use Rattle.std.specs.Ordering.{nat_cmp}
 use Rattle.std.specs.BTreeMap.{BTreeMap, get, btree_map_len, Updates}
@@ -15,8 +15,8 @@ use Rattle.record_reader.specs.declared.row.Row.TheVariants as rows
 use Rattle.record_reader.specs.declared.row.Sheet.{Sheet}
 use Rattle.record_reader.specs.declared.reader.Reader.{Reader}
 use Rattle.record_reader.specs.Networks.{put_row, frequencies, paths_of, constraints_of, place_of}
-use Rattle.record_reader.specs.Sheets.{late, read_row, at_line}
-use Rattle.record_reader.specs.Readers.{IsIndexed, frequencies_in, Goes}
+use Rattle.record_reader.specs.Sheets.{read_row, at_line}
+use Rattle.record_reader.specs.Readers.{IsIndexed, frequencies_in}
 use Rattle.record_reader.proofs.Entries.{paths_append, constraints_append}
 use Rattle.record_reader.proofs.Places.{places_push}
 use Rattle.record_reader.proofs.Frequencies.{frequencies_push}
@@ -36,13 +36,15 @@ pub constraint_added : (reader : Reader) (row : ConstraintRow) (line : ℕ) → 
 constraint_added reader row line indexed few =
     let paths : paths_of (reader.sheet.entries ++ entries.Constraint row ∷ []) ≡ paths_of reader.sheet.entries = paths_append reader.sheet.entries (entries.Constraint row ∷ []) ∙ append-nil (paths_of reader.sheet.entries) in
     let more : constraints_of (reader.sheet.entries ++ entries.Constraint row ∷ []) ≡ constraints_of reader.sheet.entries ++ row ∷ [] = constraints_append reader.sheet.entries (entries.Constraint row ∷ []) in
-    let free : leb 1048576 (length (constraints_of reader.sheet.entries)) ≡ false = not_le 1048576 (length (constraints_of reader.sheet.entries)) (rw indexed.constraints at few) in
-    (rw free refl, record {
-      positions = λ n. indexed.positions n ∙ sym (ap (λ ps. place_of ps n) paths);
-      paths = indexed.paths ∙ sym (ap length paths);
-      domains = indexed.domains;
-      constraints = sym (ap length more ∙ length_push (constraints_of reader.sheet.entries) row ∙ ap (λ n. n + 1) (sym indexed.constraints));
-    })
+    let free : leb 1048576 (length (constraints_of reader.sheet.entries)) ≡ false = not_le 1048576 (length (constraints_of reader.sheet.entries)) (rw indexed.constraints at few) in (
+      rw free refl,
+      record {
+        positions = λ n. indexed.positions n ∙ sym (ap (λ ps. place_of ps n) paths);
+        paths = indexed.paths ∙ sym (ap length paths);
+        domains = indexed.domains;
+        constraints = sym (ap length more ∙ length_push (constraints_of reader.sheet.entries) row ∙ ap (λ n. n + 1) (sym indexed.constraints));
+      },
+    )
 
 pub path_added : (reader : Reader) (row : PathRow) (line : ℕ) (positions : BTreeMap ℕ ℕ) → IsIndexed reader → get nat_cmp reader.positions row.number ≡ None
     → length (paths_of reader.sheet.entries) < 8192 → Updates nat_cmp reader.positions positions row.number (Some (length (paths_of reader.sheet.entries)))
@@ -53,13 +55,15 @@ path_added reader row line positions indexed none few u longer =
     let more : paths_of (reader.sheet.entries ++ entries.Path row ∷ []) ≡ paths_of reader.sheet.entries ++ row ∷ [] = paths_append reader.sheet.entries (entries.Path row ∷ []) in
     let others : constraints_of (reader.sheet.entries ++ entries.Path row ∷ []) ≡ constraints_of reader.sheet.entries = constraints_append reader.sheet.entries (entries.Path row ∷ []) ∙ append-nil (constraints_of reader.sheet.entries) in
     let free : leb 8192 (length (paths_of reader.sheet.entries)) ≡ false = not_le 8192 (length (paths_of reader.sheet.entries)) few in
-    let absent : is_some (place_of (paths_of reader.sheet.entries) row.number) ≡ false = ap is_some (sym (indexed.positions row.number) ∙ none) in
-    (rw (absent, free) refl, record {
-      positions = λ n. places_push (paths_of reader.sheet.entries) row reader.positions positions indexed.positions none u n ∙ sym (ap (λ ps. place_of ps n) more);
-      paths = longer ∙ ap (λ n. n + 1) indexed.paths ∙ sym (ap length more ∙ length_push (paths_of reader.sheet.entries) row);
-      domains = indexed.domains;
-      constraints = indexed.constraints ∙ sym (ap length others);
-    })
+    let absent : is_some (place_of (paths_of reader.sheet.entries) row.number) ≡ false = ap is_some (sym (indexed.positions row.number) ∙ none) in (
+      rw (absent, free) refl,
+      record {
+        positions = λ n. places_push (paths_of reader.sheet.entries) row reader.positions positions indexed.positions none u n ∙ sym (ap (λ ps. place_of ps n) more);
+        paths = longer ∙ ap (λ n. n + 1) indexed.paths ∙ sym (ap length more ∙ length_push (paths_of reader.sheet.entries) row);
+        domains = indexed.domains;
+        constraints = indexed.constraints ∙ sym (ap length others);
+      },
+    )
 
 pub none_of : {A : Type 0} (o : Option A) (known : Bool) → known ≡ is_some o → known ≡ false → o ≡ None
 none_of None known e f = refl
@@ -75,7 +79,7 @@ pub domain_refused : (reader : Reader) (row : DomainRow) (line count : ℕ) (dom
 domain_refused reader row line count domains indexed few adds counted many =
     let free : leb 1048576 (length reader.sheet.domains) ≡ false = not_le 1048576 (length reader.sheet.domains) few in
     let now : length (frequencies (reader.sheet.domains ++ row ∷ []) row.domain) ≡ count =
-      ap length (frequencies_push reader.sheet.domains row row.domain ∙ ap (λ fs. put_row row.domain fs row) (sym (indexed.domains row.domain)) ∙ sym (adds row.domain)) ∙ sym counted in
+    ap length (frequencies_push reader.sheet.domains row row.domain ∙ ap (λ fs. put_row row.domain fs row) (sym (indexed.domains row.domain)) ∙ sym (adds row.domain)) ∙ sym counted in
     let over : ltb 32768 count ≡ true = grind arith in
     rw (free, now, over) refl
 
@@ -86,11 +90,13 @@ pub domain_added : (reader : Reader) (row : DomainRow) (line count : ℕ) (domai
 domain_added reader row line count domains indexed few adds counted some =
     let free : leb 1048576 (length reader.sheet.domains) ≡ false = not_le 1048576 (length reader.sheet.domains) few in
     let now : length (frequencies (reader.sheet.domains ++ row ∷ []) row.domain) ≡ count =
-      ap length (frequencies_push reader.sheet.domains row row.domain ∙ ap (λ fs. put_row row.domain fs row) (sym (indexed.domains row.domain)) ∙ sym (adds row.domain)) ∙ sym counted in
-    let under : ltb 32768 count ≡ false = not_lt 32768 count some in
-    (rw (free, now, under) refl, record {
-      positions = indexed.positions;
-      paths = indexed.paths;
-      domains = λ d. adds d ∙ ap (λ fs. put_row d fs row) (indexed.domains d) ∙ sym (frequencies_push reader.sheet.domains row d);
-      constraints = indexed.constraints;
-    })
+    ap length (frequencies_push reader.sheet.domains row row.domain ∙ ap (λ fs. put_row row.domain fs row) (sym (indexed.domains row.domain)) ∙ sym (adds row.domain)) ∙ sym counted in
+    let under : ltb 32768 count ≡ false = not_lt 32768 count some in (
+      rw (free, now, under) refl,
+      record {
+        positions = indexed.positions;
+        paths = indexed.paths;
+        domains = λ d. adds d ∙ ap (λ fs. put_row d fs row) (indexed.domains d) ∙ sym (frequencies_push reader.sheet.domains row d);
+        constraints = indexed.constraints;
+      },
+    )

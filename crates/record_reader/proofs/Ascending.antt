@@ -1,5 +1,5 @@
 -- The frequencies of a domain ascend, and are numbers of its rows.
-use Rattle.std.proofs.Common.{◌≡◌, ℕ, zero, suc, ◌+◌, ◌<◌, ◌≤◌, Bool, true, false, cond, ◌||◌, eqb, ltb, List, [], ◌∷◌, length, get_or, All, refl, sym, ap, ◌∙◌, arith}
+use Rattle.std.proofs.Common.{◌≡◌, ℕ, zero, suc, ◌+◌, ◌<◌, ◌≤◌, Bool, true, false, cond, ◌||◌, eqb, ltb, List, [], ◌∷◌, length, get_or, All, refl, sym, ◌∙◌, arith}
 use Rattle.std.specs.Ordering.{nat_cmp}
 use Rattle.std.specs.List.{fold}
 use Rattle.std.specs.List.Sorted.{IsStrictlyIncreasing}
@@ -43,7 +43,7 @@ kept : (Q : List ℕ → Type 0) (P : ℕ → Type 0) → ((n : ℕ) (xs : List 
 kept Q P more domain [] acc fit q = q
 kept Q P more domain (row ∷ rows) acc fit q =
     kept Q P more domain rows (put_row domain acc row) (All-tail (λ row. P row.frequency) row rows fit)
-      (row_step Q acc row (eqb row.domain domain) q (more row.frequency acc (All-head (λ row. P row.frequency) row rows fit) q))
+    (row_step Q acc row (eqb row.domain domain) q (more row.frequency acc (All-head (λ row. P row.frequency) row rows fit) q))
 
 pub ascends : (rows : List DomainRow) (domain : ℕ) → IsStrictlyIncreasing (frequencies rows domain)
 ascends rows domain = up_increasing 0 (frequencies rows domain) (kept (UpFrom 0) (λ n. Unit {0}) (λ n xs h q. put_up n 0 xs (omega arith) q) domain rows [] (λ k d lt. tt) tt)

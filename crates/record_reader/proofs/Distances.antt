@@ -1,5 +1,5 @@
 -- The numbers of fields, from the front on.
-use Rattle.std.proofs.Common.{◌≡◌, ℕ, suc, ◌+◌, ◌<◌, ◌≤◌, List, [], ◌∷◌, ◌++◌, length, get_or, set, take, drop, Result, Ok, Err, refl, sym, ap, ◌∙◌, subst, arith, drop-cons, append_assoc, append-nil}
+use Rattle.std.proofs.Common.{◌≡◌, ℕ, suc, ◌+◌, ◌<◌, ◌≤◌, List, [], ◌∷◌, ◌++◌, length, get_or, set, take, drop, Result, Ok, Err, refl, sym, ap, ◌∙◌, drop-cons, append_assoc, append-nil}
 use Rattle.std.proofs.lemmas.List.{drop_all, take_more_set, take_all}
 use Rattle.record_reader.specs.declared.cause.Cause.{Cause}
 use Rattle.record_reader.specs.Steps.{◌>>=◌}
@@ -30,16 +30,16 @@ pub one_more : (fields : List (List ℕ)) (dist : List ℕ) (i k j n : ℕ) (all
     → after (take i dist) (numbers (drop k fields)) ≡ all → after (take (i + 1) (set dist i n)) (numbers (drop j fields)) ≡ all
 one_more fields dist i k j n all next lt room e so_far =
     rw (take_more_set dist i n room, next) (
-      sym (after_more (take i dist) n (numbers (drop (suc k) fields)))
-      ∙ ap (after (take i dist)) (sym (numbers_ok (get_or fields k []) (drop (suc k) fields) n (sym e)))
-      ∙ ap (λ xs. after (take i dist) (numbers xs)) (sym (drop-cons fields k [] lt))
-      ∙ so_far)
+    sym (after_more (take i dist) n (numbers (drop (suc k) fields)))
+    ∙ ap (after (take i dist)) (sym (numbers_ok (get_or fields k []) (drop (suc k) fields) n (sym e)))
+    ∙ ap (λ xs. after (take i dist) (numbers xs)) (sym (drop-cons fields k [] lt))
+    ∙ so_far)
 
 pub one_bad : (fields : List (List ℕ)) (dist : List ℕ) (i k : ℕ) (cause : Cause) (all : Result (List ℕ) Cause) → k < length fields → Err cause ≡ number (get_or fields k [])
     → after (take i dist) (numbers (drop k fields)) ≡ all → Err cause ≡ all
 one_bad fields dist i k cause all lt e so_far =
     sym (ap (λ xs. after (take i dist) (numbers xs)) (drop-cons fields k [] lt)
-      ∙ ap (after (take i dist)) (numbers_err (get_or fields k []) (drop (suc k) fields) cause (sym e))) ∙ so_far
+    ∙ ap (after (take i dist)) (numbers_err (get_or fields k []) (drop (suc k) fields) cause (sym e))) ∙ so_far
 
 pub all_read : (fields : List (List ℕ)) (dist : List ℕ) (i k : ℕ) (all : Result (List ℕ) Cause) → length fields ≤ k → length dist ≤ i
     → after (take i dist) (numbers (drop k fields)) ≡ all → Ok dist ≡ all

@@ -1,5 +1,5 @@
 -- One more path or record of a draft.
-use Rattle.std.proofs.Common.{◌≡◌, ℕ, ◌+◌, ◌<◌, ◌≤◌, Bool, true, false, not, ◌&&◌, cond, eqb, ltb, List, [], ◌∷◌, ◌++◌, length, get_or, map, Option, Some, None, Ok, Err, refl, sym, ap, ◌∙◌, subst, arith, append-nil}
+use Rattle.std.proofs.Common.{◌≡◌, ℕ, ◌+◌, ◌<◌, ◌≤◌, Bool, true, false, ◌&&◌, eqb, ltb, List, [], ◌∷◌, ◌++◌, length, map, Option, Some, None, refl, sym, ap, ◌∙◌, arith, append-nil}
 use Rattle.std.specs.Prelude.{is_some, sum_by}
 use Rattle.std.specs.Option.{unwrap_or}
 use Rattle.std.specs.Global.{Vec}
@@ -8,7 +8,6 @@ use Rattle.std.proofs.lemmas.List.Sums.{sum_by_push}
 use Rattle.fapp_model.specs.declared.instance.Path.{Path}
 use Rattle.fapp_model.specs.declared.record.Record.{Record}
 use Rattle.fapp_model.specs.Choices.{choices}
-use Rattle.record_reader.specs.declared.cause.BadInput.{BadInput}
 use Rattle.record_reader.specs.declared.cause.Cause.{Cause}
 use Rattle.record_reader.specs.declared.cause.Cause.TheVariants as causes
 use Rattle.record_reader.specs.declared.cause.ReadError.{ReadError}
@@ -21,8 +20,8 @@ use Rattle.record_reader.specs.declared.row.Entry.{Entry}
 use Rattle.record_reader.specs.declared.row.Entry.TheVariants as entries
 use Rattle.record_reader.specs.declared.row.Rule.{Rule}
 use Rattle.record_reader.specs.declared.row.Sheet.{Sheet}
-use Rattle.record_reader.specs.Networks.{frequencies, paths_of, constraints_of, place_of, path_of, record_between, record_of}
-use Rattle.record_reader.specs.Wide.{knows_domain, choice_count, wide_path, wide_constraint, wide, bad_at}
+use Rattle.record_reader.specs.Networks.{paths_of, constraints_of, place_of, path_of, record_between, record_of}
+use Rattle.record_reader.specs.Wide.{knows_domain, choice_count, wide_path, wide_constraint, bad_at}
 use Rattle.record_reader.specs.Drafts.{IsDraft, RefusesAs, record_by}
 use Rattle.record_reader.proofs.Entries.{paths_append, constraints_append}
 use Rattle.record_reader.proofs.Ascending.{known}
@@ -73,13 +72,15 @@ path_more sheet earlier row path old count paths draft e c knows some pushed =
     let all = counted sheet earlier row path old count draft e c in
     let less : ltb 4194304 (sum_by (choice_count sheet.domains) (paths_of earlier ++ row ∷ [])) ≡ false = under 4194304 _ (rw all some) in
     let more : paths_of (earlier ++ entries.Path row ∷ []) ≡ paths_of earlier ++ row ∷ [] = paths_append earlier (entries.Path row ∷ []) in
-    let others : constraints_of (earlier ++ entries.Path row ∷ []) ≡ constraints_of earlier = constraints_append earlier (entries.Path row ∷ []) ∙ append-nil (constraints_of earlier) in
-    (rw (knows, less) refl, record {
-      paths = pushed ∙ ap (λ ps. ps ++ path ∷ []) draft.paths ∙ ap (λ p. map (path_of sheet.domains) (paths_of earlier) ++ p ∷ []) e ∙ sym (map_push (path_of sheet.domains) (paths_of earlier) row) ∙ ap (map (path_of sheet.domains)) (sym more);
-      records = draft.records ∙ ap (map (record_of (paths_of sheet.entries))) (sym others);
-      choices = sym all ∙ ap (sum_by (choice_count sheet.domains)) (sym more);
-      few = some;
-    })
+    let others : constraints_of (earlier ++ entries.Path row ∷ []) ≡ constraints_of earlier = constraints_append earlier (entries.Path row ∷ []) ∙ append-nil (constraints_of earlier) in (
+      rw (knows, less) refl,
+      record {
+        paths = pushed ∙ ap (λ ps. ps ++ path ∷ []) draft.paths ∙ ap (λ p. map (path_of sheet.domains) (paths_of earlier) ++ p ∷ []) e ∙ sym (map_push (path_of sheet.domains) (paths_of earlier) row) ∙ ap (map (path_of sheet.domains)) (sym more);
+        records = draft.records ∙ ap (map (record_of (paths_of sheet.entries))) (sym others);
+        choices = sym all ∙ ap (sum_by (choice_count sheet.domains)) (sym more);
+        few = some;
+      },
+    )
 
 -- ---- records
 
@@ -95,13 +96,15 @@ record_more sheet earlier row r old records draft h pushed =
     let both = known_cases (place_of (paths_of sheet.entries) row.first) (place_of (paths_of sheet.entries) row.second) row.rule r h in
     let same : paths_of (earlier ++ entries.Constraint row ∷ []) ≡ paths_of earlier = paths_append earlier (entries.Constraint row ∷ []) ∙ append-nil (paths_of earlier) in
     let more : constraints_of (earlier ++ entries.Constraint row ∷ []) ≡ constraints_of earlier ++ row ∷ [] = constraints_append earlier (entries.Constraint row ∷ []) in
-    let record_at = record_of (paths_of sheet.entries) in
-    (rw both.0 refl, record {
-      paths = draft.paths ∙ ap (map (path_of sheet.domains)) (sym same);
-      records = pushed ∙ ap (λ rs. rs ++ r ∷ []) draft.records ∙ ap (λ x. map record_at (constraints_of earlier) ++ x ∷ []) both.1 ∙ sym (map_push record_at (constraints_of earlier) row) ∙ ap (map record_at) (sym more);
-      choices = draft.choices ∙ ap (sum_by (choice_count sheet.domains)) (sym same);
-      few = draft.few;
-    })
+    let record_at = record_of (paths_of sheet.entries) in (
+      rw both.0 refl,
+      record {
+        paths = draft.paths ∙ ap (map (path_of sheet.domains)) (sym same);
+        records = pushed ∙ ap (λ rs. rs ++ r ∷ []) draft.records ∙ ap (λ x. map record_at (constraints_of earlier) ++ x ∷ []) both.1 ∙ sym (map_push record_at (constraints_of earlier) row) ∙ ap (map record_at) (sym more);
+        choices = draft.choices ∙ ap (sum_by (choice_count sheet.domains)) (sym same);
+        few = draft.few;
+      },
+    )
 
 pub placed : (r : Option Record) (a b p q : Option ℕ) (rule : Rule) → r ≡ record_by a b rule → a ≡ p → b ≡ q → r ≡ record_by p q rule
 placed r a b p q rule h e f = h ∙ ap (λ o. record_by o b rule) e ∙ ap (λ o. record_by p o rule) f

@@ -1,8 +1,7 @@
 -- One more entry.
-use Rattle.std.proofs.Common.{◌≡◌, ℕ, zero, suc, ◌<◌, List, [], ◌∷◌, ◌++◌, length, get_or, All, refl, ap, sym, subst, arith}
+use Rattle.std.proofs.Common.{◌≡◌, ℕ, zero, suc, ◌<◌, List, [], ◌∷◌, ◌++◌, length, get_or, All, refl, ap, subst, arith}
 use Rattle.std.proofs.lemmas.List.Elements.{All-head, All-tail}
 use Rattle.record_reader.specs.declared.row.PathRow.{PathRow}
-use Rattle.record_reader.specs.declared.row.ConstraintRow.{ConstraintRow}
 use Rattle.record_reader.specs.declared.row.Entry.{Entry}
 use Rattle.record_reader.specs.declared.row.Entry.TheVariants as entries
 use Rattle.record_reader.specs.Networks.{paths_of, constraints_of}

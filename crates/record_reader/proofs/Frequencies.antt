@@ -1,8 +1,7 @@
 -- The frequencies of domains, in ascending order.
-use Rattle.std.proofs.Common.{◌≡◌, ℕ, ◌+◌, ◌<◌, ◌≤◌, Bool, true, false, not, cond, eqb, ltb, List, [], ◌∷◌, ◌++◌, length, Option, Some, None, refl, sym, ap, ◌∙◌, arith}
-use Rattle.std.specs.declared.cmp.Ordering.{Ordering}
+use Rattle.std.proofs.Common.{◌≡◌, ℕ, Bool, true, false, cond, eqb, ltb, List, [], ◌∷◌, ◌++◌, length, Option, Some, None, refl, sym, ap, ◌∙◌, arith}
 use Rattle.std.specs.Ordering.{nat_cmp, match_ordering}
-use Rattle.std.specs.BTreeMap.{BTreeMap, get, is_at, Updates, UpdatesBy}
+use Rattle.std.specs.BTreeMap.{BTreeMap, get, is_at}
 use Rattle.std.specs.BTreeSet.{BTreeSet, insert_key}
 use Rattle.std.proofs.lemmas.Bool.Decides.{nat_tests}
 use Rattle.std.proofs.lemmas.List.Sums.{fold_push}
@@ -42,7 +41,7 @@ pub put_back : (row : DomainRow) (old left new : BTreeMap ℕ (BTreeSet ℕ)) (o
 put_back row old left new own set mine others keys u domain =
     ap keys_of (u domain ∙ ap (λ b. cond b (Some set) (get nat_cmp left domain)) (at_eq row.domain domain))
     ∙ put_step row domain (eqb row.domain domain) set (get nat_cmp old domain) (get nat_cmp left domain) own refl
-      (λ e. mine ∙ ap (frequencies_in old) (eqb_same row.domain domain e)) (λ e. others domain e) keys
+    (λ e. mine ∙ ap (frequencies_in old) (eqb_same row.domain domain e)) (λ e. others domain e) keys
 
 pub own_count : (domain : ℕ) (new : BTreeMap ℕ (BTreeSet ℕ)) (left : Option (BTreeSet ℕ)) (set : BTreeSet ℕ) → get nat_cmp new domain ≡ cond (is_at (nat_cmp domain) domain) (Some set) left
     → length set.keys ≡ length (frequencies_in new domain)

@@ -1,5 +1,5 @@
 -- Laws of texts and their networks.
-use Rattle.std.proofs.Common.{◌≡◌, ◌≢◌, ℕ, zero, suc, ◌+◌, ◌-◌, ◌<◌, ◌≤◌, Bool, true, false, cond, ◌||◌, ◌&&◌, eqb, ltb, List, [], ◌∷◌, ◌++◌, length, get_or, take, Result, Ok, Err, refl, sym, ap, ◌∙◌, subst, arith, inl, inr, ◌⊎◌}
+use Rattle.std.proofs.Common.{◌≡◌, ◌≢◌, ℕ, ◌+◌, ◌-◌, Bool, true, false, cond, ◌||◌, ◌&&◌, eqb, ltb, List, [], ◌∷◌, ◌++◌, length, get_or, take, Result, Ok, Err, refl, sym, ap, ◌∙◌, arith, inl, inr, ◌⊎◌}
 use Rattle.std.specs.List.{fold, list_any, onto_first}
 use Rattle.std.proofs.lemmas.List.{length_push}
 use Rattle.std.proofs.Math.Seq.{get_or-append_seam, take-append_seam}
@@ -10,9 +10,9 @@ use Rattle.record_reader.specs.declared.row.DomainRow.{DomainRow}
 use Rattle.record_reader.specs.declared.row.Sheet.{Sheet}
 use Rattle.record_reader.specs.Steps.{◌>>=◌}
 use Rattle.record_reader.specs.Fields.{without_return, fields_of}
-use Rattle.record_reader.specs.Networks.{put, put_row, frequencies}
+use Rattle.record_reader.specs.Networks.{put, put_row}
 use Rattle.record_reader.specs.Sheets.{read_line, at_line, read_lines}
-use Rattle.record_reader.specs.Texts.{no_row, settled, instance_of_lines, instance_of_text}
+use Rattle.record_reader.specs.Texts.{no_row, settled, instance_of_lines}
 use Rattle.record_reader.specs.Laws.{OneNetwork, ValidNetwork, FirstRefusal, WideRefusal, LineFeedMore, CarriageReturnMore, Ascending, OwnFrequencies}
 use Rattle.record_reader.proofs.Results.{bind_ok}
 use Rattle.record_reader.proofs.ValidSheets.{lines_valid, nothing_valid}
@@ -37,7 +37,7 @@ more_lines : (sheet : Sheet) (line : ℕ) (texts more : List (List ℕ)) (bad : 
 more_lines sheet line [] more bad h = absurd cc
 more_lines sheet line (text ∷ texts) more bad h =
     bind_err (at_line line (read_line sheet line (fields_of text))) (λ next. read_lines next (line + 1) texts) (λ next. read_lines next (line + 1) (texts ++ more)) bad
-      (λ next k. more_lines next (line + 1) texts more bad k) h
+    (λ next k. more_lines next (line + 1) texts more bad k) h
 
 pub first_refusal : FirstRefusal
 first_refusal texts more bad h = rw (more_lines no_row 1 texts more bad h) refl
@@ -69,13 +69,13 @@ empty_line : (sheet : Sheet) (line : ℕ) (texts : List (List ℕ)) → read_lin
 empty_line sheet line [] = refl
 empty_line sheet line (text ∷ texts) =
     bind_same (at_line line (read_line sheet line (fields_of text))) (λ next. read_lines next (line + 1) (texts ++ [] ∷ [])) (λ next. read_lines next (line + 1) texts)
-      (λ next. empty_line next (line + 1) texts)
+    (λ next. empty_line next (line + 1) texts)
 
 pub line_feed_more : LineFeedMore
 line_feed_more text = elim (lines_feed text) [
-    | inl e ↦ ap instance_of_lines e
-    | inr e ↦ ap instance_of_lines e ∙ ap (λ r. r >>= settled) (empty_line no_row 1 (lines text))
-  ]
+  | inl e ↦ ap instance_of_lines e
+  | inr e ↦ ap instance_of_lines e ∙ ap (λ r. r >>= settled) (empty_line no_row 1 (lines text))
+]
 
 off_end : (line : List ℕ) (last : ℕ) → length (line ++ last ∷ []) - 1 ≡ length line
 off_end line last = omega (arith, length_push line last)
@@ -100,7 +100,7 @@ same_lines : (one other : List ℕ) (after : List (List ℕ)) → fields_of one 
 same_lines one other after e sheet line [] = ap (λ fs. at_line line (read_line sheet line fs) >>= λ next. read_lines next (line + 1) after) e
 same_lines one other after e sheet line (text ∷ before) =
     bind_same (at_line line (read_line sheet line (fields_of text))) (λ next. read_lines next (line + 1) (before ++ one ∷ after)) (λ next. read_lines next (line + 1) (before ++ other ∷ after))
-      (λ next. same_lines one other after e next (line + 1) before)
+    (λ next. same_lines one other after e next (line + 1) before)
 
 pub carriage_return_more : CarriageReturnMore
 carriage_return_more before after line h = ap (λ r. r >>= settled) (same_lines (line ++ 13 ∷ []) line after (same_fields line h) no_row 1 before)

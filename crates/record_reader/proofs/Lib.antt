@@ -12,3 +12,4 @@ pub mod ValidNetworks
 pub mod Drafts
 pub mod Settled
 pub mod LawProofs
+pub mod FirstFields

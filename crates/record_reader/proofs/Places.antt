@@ -1,9 +1,9 @@
 -- The positions of paths by their numbers.
-use Rattle.std.proofs.Common.{◌≡◌, ℕ, ◌+◌, ◌<◌, ◌≤◌, Bool, true, false, not, cond, eqb, ltb, List, [], ◌∷◌, ◌++◌, length, Option, Some, None, refl, sym, ap, ◌∙◌, arith}
+use Rattle.std.proofs.Common.{◌≡◌, ℕ, ◌+◌, ◌≤◌, Bool, true, false, cond, eqb, ltb, List, [], ◌∷◌, ◌++◌, length, Option, Some, None, refl, sym, ap, ◌∙◌, arith}
 use Rattle.std.specs.Prelude.{is_some}
 use Rattle.std.specs.Ordering.{nat_cmp}
 use Rattle.std.specs.BTreeMap.{BTreeMap, get, is_at, Updates}
-use Rattle.std.specs.List.{position, position_or_len}
+use Rattle.std.specs.List.{position_or_len}
 use Rattle.std.proofs.lemmas.Bool.Decides.{nat_tests}
 use Rattle.std.proofs.lemmas.List.{length_push}
 use Rattle.std.proofs.lemmas.List.Sums.{prefix_len-le-length}
@@ -54,4 +54,4 @@ pub places_push : (paths : List PathRow) (row : PathRow) (old new : BTreeMap ℕ
 places_push paths row old new so_far none u n =
     let absent : is_some (place_of paths row.number) ≡ false = sym (ap is_some (so_far row.number)) ∙ ap is_some none in
     place_step paths row n (eqb row.number n) (get nat_cmp old n) (get nat_cmp new n) refl absent (so_far n)
-      (u.0 n ∙ ap (λ b. cond b (Some (length paths)) (get nat_cmp old n)) (at_eq row.number n))
+    (u.0 n ∙ ap (λ b. cond b (Some (length paths)) (get nat_cmp old n)) (at_eq row.number n))

@@ -1,12 +1,10 @@
 -- The network of a text is valid.
-use Rattle.std.proofs.Common.{◌≡◌, ℕ, List, [], Option, Some, None, Result, Ok, Err, refl, sym, ap, ◌∙◌, subst}
+use Rattle.std.proofs.Common.{◌≡◌, [], Result, Ok, Err, subst}
 use Rattle.std.specs.Prelude.{IfOk}
 use Rattle.fapp_model.specs.declared.instance.Instance.{Instance}
 use Rattle.fapp_model.specs.Instances.{IsInstance}
-use Rattle.record_reader.specs.declared.cause.BadInput.{BadInput}
 use Rattle.record_reader.specs.declared.cause.ReadError.{ReadError}
 use Rattle.record_reader.specs.declared.row.Sheet.{Sheet}
-use Rattle.record_reader.specs.Steps.{unless}
 use Rattle.record_reader.specs.Networks.{instance_of}
 use Rattle.record_reader.specs.Wide.{first_wide}
 use Rattle.record_reader.specs.Texts.{settled, Gives}

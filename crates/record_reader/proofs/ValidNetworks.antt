@@ -1,17 +1,14 @@
 -- The network of rows that the whole text allows is valid.
-use Rattle.std.proofs.Common.{◌≡◌, ◌≢◌, ℕ, zero, suc, ◌+◌, ◌<◌, ◌≤◌, Bool, true, false, not, ◌&&◌, cond, eqb, ltb, leb, List, [], ◌∷◌, ◌++◌, length, get_or, map, pos, All, AllPairs, Option, Some, None, Result, Ok, Err, refl, sym, ap, ◌∙◌, subst, arith, append-nil, append_assoc}
+use Rattle.std.proofs.Common.{◌≡◌, ◌≢◌, ℕ, ◌+◌, ◌<◌, ◌≤◌, Bool, true, false, not, ◌&&◌, cond, eqb, ltb, List, [], ◌∷◌, ◌++◌, length, get_or, map, pos, All, AllPairs, Option, Some, None, refl, sym, ap, ◌∙◌, arith, append-nil, append_assoc}
 use Rattle.std.specs.Prelude.{is_some, sum_by}
 use Rattle.std.specs.Option.{unwrap_or}
 use Rattle.std.specs.List.{position_or_len}
 use Rattle.std.proofs.lemmas.List.{length-map, get_or-map}
-use Rattle.std.proofs.lemmas.List.Elements.{All-nil, All-cons, All-head, All-tail, All-map}
+use Rattle.std.proofs.lemmas.List.Elements.{All-nil, All-cons, All-map}
 use Rattle.std.proofs.lemmas.List.Sums.{passes_at_first, sum_by-cons}
-use Rattle.fapp_model.specs.declared.instance.Path.{Path}
-use Rattle.fapp_model.specs.declared.instance.Instance.{Instance}
-use Rattle.fapp_model.specs.declared.record.Record.{Record}
 use Rattle.fapp_model.specs.Choices.{choices}
 use Rattle.fapp_model.specs.Records.{first_path, second_path}
-use Rattle.fapp_model.specs.Instances.{IsNumber, IsPath, IsRecord, HasNumbers, IsInstance}
+use Rattle.fapp_model.specs.Instances.{IsPath, IsRecord, HasNumbers, IsInstance}
 use Rattle.record_reader.specs.declared.cause.BadInput.{BadInput}
 use Rattle.record_reader.specs.declared.cause.Cause.{Cause}
 use Rattle.record_reader.specs.declared.cause.Cause.TheVariants as causes
@@ -24,8 +21,8 @@ use Rattle.record_reader.specs.declared.row.Rule.{Rule}
 use Rattle.record_reader.specs.declared.row.Rule.TheVariants.{Freq, Pol, Same, Other}
 use Rattle.record_reader.specs.declared.row.Sheet.{Sheet}
 use Rattle.record_reader.specs.Networks.{frequencies, paths_of, constraints_of, place_of, path_of, record_between, record_of, instance_of}
-use Rattle.record_reader.specs.Wide.{knows_domain, choice_count, wide_path, wide_constraint, wide, line_of, bad_at, or_later, first_wide}
-use Rattle.record_reader.specs.Valid.{IsDomainRow, IsPathRow, IsRule, IsConstraintRow, IsSheet}
+use Rattle.record_reader.specs.Wide.{knows_domain, choice_count, wide_path, wide_constraint, bad_at, or_later, first_wide}
+use Rattle.record_reader.specs.Valid.{IsPathRow, IsRule, IsConstraintRow, IsSheet}
 use Rattle.record_reader.proofs.Entries.{paths_append}
 use Rattle.record_reader.proofs.Ascending.{ascends, frequencies_numbers, known}
 use Rattle.record_reader.proofs.Results.{if_none}
@@ -139,9 +136,9 @@ between_valid paths i j first second rule p q apart fit = record {
   first = rw (first_is i j rule) p.within;
   second = rw (second_is i j rule) q.within;
   different = λ same.
-    let e : i ≡ j = sym (first_is i j rule) ∙ same ∙ second_is i j rule in
-    let d : PathRow = record { line = 0; number = 0; domain = 0; pol = pos 0 } in
-    apart (sym (p.at d) ∙ ap (λ k. (get_or paths k d).number) e ∙ q.at d);
+      let e : i ≡ j = sym (first_is i j rule) ∙ same ∙ second_is i j rule in
+      let d : PathRow = record { line = 0; number = 0; domain = 0; pol = pos 0 } in
+      apart (sym (p.at d) ∙ ap (λ k. (get_or paths k d).number) e ∙ q.at d);
   numbers = numbers_of i j rule fit;
 }
 

@@ -1,18 +1,15 @@
 -- A row that a line gives is valid.
-use Rattle.std.proofs.Common.{◌≡◌, ◌≢◌, ℕ, zero, suc, ◌+◌, ◌-◌, ◌<◌, ◌≤◌, Bool, true, false, cond, ◌||◌, ◌&&◌, eqb, ltb, leb, List, [], ◌∷◌, length, get_or, drop, ℤ, pos, negsuc, All, AllPairs, Result, Ok, Err, refl, sym, ap, ◌∙◌, subst, arith, inl, inr, codes, length-drop}
+use Rattle.std.proofs.Common.{◌≡◌, ◌≢◌, ℕ, zero, suc, ◌<◌, ◌≤◌, Bool, true, false, cond, ◌||◌, eqb, ltb, leb, List, [], ◌∷◌, length, get_or, drop, ℤ, pos, negsuc, All, Result, Ok, Err, refl, sym, ap, subst, arith, inl, inr, codes, length-drop}
 use Rattle.std.specs.Str.{bytes_eq}
 use Rattle.std.proofs.lemmas.List.Elements.{All-nil, All-cons}
-use Rattle.fapp_model.specs.Instances.{IsNumber, IsPolarization, AreDistances}
-use Rattle.fapp_text.specs.declared.numeral.NumFault.{NumFault}
+use Rattle.fapp_model.specs.Instances.{IsNumber, IsPolarization}
 use Rattle.fapp_text.specs.declared.numeral.NumFault.TheVariants.{NotDigits, TooLarge}
 use Rattle.fapp_text.specs.Numbers.{is_numeral, value}
-use Rattle.record_reader.specs.declared.cause.Cause.{Cause}
 use Rattle.record_reader.specs.declared.cause.Cause.TheVariants as causes
 use Rattle.record_reader.specs.declared.row.Row.{Row}
 use Rattle.record_reader.specs.declared.row.Row.TheVariants as rows
 use Rattle.record_reader.specs.declared.row.Entry.TheVariants as entries
 use Rattle.record_reader.specs.declared.row.Rule.{Rule}
-use Rattle.record_reader.specs.declared.row.Rule.TheVariants.{Freq, Pol, Same, Other}
 use Rattle.record_reader.specs.declared.row.Kind.{Kind}
 use Rattle.record_reader.specs.declared.row.Kind.TheVariants as kinds
 use Rattle.record_reader.specs.Steps.{◌>>=◌}

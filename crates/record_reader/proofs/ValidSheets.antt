@@ -1,12 +1,11 @@
 -- The rows of lines are valid.
-use Rattle.std.proofs.Common.{◌≡◌, ◌≢◌, ℕ, zero, suc, ◌+◌, ◌<◌, ◌≤◌, Bool, true, false, cond, eqb, ltb, leb, List, [], ◌∷◌, ◌++◌, length, get_or, All, AllPairs, Option, Some, None, Result, Ok, Err, refl, sym, ap, ◌∙◌, subst, arith, append-nil}
+use Rattle.std.proofs.Common.{◌≡◌, ◌≢◌, ℕ, ◌+◌, ◌<◌, ◌≤◌, Bool, true, false, cond, eqb, ltb, leb, List, [], ◌∷◌, ◌++◌, length, get_or, Some, None, Ok, refl, ap, ◌∙◌, subst, arith, append-nil}
 use Rattle.std.specs.Prelude.{is_some}
 use Rattle.std.specs.List.{position_or_len}
 use Rattle.std.proofs.lemmas.List.{length_push}
 use Rattle.std.proofs.lemmas.List.Elements.{All-push, All-nil, All-same}
 use Rattle.std.proofs.lemmas.List.Quantifiers.{all_pairs_push}
 use Rattle.std.proofs.lemmas.List.Sums.{fails_before_first, prefix_len-le-length}
-use Rattle.record_reader.specs.declared.cause.Cause.{Cause}
 use Rattle.record_reader.specs.declared.cause.Cause.TheVariants as causes
 use Rattle.record_reader.specs.declared.row.DomainRow.{DomainRow}
 use Rattle.record_reader.specs.declared.row.PathRow.{PathRow}
@@ -15,10 +14,9 @@ use Rattle.record_reader.specs.declared.row.Entry.TheVariants as entries
 use Rattle.record_reader.specs.declared.row.Row.{Row}
 use Rattle.record_reader.specs.declared.row.Row.TheVariants as rows
 use Rattle.record_reader.specs.declared.row.Sheet.{Sheet}
-use Rattle.record_reader.specs.Steps.{◌>>=◌, unless}
 use Rattle.record_reader.specs.Fields.{fields_of}
 use Rattle.record_reader.specs.Rows.{row_of}
-use Rattle.record_reader.specs.Networks.{frequencies, put, put_row, paths_of, constraints_of, place_of}
+use Rattle.record_reader.specs.Networks.{frequencies, paths_of, constraints_of, place_of}
 use Rattle.record_reader.specs.Sheets.{late, late_domain, late_path, late_constraint, with_row, read_row, read_line, at_line, read_lines}
 use Rattle.record_reader.specs.Texts.{no_row}
 use Rattle.record_reader.specs.Valid.{IsDomainRow, IsPathRow, IsConstraintRow, IsSheet}

@@ -1,5 +1,5 @@
 -- Laws of texts and their networks.
-use Rattle.std.specs.Prelude.{◌≡◌, ◌≢◌, ℕ, ◌-◌, ◌&&◌, ◌==◌, List, [], ◌∷◌, ◌++◌, Result, Ok, Err, length, slice_index}
+use Rattle.std.specs.Prelude.{◌≡◌, ◌≢◌, ℕ, ◌-◌, ◌&&◌, ◌==◌, List, [], ◌∷◌, ◌++◌, Ok, Err, length, slice_index}
 use Rattle.std.specs.List.{list_any}
 use Rattle.std.specs.List.Sorted.{IsStrictlyIncreasing}
 use Rattle.fapp_model.specs.declared.instance.Instance.{Instance}
@@ -10,7 +10,6 @@ use Rattle.record_reader.specs.declared.row.Sheet.{Sheet}
 use Rattle.record_reader.specs.Networks.{frequencies}
 use Rattle.record_reader.specs.Sheets.{read_lines}
 use Rattle.record_reader.specs.Texts.{no_row, settled, instance_of_lines, instance_of_text}
-use Rattle.record_reader.specs.Valid.{IsDomainRow}
 
 -- a text that is not refused has one network
 abbrev pub OneNetwork : Type 0

@@ -1,5 +1,5 @@
 -- The rows of lines, or the first line that is refused for itself or for the lines before it.
-use Rattle.std.specs.Prelude.{ℕ, ◌+◌, ◌==◌, nat_lt, nat_le, List, [], ◌∷◌, ◌++◌, length, Option, Some, None, is_some, Result, Ok, Err, if◌then◌else◌}
+use Rattle.std.specs.Prelude.{ℕ, ◌+◌, nat_lt, nat_le, List, [], ◌∷◌, ◌++◌, length, Option, Some, None, is_some, Result, Ok, Err, if◌then◌else◌}
 use Rattle.fapp_model.specs.declared.limits.TheConstants.{MAX_PATHS, MAX_RECORDS, MAX_DOMAIN_RECORDS, MAX_DOMAIN_FREQUENCIES}
 use Rattle.record_reader.specs.declared.cause.BadInput.{BadInput}
 use Rattle.record_reader.specs.declared.cause.Cause.{Cause}
@@ -7,7 +7,6 @@ use Rattle.record_reader.specs.declared.cause.Cause.TheVariants.{DuplicatePath, 
 use Rattle.record_reader.specs.declared.row.DomainRow.{DomainRow}
 use Rattle.record_reader.specs.declared.row.PathRow.{PathRow}
 use Rattle.record_reader.specs.declared.row.ConstraintRow.{ConstraintRow}
-use Rattle.record_reader.specs.declared.row.Entry.{Entry}
 use Rattle.record_reader.specs.declared.row.Entry.TheVariants as entries
 use Rattle.record_reader.specs.declared.row.Row.{Row}
 use Rattle.record_reader.specs.declared.row.Row.TheVariants as rows

@@ -3,7 +3,6 @@ use Rattle.std.specs.Prelude.{◌≡◌, ℕ, List, [], Result, Ok, Err}
 use Rattle.fapp_model.specs.declared.instance.Instance.{Instance}
 use Rattle.fapp_text.specs.Lines.{lines}
 use Rattle.record_reader.specs.declared.cause.BadInput.{BadInput}
-use Rattle.record_reader.specs.declared.cause.Cause.{Cause}
 use Rattle.record_reader.specs.declared.cause.ReadError.{ReadError}
 use Rattle.record_reader.specs.declared.cause.ReadError.TheVariants.{Bad, NoMemory}
 use Rattle.record_reader.specs.declared.row.Sheet.{Sheet}

@@ -1,5 +1,5 @@
 -- What rows that are not refused have in common.
-use Rattle.std.specs.Prelude.{◌≢◌, ℕ, ◌≤◌, List, length, All, AllPairs}
+use Rattle.std.specs.Prelude.{◌≢◌, ℕ, ◌≤◌, length, All, AllPairs}
 use Rattle.fapp_model.specs.declared.limits.TheConstants.{MAX_PATHS, MAX_RECORDS, MAX_DOMAIN_FREQUENCIES}
 use Rattle.fapp_model.specs.Instances.{IsNumber, IsPolarization, AreDistances}
 use Rattle.record_reader.specs.declared.row.DomainRow.{DomainRow}

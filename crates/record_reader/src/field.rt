@@ -1,4 +1,4 @@
-ghost use Rattle.std.specs.Prelude.{◌≡◌, ◌<◌, ◌&&◌, ◌==◌, IfOk, map, length};
+ghost use Rattle.std.specs.Prelude.{◌≡◌, ◌<◌, ◌&&◌, ◌==◌, IfOk, map, take, length};
 ghost use Rattle.std.specs.Str.{bytes_eq};
 ghost use Rattle.record_reader.specs.Fields.{without_return, fields_of, field, number, numbers, either_word, polarization};
 
@@ -16,13 +16,19 @@ fn without_return(line: &[u8]) -> &[u8]
     }
 }
 
-/// The fields of a line.
-pub(crate) fn fields_of(alloc: Global, line: &[u8]) -> Result<Vec<&[u8]>, AllocError>
-    ensures { IfOk result (λ v. map (λ x. x.now) v.items ≡ fields_of line.now) }
+/// One more field than any record has.
+const MOST_FIELDS: usize = 15;
+
+/// The first fields of a line, which tell as much as all of them.
+pub(crate) fn first_fields(alloc: Global, line: &[u8]) -> Result<Vec<&[u8]>, AllocError>
+    ensures { IfOk result (λ v. map (λ x. x.now) v.items ≡ take MOST_FIELDS (fields_of line.now)) }
 {
     let mut fields = Vec::new(alloc);
     let mut left = Fields::new(without_return(line));
-    while let Some(field) = left.next() {
+    while fields.len() < MOST_FIELDS {
+        let Some(field) = left.next() else {
+            return Ok(fields);
+        };
         fields.push(field)?;
     }
     Ok(fields)

@@ -12,6 +12,6 @@ mod row;
 #[cfg(test)]
 mod tests;
 
-pub use laws::{frequencies_law, line_end_law, one_network_law, refusal_law};
 pub use cause::{BadInput, Cause, ReadError};
+pub use laws::{frequencies_law, line_end_law, one_network_law, refusal_law};
 pub use reading::read_instance;

@@ -1,4 +1,4 @@
-ghost use Rattle.std.specs.Prelude.{◌≡◌, ℕ, ◌≤◌, ◌==◌, false, length};
+ghost use Rattle.std.specs.Prelude.{◌≡◌, ℕ, ◌≤◌, ◌==◌, false, length, map};
 ghost use Rattle.record_reader.specs.declared.row.Row.TheVariants as rows;
 ghost use Rattle.record_reader.specs.declared.row.Entry.TheVariants as entries;
 ghost use Rattle.record_reader.specs.Fields.{fields_of};
@@ -8,7 +8,7 @@ ghost use Rattle.record_reader.specs.Readers.{frequencies_in, AddsFrequency, IsI
 ghost use Rattle.fapp_text.specs.Lines.{lines};
 
 use crate::cause::bad;
-use crate::field::fields_of;
+use crate::field::first_fields;
 use crate::line::row_of;
 use crate::row::{ConstraintRow, DomainRow, Entry, PathRow, Row, Sheet};
 use crate::{Cause, ReadError};
@@ -106,11 +106,18 @@ impl Reader {
         requires { IsIndexed self.old }
         ensures { Goes (at_line line (read_line self.old.sheet line (fields_of text.now))) result self.new }
     {
-        let fields = fields_of(alloc, text)?;
+        let fields = first_fields(alloc, text)?;
+        self.add_fields(alloc, line, fields.as_slice())
+    }
+
+    fn add_fields(&mut self, alloc: Global, line: u32, fields: &[&[u8]]) -> Result<(), ReadError>
+        requires { IsIndexed self.old }
+        ensures { Goes (at_line line (read_line self.old.sheet line (map (λ x. x.now) fields.now))) result self.new }
+    {
         if fields.is_empty() {
             return Ok(());
         }
-        match row_of(line, fields.as_slice()) {
+        match row_of(line, fields) {
             Ok(row) => self.add(alloc, line, row),
             Err(cause) => Err(bad(line, cause)),
         }

@@ -57,7 +57,8 @@ fn refuses_lines_by_others(rt: HostRuntime) {
 
 #[test]
 fn reads_lenient_text(rt: HostRuntime) {
-    let text = b"TR 1 1 1\r\nTR\t2 2 1\r\n\r\nCE  1 2 20 20 20 20 20 20 20 20 20 20 20\r\nDM 2 30\nDM 2 10\nDM 2 020\nDM 2 30\nDM 1 10";
+    let text =
+        b"TR 1 1 1\r\nTR\t2 2 1\r\n\r\nCE  1 2 20 20 20 20 20 20 20 20 20 20 20\r\nDM 2 30\nDM 2 10\nDM 2 020\nDM 2 30\nDM 1 10";
     let Ok(instance) = read_instance(rt.alloc(), text) else {
         assert!(rt; false, "refused");
         return;
@@ -70,7 +71,16 @@ fn reads_lenient_text(rt: HostRuntime) {
     assert_eq!(rt; paths[1].freqs.as_slice(), &[10, 20, 30][..]);
     let records = instance.records.as_slice();
     assert_eq!(rt; records.len(), 1);
-    assert!(rt; matches!(&records[0], Record::Same { i: 0, j: 1, dist: [20, 20, 20, 20, 20, 20, 20, 20, 20, 20, 20] }));
+    assert!(rt;
+        matches!(
+            &records[0],
+            Record::Same {
+                i: 0,
+                j: 1,
+                dist: [20, 20, 20, 20, 20, 20, 20, 20, 20, 20, 20]
+            }
+        )
+    );
 }
 
 /// So many frequencies of one domain, and so many paths of one polarization, but for the last one.
@@ -91,12 +101,21 @@ fn keeps_the_limits(rt: HostRuntime) -> Result<(), AllocError> {
     let most = network(rt.alloc(), 1, 8_192, "1")?;
     assert_eq!(rt; refusal(rt.alloc(), most.as_bytes()), None);
     let more = network(rt.alloc(), 1, 8_193, "1")?;
-    assert_eq!(rt; refusal(rt.alloc(), more.as_bytes()), Some((8_194, Cause::TooManyPaths)));
+    assert_eq!(rt;
+        refusal(rt.alloc(), more.as_bytes()),
+        Some((8_194, Cause::TooManyPaths))
+    );
     let fixed = network(rt.alloc(), 512, 8_192, "1")?;
     assert_eq!(rt; refusal(rt.alloc(), fixed.as_bytes()), None);
     let free = network(rt.alloc(), 512, 8_192, "0")?;
-    assert_eq!(rt; refusal(rt.alloc(), free.as_bytes()), Some((8_704, Cause::TooManyChoices)));
+    assert_eq!(rt;
+        refusal(rt.alloc(), free.as_bytes()),
+        Some((8_704, Cause::TooManyChoices))
+    );
     let domain = network(rt.alloc(), 32_769, 1, "1")?;
-    assert_eq!(rt; refusal(rt.alloc(), domain.as_bytes()), Some((32_769, Cause::DomainTooLarge)));
+    assert_eq!(rt;
+        refusal(rt.alloc(), domain.as_bytes()),
+        Some((32_769, Cause::DomainTooLarge))
+    );
     Ok(())
 }

@@ -1,4 +1,4 @@
-use Rattle.std.proofs.Common.{arith, sym, ◌∙◌}
+use Rattle.std.proofs.Common.{sym}
 use Rattle.fapp_text.proofs.PlaceLemmas.{position_some, position_none}
 use Rattle.fapp_text.proofs.LineLemmas.{is_end, line_cut, line_last}
 use Rattle.fapp_text.proofs.line.first_line.Goals as goal

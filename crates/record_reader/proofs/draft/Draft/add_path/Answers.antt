@@ -1,4 +1,4 @@
-use Rattle.std.proofs.Common.{◌∙◌, sym, subst}
+use Rattle.std.proofs.Common.{sym, subst}
 use Rattle.fapp_model.specs.Instances.{IsPath}
 use Rattle.record_reader.specs.declared.cause.Cause.TheVariants as causes
 use Rattle.record_reader.specs.Networks.{paths_of}
@@ -22,7 +22,7 @@ returns-then-choices-gt-MAX_CHOICES c = λ earlier draft.
     let sheet = c.args.reader.now.sheet in
     let knows = known_domain sheet.domains c.args.row c.in_ok-path.path c.is_empty.result c.in_ok-path.ensures c.is_empty.ensures c.if-is_empty.false in
     refuses c.args.row.line _ causes.TooManyChoices c.bad-then-choices-gt-MAX_CHOICES.result c.bad-then-choices-gt-MAX_CHOICES.ensures
-      (too_many sheet earlier c.args.row c.in_ok-path.path c.args.self.now c.choice_count.result draft c.in_ok-path.ensures c.choice_count.ensures.count knows c.if-choices-gt-MAX_CHOICES.true)
+    (too_many sheet earlier c.args.row c.in_ok-path.path c.args.self.now c.choice_count.result draft c.in_ok-path.ensures c.choice_count.ensures.count knows c.if-choices-gt-MAX_CHOICES.true)
 
 pub returns : goal.returns
 returns c = λ earlier draft.

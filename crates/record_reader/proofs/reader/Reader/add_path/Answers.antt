@@ -9,6 +9,6 @@ returns c =
     let none = none_of _ c.contains_key.result c.contains_key.ensures c.if-contains_key.false in
     let place = c.len-place.ensures.len ∙ c.requires.paths in
     rw c.in_ok-push.ensures.ok (path_added c.args.self.now c.args.row c.args.line c.insert.new.self c.requires none
-      (omega (arith, place, c.if-place-ge-MAX_PATHS.false))
-      (subst (λ n. Updates nat_cmp c.args.self.now.positions c.insert.new.self c.args.row.number (Some n)) place put.updates)
-      (one_longer _ _ _ (put.old ∙ none) put.len))
+    (omega (arith, place, c.if-place-ge-MAX_PATHS.false))
+    (subst (λ n. Updates nat_cmp c.args.self.now.positions c.insert.new.self c.args.row.number (Some n)) place put.updates)
+    (one_longer _ _ _ (put.old ∙ none) put.len))
