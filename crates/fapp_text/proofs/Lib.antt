@@ -2,3 +2,4 @@ pub mod LineLemmas
 pub mod FieldLemmas
 pub mod DigitLemmas
 pub mod PlaceLemmas
+pub mod LawProofs

@@ -2,10 +2,12 @@
 #![tactic(auto)]
 
 mod field;
+mod laws;
 mod line;
 mod numeral;
 
 pub use field::Fields;
+pub use laws::{fields_law, lines_law};
 pub use line::Lines;
 pub use numeral::{MAX_NUMBER, NoMemory, NumFault, number, push_number};
 

@@ -100,3 +100,6 @@ domain_added reader row line count domains indexed few adds counted some =
         constraints = indexed.constraints;
       },
     )
+
+pub has_room : (most count : ℕ) (full : Bool) → full ≡ leb most count → full ≡ false → count < most
+has_room most count full e f = grind arith

@@ -3,9 +3,8 @@ ghost use Rattle.record_reader.specs.declared.cause.ReadError.TheVariants.{Bad};
 
 use std::alloc::{AllocError, AllocFailed};
 
-/// What is wrong with a line. The first ten are found at the line, given the lines before it, and are tested in
-/// this order but for the last five of them, of which a line can have only those of its own record. The last three
-/// need the whole text, and stand only where no line has one of the others.
+/// What a line is refused for. `UnknownDomain`, `UnknownPath` and `TooManyChoices` need the whole text, and stand only
+/// where no line has another cause. The others are found at the line, given the lines before it.
 #[derive(Clone, Copy, Debug, PartialEq, Eq)]
 pub enum Cause {
     /// The first field names no record.

@@ -1,4 +1,4 @@
-ghost use Rattle.std.specs.Prelude.{◌≡◌, ℕ, ◌≤◌, ◌==◌, false, length, map};
+ghost use Rattle.std.specs.Prelude.{◌≡◌, ℕ, ◌≤◌, ◌==◌, false, nat_le, length, map};
 ghost use Rattle.record_reader.specs.declared.row.Row.TheVariants as rows;
 ghost use Rattle.record_reader.specs.declared.row.Entry.TheVariants as entries;
 ghost use Rattle.record_reader.specs.Fields.{fields_of};
@@ -62,7 +62,7 @@ impl Reader {
         requires { IsIndexed self.old }
         ensures { Goes (at_line line (read_row self.old.sheet (rows.Domain row))) result self.new }
     {
-        if self.sheet.domains.len() >= MAX_DOMAIN_RECORDS {
+        if is_full(self.sheet.domains.len(), MAX_DOMAIN_RECORDS) {
             return Err(bad(line, Cause::TooManyValues));
         }
         let count = add_frequency(alloc, &mut self.domains, row)?;
@@ -81,7 +81,7 @@ impl Reader {
             return Err(bad(line, Cause::DuplicatePath));
         }
         let place = self.positions.len();
-        if place >= MAX_PATHS {
+        if is_full(place, MAX_PATHS) {
             return Err(bad(line, Cause::TooManyPaths));
         }
         self.positions.insert(row.number, place as u16)?;
@@ -93,7 +93,7 @@ impl Reader {
         requires { IsIndexed self.old }
         ensures { Goes (at_line line (read_row self.old.sheet (rows.Entry (entries.Constraint row)))) result self.new }
     {
-        if self.constraints >= MAX_RECORDS {
+        if is_full(self.constraints, MAX_RECORDS) {
             return Err(bad(line, Cause::TooManyRecords));
         }
         self.sheet.entries.push(Entry::Constraint(row))?;
@@ -122,6 +122,13 @@ impl Reader {
             Err(cause) => Err(bad(line, cause)),
         }
     }
+}
+
+/// Whether there are as many as there may be.
+fn is_full(count: usize, most: usize) -> bool
+    ensures { result ≡ nat_le most count }
+{
+    count >= most
 }
 
 /// The frequencies of a domain, which it has no longer.

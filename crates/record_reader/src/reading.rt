@@ -8,7 +8,8 @@ use crate::reader::read_rows;
 use fapp_model::Instance;
 use std::alloc::Global;
 
-/// Reads the network of a text of at most 2^30 bytes.
+/// Reads the network of a text of at most 2^30 bytes. `Bad` is the first line that is refused for itself or for the
+/// lines before it or, where there is none, the first one that the whole text refuses.
 pub fn read_instance(alloc: Global, bytes: &[u8]) -> Result<Instance, ReadError>
     requires { length bytes.now ≤ 1073741824 }
     // The network of the text, or the first line that is refused and why.
