@@ -1,0 +1,163 @@
+-- The text of a well-formed answer is read as that answer.
+use Rattle.std.proofs.Common.{◌≡◌, ℕ, suc, ◌+◌, ◌≤◌, false, eqb, List, [], ◌∷◌, ◌++◌, length, map, codes, decimal, Option, Some, None, Result, Ok, Err, refl, sym, ap, subst, ◌∙◌, arith}
+use Rattle.std.specs.List.{join_with_byte, AllByRecursion}
+use Rattle.std.specs.Fmt.{signed_decimal}
+use Rattle.std.proofs.lemmas.Bool.Decides.{nat_tests}
+use Rattle.std.proofs.lemmas.List.{append-nil}
+use Rattle.std.proofs.lemmas.List.Elements.{recursion_from_All}
+use Rattle.fapp_model.specs.declared.choice.Choice.{Choice}
+use Rattle.fapp_model.specs.declared.instance.Instance.{Instance}
+use Rattle.fapp_model.specs.declared.instance.Path.{Path}
+use Rattle.fapp_model.specs.Instances.{IsNumber, IsPath, IsInstance}
+use Rattle.cert_lines.specs.declared.answer.Answer.{Answer}
+use Rattle.cert_lines.specs.declared.answer.Line.{Line}
+use Rattle.cert_lines.specs.declared.answer.Verdict.{Verdict}
+use Rattle.cert_lines.specs.declared.answer.Verdict.TheVariants.{Best, NoneFeasible, Open}
+use Rattle.cert_lines.specs.declared.fault.BadCert.{BadCert}
+use Rattle.cert_lines.specs.declared.fault.CertCause.{CertCause}
+use Rattle.cert_lines.specs.declared.fault.CertCause.TheVariants.{AfterEnd}
+use Rattle.cert_lines.specs.Steps.{◌>>=◌}
+use Rattle.cert_lines.specs.Spelling.{triple_numbers, tag_numbers, list_numbers, rule_word, rule_numbers, choice_fields, certificate_fields, verdict_fields, plan_lines, answer_text}
+use Rattle.cert_lines.specs.WellFormed.{IsShown, IsLine, IsWellFormed}
+use Rattle.cert_lines.specs.LineReading.{plan_line, verdict_line, certificate_line}
+use Rattle.cert_lines.specs.Reading.{Rest, parts_of, fault, placed, line_by, until, paired, alone, finished, reading}
+use Rattle.cert_lines.specs.Laws.{line_after}
+use Rattle.cert_lines.proofs.HeadLaws.{plan_again, plan_ends, verdict_again}
+use Rattle.cert_lines.proofs.LineLaws.{certificate_again, certificate_ends}
+use Rattle.cert_lines.proofs.Parts.{HasFirst, has_first, next_ended, not_finished}
+use Rattle.cert_lines.proofs.Plain.{ArePlain, all_append, certificate_plain, verdict_plain, plan_plain, end_plain, head_plain, fields_again, parts_again}
+use Rattle.cert_lines.proofs.TextLaws.{map_both, lines_of, text_is}
+use Rattle.cert_lines.proofs.Until.{follow, until_by}
+
+abbrev joined : List (List ℕ) → List ℕ
+joined fields = join_with_byte 32 fields
+
+first_behind : (xs : List (List ℕ)) (y : List ℕ) (ys : List (List ℕ)) → HasFirst (xs ++ y ∷ ys)
+first_behind [] y ys = (y, ys, refl)
+first_behind (x ∷ xs) y ys = (x, xs ++ y ∷ ys, refl)
+
+-- the fields of a line, read where the line stands
+line_again : {A : Type 0} (read : List (List ℕ) → Result A CertCause) (number : ℕ) (word : List ℕ) (fields parts : List (List ℕ)) (x : A) → HasFirst parts → ArePlain (word ∷ fields) → read (word ∷ fields) ≡ Ok x
+    → line_by read (number, joined (word ∷ fields) ∷ parts) ≡ Ok (x, (number + 1, parts))
+unfolding line_by
+line_again {A} read number word fields parts x first plain e =
+    let after : Rest = (number + 1, parts) in
+    ap (λ (r : Result (List (List ℕ) × Rest) BadCert). r >>= λ line. placed number (read line.0) >>= λ found. Ok (found, line.1)) (next_ended number (joined (word ∷ fields)) parts first)
+    ∙ ap (λ (fs : List (List ℕ)). placed number (read fs) >>= λ found. Ok (found, after)) (fields_again word fields plain)
+    ∙ ap (λ (r : Result A CertCause). placed number r >>= λ found. Ok (found, after)) e
+
+-- a number of lines further
+abbrev pub Reaches : {A : Type 0} → Result (List A × Rest) BadCert → List A → ℕ → List (List ℕ) → Type 0
+Reaches read items number rest = read ≡ Ok (items, (number, rest))
+
+plan_lines_again : (instance : Instance) (paths : List Path) (plan : List Choice) (number : ℕ) (rest : List (List ℕ)) → length plan ≤ length paths → AllByRecursion (λ p. IsNumber p.number) paths → AllByRecursion IsShown plan → HasFirst rest
+    → Reaches (until (plan_line instance) paths number (map joined (plan_lines paths plan) ++ joined (codes "--" ∷ []) ∷ rest)) plan (number + (length plan + 1)) rest
+plan_lines_again instance paths [] number rest le numbers shown first =
+    let end : Option (Choice × List Path) = None in
+    let one = line_again (plan_line instance paths) number (codes "--") [] rest end first head_plain (plan_ends instance paths) in
+    until_by (plan_line instance) paths number (joined (codes "--" ∷ []) ∷ rest) ∙ ap (λ (r : Result (Option (Choice × List Path) × Rest) BadCert). r >>= follow (plan_line instance)) one
+plan_lines_again instance [] (choice ∷ plan) number rest le numbers shown first = absurd (omega arith)
+plan_lines_again instance (path ∷ paths) (choice ∷ plan) number rest le numbers shown first =
+    let behind : List (List ℕ) = map joined (plan_lines paths plan) ++ joined (codes "--" ∷ []) ∷ rest in
+    let some : Option (Choice × List Path) = Some (choice, paths) in
+    let plain = plan_plain (path ∷ paths) (choice ∷ plan) in
+    let one = line_again (plan_line instance (path ∷ paths)) number (codes "AL") (decimal path.number ∷ decimal choice.freq ∷ signed_decimal choice.pol ∷ []) behind some (first_behind (map joined (plan_lines paths plan)) (joined (codes "--" ∷ [])) rest) plain.0 (plan_again instance path paths choice numbers.0 shown.0) in
+    let others = plan_lines_again instance paths plan (number + 1) rest (omega arith) numbers.1 shown.1 first in
+    let sum : number + 1 + (length plan + 1) ≡ number + (suc (length plan) + 1) = omega arith in
+    until_by (plan_line instance) (path ∷ paths) number (joined (choice_fields path choice) ∷ behind)
+    ∙ ap (λ (r : Result (Option (Choice × List Path) × Rest) BadCert). r >>= follow (plan_line instance)) one
+    ∙ ap (λ (r : Result (List Choice × Rest) BadCert). r >>= λ x. Ok (choice ∷ x.0, x.1)) others
+    ∙ ap (λ (n : ℕ). Ok (choice ∷ plan, (n, rest))) sum
+
+alone_is : {A : Type 0} (read : List (List ℕ) → Result (Option A) CertCause) (fields : List (List ℕ)) (x : Option A) → read fields ≡ Ok x → alone read tt fields ≡ Ok (paired x)
+alone_is {A} read fields x e = ap (λ (r : Result (Option A) CertCause). r >>= λ found. Ok (paired found)) e
+
+lines_again : (instance : Instance) → IsInstance instance → (lines : List Line) (number : ℕ) (rest : List (List ℕ)) → AllByRecursion (IsLine instance) lines → HasFirst rest
+    → Reaches (until (alone (certificate_line instance)) tt number (map joined (map certificate_fields lines) ++ joined (codes "END" ∷ []) ∷ rest)) lines (number + (length lines + 1)) rest
+lines_again instance valid [] number rest good first =
+    let read = alone (certificate_line instance) in
+    let end : Option (Line × Unit {0}) = None in
+    let none : Option Line = None in
+    let one = line_again (read tt) number (codes "END") [] rest end first end_plain (alone_is (certificate_line instance) (codes "END" ∷ []) none (certificate_ends instance)) in
+    until_by read tt number (joined (codes "END" ∷ []) ∷ rest) ∙ ap (λ (r : Result (Option (Line × Unit {0}) × Rest) BadCert). r >>= follow read) one
+lines_again instance valid (line ∷ lines) number rest good first =
+    let read = alone (certificate_line instance) in
+    let behind : List (List ℕ) = map joined (map certificate_fields lines) ++ joined (codes "END" ∷ []) ∷ rest in
+    let some : Option (Line × Unit {0}) = Some (line, tt) in
+    let found : Option Line = Some line in
+    let one = line_again (read tt) number (rule_word line.rule) (map decimal ((tag_numbers line.tag ++ list_numbers line.lits) ++ rule_numbers line.rule)) behind some (first_behind (map joined (map certificate_fields lines)) (joined (codes "END" ∷ [])) rest) (certificate_plain line) (alone_is (certificate_line instance) (certificate_fields line) found (certificate_again instance valid line good.0)) in
+    let others = lines_again instance valid lines (number + 1) rest good.1 first in
+    let sum : number + 1 + (length lines + 1) ≡ number + (suc (length lines) + 1) = omega arith in
+    until_by read tt number (joined (certificate_fields line) ∷ behind)
+    ∙ ap (λ (r : Result (Option (Line × Unit {0}) × Rest) BadCert). r >>= follow read) one
+    ∙ ap (λ (r : Result (List Line × Rest) BadCert). r >>= λ x. Ok (line ∷ x.0, x.1)) others
+    ∙ ap (λ (n : ℕ). Ok (line ∷ lines, (n, rest))) sum
+
+path_numbers : (paths : List Path) → AllByRecursion IsPath paths → AllByRecursion (λ p. IsNumber p.number) paths
+path_numbers [] h = tt
+path_numbers (p ∷ paths) h = (h.0.number, path_numbers paths h.1)
+
+verdict_read : (instance : Instance) → IsInstance instance → (verdict : Verdict) (number : ℕ) (fields : List (List ℕ)) (word : List ℕ) (more : List (List ℕ)) (parts : List (List ℕ)) → fields ≡ verdict_fields verdict → fields ≡ word ∷ more → HasFirst parts
+    → ArePlain fields → verdict_line instance fields ≡ Ok verdict → line_by (verdict_line instance) (number, joined fields ∷ parts) ≡ Ok (verdict, (number + 1, parts))
+verdict_read instance valid verdict number fields word more parts same cut first plain e =
+    ap (λ (fs : List (List ℕ)). line_by (verdict_line instance) (number, joined fs ∷ parts)) cut
+    ∙ line_again (verdict_line instance) number word more parts verdict first (subst ArePlain cut plain) (ap (verdict_line instance) (sym cut) ∙ e)
+
+has_word : (verdict : Verdict) → HasFirst (verdict_fields verdict)
+has_word (Best t) = (codes "BEST", map decimal (triple_numbers t), refl)
+has_word NoneFeasible = (codes "NONE", [], refl)
+has_word (Open best lower level prefix) = (codes "OPEN", (map decimal (triple_numbers best) ++ codes "LOWER" ∷ map decimal (tag_numbers lower)) ++ codes "AT" ∷ map decimal (level ∷ list_numbers prefix), refl)
+
+all_plain : (instance : Instance) (answer : Answer) → AllByRecursion ArePlain (lines_of instance.paths answer)
+unfolding lines_of
+all_plain instance answer =
+    let behind = all_append ArePlain (map certificate_fields answer.lines) ((codes "END" ∷ []) ∷ []) (lines_plain answer.lines) (end_plain, tt) in
+    let head = all_append ArePlain (plan_lines instance.paths answer.plan) ((codes "--" ∷ []) ∷ []) (plan_plain instance.paths answer.plan) (head_plain, tt) in
+    all_append ArePlain (plan_lines instance.paths answer.plan ++ (codes "--" ∷ []) ∷ []) (verdict_fields answer.verdict ∷ (map certificate_fields answer.lines ++ (codes "END" ∷ []) ∷ [])) head (verdict_plain answer.verdict, behind)
+  where
+    lines_plain : (lines : List Line) → AllByRecursion ArePlain (map certificate_fields lines)
+    lines_plain [] = tt
+    lines_plain (line ∷ lines) = (certificate_plain line, lines_plain lines)
+
+-- the text of an answer, and what follows it
+pub reading_upto : (instance : Instance) → IsInstance instance → (answer : Answer) → IsWellFormed instance answer → (more : List ℕ) → reading instance (answer_text instance answer ++ more) ≡ (finished (line_after answer, parts_of more) >>= λ end. Ok answer)
+unfolding reading lines_of
+reading_upto instance valid answer good more =
+    let rest : List (List ℕ) = parts_of more in
+    let ends : List (List ℕ) = map joined (map certificate_fields answer.lines) ++ joined (codes "END" ∷ []) ∷ rest in
+    let behind : List (List ℕ) = joined (verdict_fields answer.verdict) ∷ ends in
+    let p = plan_lines instance.paths answer.plan in
+    let dashes : List (List (List ℕ)) = (codes "--" ∷ []) ∷ [] in
+    let end : List (List (List ℕ)) = (codes "END" ∷ []) ∷ [] in
+    let cut : parts_of (answer_text instance answer ++ more) ≡ map joined p ++ joined (codes "--" ∷ []) ∷ behind =
+    ap (λ (t : List ℕ). parts_of (t ++ more)) (sym (text_is instance answer))
+    ∙ parts_again (lines_of instance.paths answer) more (all_plain instance answer)
+    ∙ map_both (p ++ dashes) (verdict_fields answer.verdict ∷ (map certificate_fields answer.lines ++ end)) rest
+    ∙ ap (λ (t : List (List ℕ)). map joined (p ++ dashes) ++ (joined (verdict_fields answer.verdict) ∷ t)) (map_both (map certificate_fields answer.lines) end rest)
+    ∙ map_both p dashes behind in
+    let numbers = path_numbers instance.paths (recursion_from_All IsPath instance.paths valid.paths) in
+    let plan = plan_lines_again instance instance.paths answer.plan 1 behind good.plan numbers good.choices (joined (verdict_fields answer.verdict), ends, refl) in
+    let n : ℕ = 1 + (length answer.plan + 1) in
+    let word = has_word answer.verdict in
+    let first : HasFirst ends = first_behind (map joined (map certificate_fields answer.lines)) (joined (codes "END" ∷ [])) rest in
+    let verdict = verdict_read instance valid answer.verdict n (verdict_fields answer.verdict) word.0 word.1 ends refl word.2 first (verdict_plain answer.verdict) (verdict_again instance valid answer.verdict good.verdict) in
+    let lines = lines_again instance valid answer.lines (n + 1) rest good.lines (has_first more) in
+    let sum : n + 1 + (length answer.lines + 1) ≡ line_after answer = omega arith in
+    ap (λ (parts : List (List ℕ)). until (plan_line instance) instance.paths 1 parts >>= λ plan. line_by (verdict_line instance) plan.1 >>= λ verdict. until (alone (certificate_line instance)) tt verdict.1.0 verdict.1.1 >>= λ lines. finished lines.1 >>= λ end. Ok (record { plan = plan.0; verdict = verdict.0; lines = lines.0 })) cut
+    ∙ ap (λ (r : Result (List Choice × Rest) BadCert). r >>= λ plan. line_by (verdict_line instance) plan.1 >>= λ verdict. until (alone (certificate_line instance)) tt verdict.1.0 verdict.1.1 >>= λ lines. finished lines.1 >>= λ end. Ok (record { plan = plan.0; verdict = verdict.0; lines = lines.0 })) plan
+    ∙ ap (λ (r : Result (Verdict × Rest) BadCert). r >>= λ verdict. until (alone (certificate_line instance)) tt verdict.1.0 verdict.1.1 >>= λ lines. finished lines.1 >>= λ end. Ok (record { plan = answer.plan; verdict = verdict.0; lines = lines.0 })) verdict
+    ∙ ap (λ (r : Result (List Line × Rest) BadCert). r >>= λ lines. finished lines.1 >>= λ end. Ok (record { plan = answer.plan; verdict = answer.verdict; lines = lines.0 })) lines
+    ∙ ap (λ (m : ℕ). finished (m, rest) >>= λ end. Ok answer) sum
+
+-- nothing follows
+pub reading_again : (instance : Instance) → IsInstance instance → (answer : Answer) → IsWellFormed instance answer → reading instance (answer_text instance answer) ≡ Ok answer
+reading_again instance valid answer good = ap (reading instance) (sym (append-nil (answer_text instance answer))) ∙ reading_upto instance valid answer good []
+
+some_bytes : (n : ℕ) → eqb (suc n) 0 ≡ false
+some_bytes n = grind (arith, nat_tests)
+
+-- a byte follows
+pub reading_past : (instance : Instance) → IsInstance instance → (answer : Answer) → IsWellFormed instance answer → (b : ℕ) (more : List ℕ) → reading instance (answer_text instance answer ++ b ∷ more) ≡ Err (fault (line_after answer) AfterEnd)
+reading_past instance valid answer good b more =
+    reading_upto instance valid answer good (b ∷ more)
+    ∙ ap (λ (r : Result (Unit {0}) BadCert). r >>= λ end. Ok answer) (not_finished (line_after answer) (b ∷ more) (some_bytes (length more)))

@@ -1,0 +1,215 @@
+-- A text that was read is that of its answer.
+use Rattle.std.proofs.Common.{◌≡◌, ℕ, ◌+◌, ◌≤◌, List, [], ◌∷◌, ◌++◌, length, map, codes, Option, Some, None, Result, Ok, Err, refl, sym, ap, subst, ◌∙◌, append_assoc, arith}
+use Rattle.std.specs.List.{flat_map, join_with_byte, AllByRecursion}
+use Rattle.std.proofs.lemmas.List.{append-nil}
+use Rattle.std.proofs.lemmas.List.Concat.{flat_map-append}
+use Rattle.std.proofs.lemmas.List.Splits.{join_with_byte-slice_split}
+use Rattle.fapp_model.specs.declared.choice.Choice.{Choice}
+use Rattle.fapp_model.specs.declared.instance.Instance.{Instance}
+use Rattle.fapp_model.specs.declared.instance.Path.{Path}
+use Rattle.fapp_model.specs.Instances.{IsInstance}
+use Rattle.cert_lines.specs.declared.answer.Answer.{Answer}
+use Rattle.cert_lines.specs.declared.answer.Line.{Line}
+use Rattle.cert_lines.specs.declared.fault.BadCert.{BadCert}
+use Rattle.cert_lines.specs.declared.fault.CertCause.{CertCause}
+use Rattle.cert_lines.specs.Steps.{◌>>=◌}
+use Rattle.cert_lines.specs.Spelling.{line_text, choice_fields, certificate_fields, verdict_fields, plan_lines, lines_text, answer_text}
+use Rattle.cert_lines.specs.WellFormed.{IsShown, IsLine, IsWellFormed}
+use Rattle.cert_lines.specs.FieldReading.{fields_of}
+use Rattle.cert_lines.specs.LineReading.{plan_line, verdict_line, certificate_line}
+use Rattle.cert_lines.specs.Reading.{Rest, parts_of, next_line, placed, line_by, and_then, until, paired, alone, finished, reading}
+use Rattle.cert_lines.proofs.Binds.{bind_ok, ok_is}
+use Rattle.cert_lines.proofs.HeadLaws.{plan_takes, verdict_takes}
+use Rattle.cert_lines.proofs.LineLaws.{certificate_takes}
+
+abbrev pub joined : List (List ℕ) → List ℕ
+joined fields = join_with_byte 32 fields
+
+-- a line is its fields
+line_is : (line : List ℕ) (fields : List (List ℕ)) → fields_of line ≡ fields → line ≡ joined fields
+line_is line fields e = sym (join_with_byte-slice_split 32 line) ∙ ap joined e
+
+placed_ok : {A : Type 0} (line : ℕ) (r : Result A CertCause) (x : A) → placed line r ≡ Ok x → r ≡ Ok x
+placed_ok line (Ok y) x e = cc
+placed_ok line (Err cause) x e = absurd cc
+
+-- the line that was taken from a rest
+abbrev IsTaken : Rest → List (List ℕ) × Rest → Type 0
+IsTaken rest x = (line : List ℕ) × (rest.1 ≡ line ∷ x.1.1) × (fields_of line ≡ x.0)
+
+next_takes : (rest : Rest) (x : List (List ℕ) × Rest) → next_line rest ≡ Ok x → IsTaken rest x
+unfolding next_line
+next_takes (number, []) x e = absurd cc
+next_takes (number, last ∷ []) x e = absurd cc
+next_takes (number, line ∷ next ∷ parts) x e =
+    let made : List (List ℕ) × Rest = (fields_of line, (number + 1, next ∷ parts)) in
+    subst (IsTaken (number, line ∷ next ∷ parts)) (ok_is {E = BadCert} made x e) (line, refl, refl)
+
+abbrev IsReadBy : {A : Type 0} → (List (List ℕ) → Result A CertCause) → Rest → A × Rest → Type 0
+IsReadBy read rest x = (line : List ℕ) × (rest.1 ≡ line ∷ x.1.1) × (read (fields_of line) ≡ Ok x.0)
+
+line_takes : {A : Type 0} (read : List (List ℕ) → Result A CertCause) (rest : Rest) (x : A × Rest) → line_by read rest ≡ Ok x → IsReadBy read rest x
+unfolding line_by
+line_takes {A} read rest x e =
+    let a = bind_ok (next_line rest) (λ line. placed rest.0 (read line.0) >>= λ found. Ok (found, line.1)) x e in
+    let b = bind_ok (placed rest.0 (read a.0.0)) (λ found. Ok (found, a.0.1)) x a.2 in
+    let t = next_takes rest a.0 a.1 in
+    let made : A × Rest = (b.0, a.0.1) in
+    subst (IsReadBy read rest) (ok_is {E = BadCert} made x b.2) (t.0, t.1, ap read t.2 ∙ placed_ok rest.0 (read a.0.0) b.0 b.1)
+
+-- what lines say, whatever reads them: Q relates a state and items to the fields of the lines
+pub record IsSaid {A S : Type 0} (read : S → List (List ℕ) → Result (Option (A × S)) CertCause) (Q : S → List A → List (List (List ℕ)) → Type 0) : Type 0 where
+  pub end : (s : S) (fields : List (List ℕ)) → read s fields ≡ Ok None → Q s [] (fields ∷ [])
+  pub more : (s : S) (fields : List (List ℕ)) (x : A × S) (items : List A) (lines : List (List (List ℕ))) → read s fields ≡ Ok (Some x) → Q x.1 items lines → Q s (x.0 ∷ items) (fields ∷ lines)
+
+abbrev AreSaid : {A S : Type 0} → (S → List A → List (List (List ℕ)) → Type 0) → S → List (List ℕ) → List A × Rest → Type 0
+AreSaid Q s parts x = (lines : List (List (List ℕ))) × Q s x.0 lines × (parts ≡ map joined lines ++ x.1.1)
+
+-- one line, and those after it
+line_said : {A S : Type 0} (read : S → List (List ℕ) → Result (Option (A × S)) CertCause) (Q : S → List A → List (List (List ℕ)) → Type 0) → IsSaid read Q
+    → (s : S) (number : ℕ) (parts : List (List ℕ)) (line : List ℕ) (after : Rest) (found : Option (A × S)) (x : List A × Rest)
+    → after.1 ≡ parts → read s (fields_of line) ≡ Ok found → ((t : S) (y : List A × Rest) → until read t (number + 1) parts ≡ Ok y → AreSaid Q t parts y)
+    → and_then found (λ t. until read t (number + 1) parts) after ≡ Ok x → AreSaid Q s (line ∷ parts) x
+line_said {A} {S} read Q law s number parts line after None x same h later e =
+    let made : List A × Rest = ([], after) in
+    let text : line ∷ parts ≡ joined (fields_of line) ∷ after.1 = ap (λ (l : List ℕ). l ∷ parts) (line_is line (fields_of line) refl) ∙ ap (λ (p : List (List ℕ)). joined (fields_of line) ∷ p) (sym same) in
+    subst (AreSaid Q s (line ∷ parts)) (ok_is {E = BadCert} made x e) (fields_of line ∷ [], law.end s (fields_of line) h, text)
+line_said {A} {S} read Q law s number parts line after (Some found) x same h later e =
+    let b = bind_ok (until read found.1 (number + 1) parts) (λ others. Ok (found.0 ∷ others.0, others.1)) x e in
+    let rest = later found.1 b.0 b.1 in
+    let made : List A × Rest = (found.0 ∷ b.0.0, b.0.1) in
+    let text : line ∷ parts ≡ joined (fields_of line) ∷ (map joined rest.0 ++ b.0.1.1) = ap (λ (l : List ℕ). l ∷ parts) (line_is line (fields_of line) refl) ∙ ap (λ (p : List (List ℕ)). joined (fields_of line) ∷ p) rest.2 in
+    subst (AreSaid Q s (line ∷ parts)) (ok_is {E = BadCert} made x b.2) (fields_of line ∷ rest.0, law.more s (fields_of line) found b.0.0 rest.0 h rest.1, text)
+
+tail_of : List (List ℕ) → List (List ℕ)
+tail_of [] = []
+tail_of (x ∷ xs) = xs
+
+head_of : List (List ℕ) → List ℕ
+head_of [] = []
+head_of (x ∷ xs) = x
+
+pub until_takes : {A S : Type 0} (read : S → List (List ℕ) → Result (Option (A × S)) CertCause) (Q : S → List A → List (List (List ℕ)) → Type 0) → IsSaid read Q
+    → (s : S) (number : ℕ) (parts : List (List ℕ)) (x : List A × Rest) → until read s number parts ≡ Ok x → AreSaid Q s parts x
+unfolding tail_of head_of
+until_takes read Q law s number [] x e = absurd cc
+until_takes read Q law s number (line ∷ parts) x e =
+    let a = bind_ok (line_by (read s) (number, line ∷ parts)) (λ y. and_then y.0 (λ t. until read t (number + 1) parts) y.1) x e in
+    let t = line_takes (read s) (number, line ∷ parts) a.0 a.1 in
+    let same_line : line ≡ t.0 = ap head_of t.1 in
+    let same_rest : parts ≡ a.0.1.1 = ap tail_of t.1 in
+    line_said read Q law s number parts line a.0.1 a.0.0 x (sym same_rest) (ap (λ (l : List ℕ). read s (fields_of l)) same_line ∙ t.2) (λ u y. until_takes read Q law u (number + 1) parts y) a.2
+
+-- ---- plans, certificates, and the whole text
+
+abbrev SaysPlan : List Path → List Choice → List (List (List ℕ)) → Type 0
+SaysPlan paths items lines = (lines ≡ plan_lines paths items ++ (codes "--" ∷ []) ∷ []) × (length items ≤ length paths) × AllByRecursion IsShown items
+
+plan_end : (instance : Instance) (paths : List Path) (fields : List (List ℕ)) → plan_line instance paths fields ≡ Ok None → SaysPlan paths [] (fields ∷ [])
+plan_end instance paths fields e = (ap (λ (f : List (List ℕ)). f ∷ []) (plan_takes instance paths fields None e), omega arith, tt)
+
+plan_more : (instance : Instance) (paths : List Path) (fields : List (List ℕ)) (x : Choice × List Path) (items : List Choice) (lines : List (List (List ℕ))) → plan_line instance paths fields ≡ Ok (Some x) → SaysPlan x.1 items lines → SaysPlan paths (x.0 ∷ items) (fields ∷ lines)
+plan_more instance paths fields x items lines e said =
+    let h = plan_takes instance paths fields (Some x) e in
+    let text : fields ∷ lines ≡ plan_lines (h.0 ∷ x.1) (x.0 ∷ items) ++ (codes "--" ∷ []) ∷ [] = ap (λ (f : List (List ℕ)). f ∷ lines) h.2 ∙ ap (λ (ls : List (List (List ℕ))). choice_fields h.0 x.0 ∷ ls) said.0 in
+    subst (λ (ps : List Path). SaysPlan ps (x.0 ∷ items) (fields ∷ lines)) (sym h.1) (text, omega (arith, said.1), (h.3, said.2))
+
+plan_said : (instance : Instance) → IsSaid (plan_line instance) SaysPlan
+plan_said instance = record { end = plan_end instance; more = plan_more instance }
+
+abbrev SaysLines : Instance → Unit {0} → List Line → List (List (List ℕ)) → Type 0
+SaysLines instance s items lines = (lines ≡ map certificate_fields items ++ (codes "END" ∷ []) ∷ []) × AllByRecursion (IsLine instance) items
+
+alone_none : {A : Type 0} (r : Result (Option A) CertCause) → ◌≡◌ {A = Result (Option (A × Unit {0})) CertCause} (r >>= λ found. Ok (paired found)) (Ok None) → r ≡ Ok None
+alone_none (Ok None) e = refl
+alone_none (Ok (Some x)) e = absurd cc
+alone_none (Err cause) e = absurd cc
+
+first_of_pair : {A : Type 0} → A → Option (A × Unit {0}) → A
+first_of_pair d None = d
+first_of_pair d (Some x) = x.0
+
+alone_some : {A : Type 0} (r : Result (Option A) CertCause) (x : A × Unit {0}) → ◌≡◌ {A = Result (Option (A × Unit {0})) CertCause} (r >>= λ found. Ok (paired found)) (Ok (Some x)) → r ≡ Ok (Some x.0)
+unfolding first_of_pair
+alone_some (Ok None) x e = absurd cc
+alone_some {A} (Ok (Some y)) x e =
+    let some : Option (A × Unit {0}) = Some x in
+    let same : y ≡ x.0 = ap (first_of_pair y) (ok_is {E = CertCause} (paired (Some y)) some e) in
+    ap (λ (z : A). Ok (Some z)) same
+alone_some (Err cause) x e = absurd cc
+
+lines_said : (instance : Instance) → IsInstance instance → IsSaid (alone (certificate_line instance)) (SaysLines instance)
+lines_said instance valid = record {
+  end = λ s fields e. (ap (λ (f : List (List ℕ)). f ∷ []) (certificate_takes instance valid fields None (alone_none (certificate_line instance fields) e)), tt);
+  more = λ s fields x items lines e said.
+      let h = certificate_takes instance valid fields (Some x.0) (alone_some (certificate_line instance fields) x e) in
+      (ap (λ (f : List (List ℕ)). f ∷ lines) h.0 ∙ ap (λ (ls : List (List (List ℕ))). certificate_fields x.0 ∷ ls) said.0, (h.1, said.1));
+}
+
+finished_ok : (rest : Rest) (x : Unit {0}) → finished rest ≡ Ok x → rest.1 ≡ [] ∷ []
+finished_ok (number, []) x e = absurd cc
+finished_ok (number, [] ∷ []) x e = refl
+finished_ok (number, [] ∷ next ∷ parts) x e = absurd cc
+finished_ok (number, (b ∷ bytes) ∷ parts) x e = absurd cc
+
+join_behind : (line : List ℕ) (xs : List (List ℕ)) (y : List ℕ) → join_with_byte 10 (line ∷ (xs ++ y ∷ [])) ≡ line ++ 10 ∷ join_with_byte 10 (xs ++ y ∷ [])
+join_behind line [] y = refl
+join_behind line (x ∷ xs) y = refl
+
+pub joined_text : (lines : List (List (List ℕ))) → join_with_byte 10 (map joined lines ++ [] ∷ []) ≡ flat_map line_text lines
+joined_text [] = refl
+joined_text (line ∷ lines) =
+    join_behind (joined line) (map joined lines) []
+    ∙ ap (λ (t : List ℕ). joined line ++ 10 ∷ t) (joined_text lines)
+    ∙ sym (append_assoc (joined line) (10 ∷ []) (flat_map line_text lines))
+
+pub map_both : (xs ys : List (List (List ℕ))) (rest : List (List ℕ)) → map joined (xs ++ ys) ++ rest ≡ map joined xs ++ (map joined ys ++ rest)
+map_both [] ys rest = refl
+map_both (x ∷ xs) ys rest = ap (λ (t : List (List ℕ)). joined x ∷ t) (map_both xs ys rest)
+
+whole : {F : Type 0} (t : F → List ℕ) (p l : List F) (d v e : F) → flat_map t ((p ++ d ∷ []) ++ (v ∷ (l ++ e ∷ []))) ≡ (((flat_map t p ++ (t d ++ t v)) ++ flat_map t l) ++ t e)
+whole t p l d v e =
+    flat_map-append t (p ++ d ∷ []) (v ∷ (l ++ e ∷ []))
+    ∙ ap (λ x. x ++ (t v ++ flat_map t (l ++ e ∷ []))) (flat_map-append t p (d ∷ []))
+    ∙ ap (λ x. (flat_map t p ++ (t d ++ [])) ++ (t v ++ x)) (flat_map-append t l (e ∷ []))
+    ∙ simp (append_assoc, append-nil)
+
+lines_flat : (lines : List Line) → flat_map line_text (map certificate_fields lines) ≡ lines_text lines
+lines_flat [] = refl
+lines_flat (line ∷ lines) = ap (λ (t : List ℕ). line_text (certificate_fields line) ++ t) (lines_flat lines)
+
+-- the fields of an answer's lines
+unfoldable pub lines_of : List Path → Answer → List (List (List ℕ))
+lines_of paths answer = (plan_lines paths answer.plan ++ (codes "--" ∷ []) ∷ []) ++ (verdict_fields answer.verdict ∷ (map certificate_fields answer.lines ++ (codes "END" ∷ []) ∷ []))
+
+pub text_is : (instance : Instance) (answer : Answer) → flat_map line_text (lines_of instance.paths answer) ≡ answer_text instance answer
+unfolding lines_of
+text_is instance answer =
+    let p = flat_map line_text (plan_lines instance.paths answer.plan) in
+    let d = line_text (codes "--" ∷ []) in
+    let v = line_text (verdict_fields answer.verdict) in
+    let e = line_text (codes "END" ∷ []) in
+    whole line_text (plan_lines instance.paths answer.plan) (map certificate_fields answer.lines) (codes "--" ∷ []) (verdict_fields answer.verdict) (codes "END" ∷ [])
+    ∙ ap (λ (t : List ℕ). ((p ++ (d ++ v)) ++ t) ++ e) (lines_flat answer.lines)
+    ∙ ap (λ (t : List ℕ). (t ++ lines_text answer.lines) ++ e) (sym (append_assoc p d v))
+
+-- what was read is well formed, and the bytes are its text
+pub reading_takes : (instance : Instance) → IsInstance instance → (bytes : List ℕ) (answer : Answer) → reading instance bytes ≡ Ok answer → IsWellFormed instance answer × (bytes ≡ answer_text instance answer)
+unfolding reading lines_of
+reading_takes instance valid bytes answer e =
+    let a = bind_ok (until (plan_line instance) instance.paths 1 (parts_of bytes)) (λ plan. line_by (verdict_line instance) plan.1 >>= λ verdict. until (alone (certificate_line instance)) tt verdict.1.0 verdict.1.1 >>= λ lines. finished lines.1 >>= λ end. Ok (record { plan = plan.0; verdict = verdict.0; lines = lines.0 })) answer e in
+    let b = bind_ok (line_by (verdict_line instance) a.0.1) (λ verdict. until (alone (certificate_line instance)) tt verdict.1.0 verdict.1.1 >>= λ lines. finished lines.1 >>= λ end. Ok (record { plan = a.0.0; verdict = verdict.0; lines = lines.0 })) answer a.2 in
+    let c = bind_ok (until (alone (certificate_line instance)) tt b.0.1.0 b.0.1.1) (λ lines. finished lines.1 >>= λ end. Ok (record { plan = a.0.0; verdict = b.0.0; lines = lines.0 })) answer b.2 in
+    let d = bind_ok (finished c.0.1) (λ end. Ok (record { plan = a.0.0; verdict = b.0.0; lines = c.0.0 })) answer c.2 in
+    let plan = until_takes (plan_line instance) SaysPlan (plan_said instance) instance.paths 1 (parts_of bytes) a.0 a.1 in
+    let line = line_takes (verdict_line instance) a.0.1 b.0 b.1 in
+    let verdict = verdict_takes instance valid (fields_of line.0) b.0.0 line.2 in
+    let lines = until_takes (alone (certificate_line instance)) (SaysLines instance) (lines_said instance valid) tt b.0.1.0 b.0.1.1 c.0 c.1 in
+    let made : Answer = record { plan = a.0.0; verdict = b.0.0; lines = c.0.0 } in
+    let last : b.0.1.1 ≡ map joined lines.0 ++ [] ∷ [] = lines.2 ∙ ap (λ (r : List (List ℕ)). map joined lines.0 ++ r) (finished_ok c.0.1 d.0 d.1) in
+    let middle : a.0.1.1 ≡ joined (verdict_fields b.0.0) ∷ (map joined lines.0 ++ [] ∷ []) = line.1 ∙ ap (λ (l : List ℕ). l ∷ b.0.1.1) (line_is line.0 (verdict_fields b.0.0) verdict.0) ∙ ap (λ (r : List (List ℕ)). joined (verdict_fields b.0.0) ∷ r) last in
+    let all : List (List (List ℕ)) = plan.0 ++ (verdict_fields b.0.0 ∷ lines.0) in
+    let parts : parts_of bytes ≡ map joined all ++ [] ∷ [] = plan.2 ∙ ap (λ (r : List (List ℕ)). map joined plan.0 ++ r) middle ∙ sym (map_both plan.0 (verdict_fields b.0.0 ∷ lines.0) ([] ∷ [])) in
+    let same : all ≡ lines_of instance.paths made = ap (λ (ls : List (List (List ℕ))). ls ++ (verdict_fields b.0.0 ∷ lines.0)) plan.1.0 ∙ ap (λ (ls : List (List (List ℕ))). (plan_lines instance.paths a.0.0 ++ (codes "--" ∷ []) ∷ []) ++ (verdict_fields b.0.0 ∷ ls)) lines.1.0 in
+    let text : bytes ≡ answer_text instance made = sym (join_with_byte-slice_split 10 bytes) ∙ ap (join_with_byte 10) parts ∙ joined_text all ∙ ap (flat_map line_text) same ∙ text_is instance made in
+    subst (λ (x : Answer). IsWellFormed instance x × (bytes ≡ answer_text instance x)) (ok_is {E = BadCert} made answer d.2) (record { plan = plan.1.1; choices = plan.1.2; verdict = verdict.1; lines = lines.1.1 }, text)

@@ -1,0 +1,12 @@
+pub mod Spelling
+pub mod WellFormed
+pub mod Spaced
+pub mod Steps
+pub mod FieldReading
+pub mod FieldsLeft
+pub mod ListReading
+pub mod LineReading
+pub mod Reading
+pub mod TextLeft
+pub mod PlanState
+pub mod Laws

@@ -1,0 +1,71 @@
+ghost use Rattle.std.specs.Prelude.{◌≡◌};
+ghost use Rattle.fapp_model.specs.Instances.{IsInstance};
+ghost use Rattle.cert_lines.specs.Steps.{Gives};
+ghost use Rattle.cert_lines.specs.FieldsLeft.{fields_left};
+ghost use Rattle.cert_lines.specs.LineReading.{count_line, branch_line, certificate_line};
+
+use crate::fault::{CertCause, LineError};
+use crate::fields::{Fields, ended, field_at, is, tag_at};
+use crate::lists::{children_at, cites_at, literals_at, position_at};
+use crate::{Line, Rule};
+use fapp_model::Instance;
+use std::alloc::Global;
+
+#[tactic(auto, unfolding(crate::specs::LineReading::count_line))]
+fn count_line(alloc: Global, instance: &Instance, fields: Fields) -> Result<Line, LineError>
+    requires { IsInstance instance.now }
+    ensures { Gives (λ x. x) result (count_line instance.now (fields_left fields.entry)) }
+{
+    let (tag, rest) = tag_at(fields)?;
+    let (lits, rest) = literals_at(alloc, instance, rest)?;
+    let (cites, rest) = cites_at(alloc, rest)?;
+    ended(rest)?;
+    Ok(Line {
+        tag,
+        lits,
+        rule: Rule::Count { cites },
+    })
+}
+
+#[tactic(auto, unfolding(crate::specs::LineReading::branch_line))]
+fn branch_line(alloc: Global, instance: &Instance, fields: Fields) -> Result<Line, LineError>
+    requires { IsInstance instance.now }
+    ensures { Gives (λ x. x) result (branch_line instance.now (fields_left fields.entry)) }
+{
+    let (tag, rest) = tag_at(fields)?;
+    let (lits, rest) = literals_at(alloc, instance, rest)?;
+    let (path, rest) = position_at(instance, rest)?;
+    let (children, rest) = children_at(alloc, instance, path, rest)?;
+    ended(rest)?;
+    Ok(Line {
+        tag,
+        lits,
+        rule: Rule::Branch { path, children },
+    })
+}
+
+/// A line of a certificate. `None` is the line that ends it.
+#[tactic(auto, unfolding(crate::specs::LineReading::certificate_line))]
+pub(crate) fn certificate_line(
+    alloc: Global,
+    instance: &Instance,
+    fields: Fields,
+) -> Result<Option<Line>, LineError>
+    requires { IsInstance instance.now }
+    ensures { Gives (λ x. x) result (certificate_line instance.now (fields_left fields.entry)) }
+{
+    let (word, rest) = field_at(fields)?;
+    if is(word, b"END") {
+        ended(rest)?;
+        return Ok(None);
+    }
+    if is(word, b"C") {
+        let line = count_line(alloc, instance, rest)?;
+        return Ok(Some(line));
+    }
+    if is(word, b"B") {
+        let line = branch_line(alloc, instance, rest)?;
+        return Ok(Some(line));
+    }
+    Err(LineError::Cause(CertCause::BadKind))
+}

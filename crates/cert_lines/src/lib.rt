@@ -1,0 +1,23 @@
+//! Answers and their text: a plan, a verdict on it, and the certificate lines that prove the verdict.
+#![tactic(auto)]
+
+mod answer;
+mod certificate;
+mod fault;
+mod fields;
+mod head;
+mod laws;
+mod lists;
+mod reading;
+mod text;
+mod writing;
+
+pub use answer::{Answer, Child, Line, Rule, Verdict};
+pub use fapp_text::NoMemory;
+pub use fault::{AnswerError, BadCert, CertCause};
+pub use laws::{fault_behind, in_parts, no_fault, one_text, text_of_answer};
+pub use reading::read_answer;
+pub use writing::{head_text, lines_text, verdict_text, write_answer};
+
+#[cfg(test)]
+mod tests;
