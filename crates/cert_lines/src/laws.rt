@@ -1,6 +1,6 @@
 //! How answers and texts belong together, as contracts of functions that do nothing.
 
-ghost use Rattle.cert_lines.specs.Laws.{OneText, NoFault, FaultBehind, TextOfAnswer, InParts};
+ghost use Rattle.cert_lines.specs.Laws.{OneText, NoFault, FaultBehind, TextOfAnswer, InParts, ReadsBack};
 
 /// No two well-formed answers have one text, so what was written is read as the same answer.
 pub fn one_text()
@@ -25,4 +25,9 @@ pub fn text_of_answer()
 /// The text of an answer is its head, its certificate lines and the line `END`.
 pub fn in_parts()
     ensures { InParts }
+{}
+
+/// What was written of a well-formed answer is read as that answer.
+pub fn reads_back()
+    ensures { ReadsBack }
 {}

@@ -15,7 +15,7 @@ mod writing;
 pub use answer::{Answer, Child, Line, Rule, Verdict};
 pub use fapp_text::NoMemory;
 pub use fault::{AnswerError, BadCert, CertCause};
-pub use laws::{fault_behind, in_parts, no_fault, one_text, text_of_answer};
+pub use laws::{fault_behind, in_parts, no_fault, one_text, reads_back, text_of_answer};
 pub use reading::read_answer;
 pub use writing::{head_text, lines_text, verdict_text, write_answer};
 
