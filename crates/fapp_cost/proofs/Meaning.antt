@@ -1,5 +1,5 @@
 -- What a cost says.
-use Rattle.std.proofs.Common.{◌≡◌, ◌⊎◌, ℕ, zero, suc, ◌+◌, ◌-◌, ◌<◌, ◌≤◌, Bool, true, false, not, ◌&&◌, ltb, List, [], ◌∷◌, length, get_or, count_by, All, cond, refl, ap, sym, ◌∙◌, inl, inr, arith, zero-add}
+use Rattle.std.proofs.Common.{◌≡◌, ◌⊎◌, ℕ, suc, ◌-◌, ◌<◌, ◌≤◌, Bool, true, false, not, ◌&&◌, ltb, List, [], ◌∷◌, length, get_or, count_by, All, cond, refl, ap, sym, ◌∙◌, inl, inr, arith, zero-add}
 use Rattle.std.specs.List.{range_with_len, prefix_len}
 use Rattle.std.proofs.lemmas.List.{get_or_past}
 use Rattle.std.proofs.lemmas.List.Elements.{All-head, All-tail}
@@ -16,8 +16,7 @@ use Rattle.fapp_model.specs.declared.level.TheConstants.{LEVELS}
 use Rattle.fapp_model.specs.Assignments.{violates}
 use Rattle.fapp_model.specs.Costs.{clear_level, cost_by, cost, violations, sum_under, count_below}
 use Rattle.fapp_model.specs.Instances.{IsInstance, IsRecord}
-use Rattle.fapp_model.specs.Levels.{levels_of}
-use Rattle.fapp_model.specs.Records.{is_bad, is_closer, same_polarization, distance}
+use Rattle.fapp_model.specs.Records.{is_bad, same_polarization, distance}
 use Rattle.fapp_model.specs.declared.triple.Triple.{Triple}
 use Rattle.fapp_model.specs.Triples.{IsBelow}
 use Rattle.fapp_cost.specs.CostLaws.{HasLeastClearLevel, HasFewer}

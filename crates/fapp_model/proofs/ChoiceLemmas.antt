@@ -1,5 +1,5 @@
 -- How many choices a path has, and which one stands at an index, where its polarization is free or fixed.
-use Rattle.std.proofs.Common.{◌≡◌, ◌⊎◌, ℕ, zero, suc, ◌+◌, ◌*◌, ◌/◌, ◌%◌, ◌<◌, List, [], ◌∷◌, length, get_or, flat_map, map, ℤ, pos, negsuc, refl, ap, sym, ◌∙◌, subst, inl, inr, arith, of_z, to_z, w8}
+use Rattle.std.proofs.Common.{◌≡◌, ◌⊎◌, ℕ, zero, suc, ◌+◌, ◌*◌, ◌/◌, ◌%◌, ◌<◌, List, [], ◌∷◌, length, get_or, flat_map, map, ℤ, pos, negsuc, refl, ap, ◌∙◌, inl, inr, arith, of_z, to_z, w8}
 use Rattle.std.proofs.lemmas.List.{length-map, get_or-map}
 use Rattle.std.proofs.lemmas.List.Concat.{flat_map_single}
 use Rattle.fapp_model.specs.declared.instance.Path.{Path}

@@ -1,5 +1,5 @@
 -- What a search of the plans that begin with some choices covers.
-use Rattle.std.proofs.Common.{◌≡◌, ◌≢◌, ◌⊎◌, ℕ, zero, suc, ◌+◌, ◌<◌, ◌≤◌, Bool, true, false, not, ◌&&◌, ◌||◌, ltb, cond, List, [], ◌∷◌, ◌++◌, length, get_or, take, Option, Some, None, slice_index, refl, ap, sym, ◌∙◌, subst, inl, inr, arith, below_more}
+use Rattle.std.proofs.Common.{◌≡◌, ◌⊎◌, ℕ, ◌+◌, ◌<◌, Bool, true, false, not, ◌&&◌, ◌||◌, ltb, List, [], ◌∷◌, ◌++◌, length, get_or, take, Option, Some, None, slice_index, refl, ap, sym, ◌∙◌, subst, inl, inr, arith, below_more}
 use Rattle.std.specs.List.{list_any, list_all}
 use Rattle.std.proofs.Math.Seq.{take-append_seam}
 use Rattle.std.proofs.lemmas.Bool.{false≢true}
@@ -10,14 +10,13 @@ use Rattle.fapp_model.specs.declared.instance.Path.{Path}
 use Rattle.fapp_model.specs.declared.record.Record.{Record}
 use Rattle.fapp_model.specs.declared.triple.Triple.{Triple}
 use Rattle.fapp_model.specs.Records.{first_path, second_path, is_broken}
-use Rattle.fapp_model.specs.Assignments.{IsAssignment, no_path, path_at, count_at, chosen, breaks, meets}
+use Rattle.fapp_model.specs.Assignments.{no_path, path_at, count_at, breaks, meets}
 use Rattle.fapp_model.specs.Choices.{choice}
 use Rattle.fapp_model.specs.Costs.{cost}
-use Rattle.fapp_model.specs.Least.{IsFeasible}
 use Rattle.fapp_model.specs.Triples.{IsBelow}
 use Rattle.fapp_run.specs.declared.enumeration.Found.{Found}
-use Rattle.fapp_run.specs.Plans.{IsPlannedTo, BeginsWith, breaks_among}
-use Rattle.fapp_run.specs.Found.{IsFound, IsPerfect, IsNoBetter, Improves, Covers, Offered, Searched}
+use Rattle.fapp_run.specs.Plans.{BeginsWith, breaks_among}
+use Rattle.fapp_run.specs.Found.{IsPerfect, IsNoBetter, Covers, Offered, Searched}
 
 none_below_zero : (t u : Triple) → u.k ≡ 0 → u.v ≡ 0 → u.s ≡ 0 → IsBelow t u → ⊥
 none_below_zero t u k v s (inl lower) = omega arith

@@ -1,12 +1,12 @@
 -- One line more of a plan.
-use Rattle.std.proofs.Common.{◌≡◌, ℕ, ◌+◌, ◌<◌, List, [], ◌∷◌, ◌++◌, length, get_or, flat_map, ap, sym, ◌∙◌, append-nil, zero-add}
+use Rattle.std.proofs.Common.{◌≡◌, ℕ, ◌+◌, List, [], ◌∷◌, ◌++◌, flat_map, ap, sym, ◌∙◌, append-nil, zero-add}
 use Rattle.std.specs.List.{range_with_len}
 use Rattle.std.proofs.lemmas.List.Concat.{flat_map-append}
 use Rattle.fapp_cost.proofs.Levels.{range_more}
 use Rattle.fapp_model.specs.declared.instance.Path.{Path}
 use Rattle.fapp_model.specs.declared.instance.Instance.{Instance}
 use Rattle.fapp_model.specs.declared.choice.Choice.{Choice}
-use Rattle.fapp_model.specs.Assignments.{path_at, no_path, chosen}
+use Rattle.fapp_model.specs.Assignments.{path_at, chosen}
 use Rattle.fapp_run.specs.PlanText.{plan_line}
 
 abbrev pub lines_to : Instance → List ℕ → ℕ → List ℕ

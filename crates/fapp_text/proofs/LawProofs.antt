@@ -1,8 +1,8 @@
 -- Laws of lines and fields.
-use Rattle.std.proofs.Common.{◌≡◌, ℕ, suc, ◌<◌, Bool, true, false, not, cond, ◌&&◌, eqb, ltb, List, [], ◌∷◌, ◌++◌, length, filter, flat_map, refl, sym, ap, ◌∙◌, arith}
+use Rattle.std.proofs.Common.{◌≡◌, ℕ, suc, ◌<◌, Bool, true, false, not, cond, ◌&&◌, eqb, ltb, List, [], ◌∷◌, ◌++◌, length, filter, flat_map, refl, ap, ◌∙◌, arith}
 use Rattle.std.specs.List.{concat, list_all, onto_first, slice_split}
 use Rattle.fapp_text.specs.Lines.{lines}
-use Rattle.fapp_text.specs.Fields.{is_blank, fields}
+use Rattle.fapp_text.specs.Fields.{is_blank}
 use Rattle.fapp_text.specs.Laws.{closed, LinesJoin, LinesAreCut, FieldsJoin, FieldsAreCut}
 
 -- ---- lines

@@ -1,5 +1,5 @@
 -- Laws of lines and fields.
-use Rattle.std.specs.Prelude.{◌≡◌, ℕ, Bool, true, not, ◌&&◌, ◌==◌, nat_lt, List, [], ◌∷◌, ◌++◌, length, filter, flat_map, if◌then◌else◌}
+use Rattle.std.specs.Prelude.{◌≡◌, ℕ, true, not, ◌&&◌, ◌==◌, nat_lt, List, [], ◌∷◌, ◌++◌, length, filter, flat_map, if◌then◌else◌}
 use Rattle.std.specs.List.{concat, list_all}
 use Rattle.fapp_text.specs.Lines.{line_feed, lines}
 use Rattle.fapp_text.specs.Fields.{is_blank, fields}

@@ -1,5 +1,5 @@
 -- Small networks whose work orders, jobs and tries are known.
-use Rattle.std.specs.Prelude.{ℕ, true, false, List, [], ◌∷◌, ℤ, pos, negsuc, replicate}
+use Rattle.std.specs.Prelude.{true, false, [], ◌∷◌, pos, negsuc, replicate}
 use Rattle.fapp_model.specs.declared.instance.Instance.{Instance}
 use Rattle.dead_laws.specs.Networks.{path_with}
 use Rattle.fapp_model.specs.declared.record.Record.TheVariants.{Freq, Same, Other}

@@ -1,4 +1,4 @@
-use Rattle.std.proofs.Common.{◌≡◌, ℕ, ◌+◌, ◌<◌, ◌≤◌, length, slice_index, if◌then◌else◌}
+use Rattle.std.proofs.Common.{◌≡◌, ℕ, ◌+◌, ◌<◌, ◌≤◌, slice_index, if◌then◌else◌}
 use Rattle.fapp_model.specs.Records.{is_bad}
 use Rattle.fapp_cost.proofs.counts.add_violations.Given as goal
 

@@ -1,4 +1,4 @@
-use Rattle.std.proofs.Common.{slice_index, sym, ap, ◌∙◌, arith}
+use Rattle.std.proofs.Common.{slice_index, sym, arith}
 use Rattle.fapp_cost.proofs.Levels.{sum_under_more, sum_under_none}
 use Rattle.fapp_cost.proofs.counts.sum_under.Goals as goal
 

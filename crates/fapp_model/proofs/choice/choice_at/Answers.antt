@@ -1,4 +1,4 @@
-use Rattle.std.proofs.Common.{◌≡◌, ◌*◌, ◌<◌, ◌%◌, length, get_or, ap, sym, ◌∙◌, arith, refl}
+use Rattle.std.proofs.Common.{◌*◌, ◌<◌, ◌%◌, length, ap, arith, refl}
 use Rattle.fapp_model.proofs.ChoiceLemmas.{free_of, fixed_of, free_count, fixed_count, free_choice, fixed_choice, round_trip, both_valid}
 use Rattle.fapp_model.specs.Instances.{IsPolarization}
 use Rattle.fapp_model.proofs.choice.choice_at.Goals as goal

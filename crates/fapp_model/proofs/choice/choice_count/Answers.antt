@@ -1,4 +1,4 @@
-use Rattle.std.proofs.Common.{ap, sym, ◌∙◌, arith}
+use Rattle.std.proofs.Common.{arith}
 use Rattle.fapp_model.proofs.ChoiceLemmas.{free_of, fixed_of, free_count, fixed_count}
 use Rattle.fapp_model.proofs.choice.choice_count.Goals as goal
 

@@ -1,11 +1,9 @@
-use Rattle.std.proofs.Common.{◌≡◌, ℕ, ◌+◌, ◌<◌, ◌∷◌, [], ◌++◌, length, get_or, arith, rules, refl, sym, ap, ◌∙◌, subst}
-use Rattle.std.proofs.lemmas.Grind.{common_steps}
+use Rattle.std.proofs.Common.{◌≡◌, ◌<◌, ◌∷◌, [], ◌++◌, length, get_or, arith, refl, sym, ap, ◌∙◌}
 use Rattle.std.specs.List.{list_any}
-use Rattle.fapp_model.specs.Assignments.{path_at, no_path}
+use Rattle.fapp_model.specs.Assignments.{path_at}
 use Rattle.fapp_model.specs.Choices.{choices}
-use Rattle.fapp_run.specs.Found.{Covers}
 use Rattle.fapp_run.specs.Plans.{breaks_among}
-use Rattle.fapp_run.proofs.SearchLemmas.{perfect, cut, all_covered, whole, one_more, path_is, dropped_last}
+use Rattle.fapp_run.proofs.SearchLemmas.{perfect, cut, all_covered, one_more, path_is, dropped_last}
 use Rattle.std.proofs.lemmas.List.{length-append}
 use Rattle.fapp_run.proofs.enumeration.+search.Goals as goal
 
