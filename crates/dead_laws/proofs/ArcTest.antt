@@ -4,11 +4,11 @@ use Rattle.std.specs.List.{list_any, range_with_len}
 use Rattle.std.proofs.lemmas.Bool.{and_parts, and_from, and_cases, and_right, both_ways, not-true, not-false, not_from_true, not_from_false, eqb-true, eq-eqb, ltb-true, lt-ltb}
 use Rattle.fapp_model.specs.declared.instance.Instance.{Instance}
 use Rattle.fapp_model.specs.declared.literal.Literal.{Literal}
-use Rattle.fapp_model.specs.Arcs.{HasPartner, InArc, IsSupported}
+use Rattle.fapp_model.specs.search.Arcs.{HasPartner, InArc, IsSupported}
 use Rattle.fapp_model.specs.Assignments.{count_at}
-use Rattle.fapp_model.specs.Clashes.{clashes, shares_record}
+use Rattle.fapp_model.specs.search.Clashes.{clashes, shares_record}
 use Rattle.fapp_model.specs.Instances.{IsInstance}
-use Rattle.fapp_model.specs.Partials.{literal, IsLiteral}
+use Rattle.fapp_model.specs.search.Partials.{literal, IsLiteral}
 use Rattle.dead_laws.proofs.Anys.{passing, any-member, none-member, contains-range, sum_by-lt-member}
 use Rattle.dead_laws.proofs.RecordEnds.{shares-range}
 use Rattle.dead_laws.proofs.Sums.{count_by-le-members, cond-le}

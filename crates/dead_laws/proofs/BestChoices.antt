@@ -1,7 +1,7 @@
 -- The least pair among the numbers that pass a test.
 use Rattle.std.proofs.Common.{◌≡◌, ◌⊎◌, ℕ, zero, suc, Bool, true, false, List, [], ◌∷◌, refl, ap, subst, inl, inr, arith, Contains}
 use Rattle.std.proofs.lemmas.Bool.{both_ways}
-use Rattle.fapp_model.specs.Pairs.{Pair, IsPairAtMost, IsPairBelow}
+use Rattle.fapp_model.specs.search.Pairs.{Pair, IsPairAtMost, IsPairBelow}
 use Rattle.dead_laws.proofs.PairSums.{below_or_at_most}
 use Rattle.dead_laws.proofs.DeadLower.{IsPairAtMost-trans}
 

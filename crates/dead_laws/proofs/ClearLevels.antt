@@ -6,7 +6,7 @@ use Rattle.std.proofs.lemmas.List.Sums.{prefix_len-le-length, prefix_len_passes,
 use Rattle.std.proofs.lemmas.List.FromFn.{length-range_with_len, get_or-range_with_len}
 use Rattle.fapp_model.specs.declared.triple.Triple.{Triple}
 use Rattle.fapp_model.specs.Costs.{clear_level, count_below, sum_under, cost_by}
-use Rattle.fapp_model.specs.Pairs.{Pair, IsPairBelow, limit_of}
+use Rattle.fapp_model.specs.search.Pairs.{Pair, IsPairBelow, limit_of}
 use Rattle.fapp_model.specs.Triples.{IsBelow}
 
 -- counts that are 0 from the last level on, and stay 0 where they are once

@@ -8,8 +8,8 @@ use Rattle.fapp_model.specs.declared.limits.TheConstants.{MAX_RECORDS, S_SPAN}
 use Rattle.fapp_model.specs.Costs.{clear_level, count_below, cost, cost_by, sum_under, violations}
 use Rattle.fapp_model.specs.Instances.{IsInstance}
 use Rattle.fapp_model.specs.Levels.{levels_of}
-use Rattle.fapp_model.specs.Modes.{IsWithin}
-use Rattle.fapp_model.specs.Pairs.{IsPairBelow, limit_of}
+use Rattle.fapp_model.specs.search.Modes.{IsWithin}
+use Rattle.fapp_model.specs.search.Pairs.{IsPairBelow, limit_of}
 use Rattle.fapp_model.specs.Tags.{IsTagOf, least_tag}
 use Rattle.fapp_model.specs.Triples.{IsBelow}
 use Rattle.dead_laws.proofs.ClearLevels.{before-clear, clear-le, counts_below, below-limit-to, below-limit-from, below-level-to, below-level-from}

@@ -9,22 +9,22 @@ use Rattle.fapp_model.specs.declared.instance.Instance.{Instance}
 use Rattle.fapp_model.specs.declared.literal.Literal.{Literal}
 use Rattle.fapp_model.specs.declared.record.Record.{Record}
 use Rattle.fapp_model.specs.declared.triple.Triple.{Triple}
-use Rattle.fapp_model.specs.Arcs.{OutsideArc}
+use Rattle.fapp_model.specs.search.Arcs.{OutsideArc}
 use Rattle.fapp_model.specs.Assignments.{IsAssignment, breaks, chosen, count_at, meets, violates}
-use Rattle.fapp_model.specs.Clashes.{blocks, is_hard_bad, joins}
+use Rattle.fapp_model.specs.search.Clashes.{blocks, is_hard_bad, joins}
 use Rattle.fapp_model.specs.Costs.{violations}
-use Rattle.fapp_model.specs.Dead.{Dead, least, over_limit}
-use Rattle.fapp_model.specs.Implied.{Implied}
+use Rattle.fapp_model.specs.search.Dead.{Dead, least, over_limit}
+use Rattle.fapp_model.specs.search.Implied.{Implied}
 use Rattle.fapp_model.specs.Instances.{IsInstance, IsRecord}
 use Rattle.fapp_model.specs.Least.{IsFeasible}
 use Rattle.fapp_model.specs.Levels.{levels_of}
-use Rattle.fapp_model.specs.Modes.{pair_below}
-use Rattle.fapp_model.specs.Pairs.{Pair, IsPairAtMost, IsPairBelow, limit_of}
-use Rattle.fapp_model.specs.Partials.{choice_of, literal, names, Extends, IsLiteral, IsPartial}
+use Rattle.fapp_model.specs.search.Modes.{pair_below}
+use Rattle.fapp_model.specs.search.Pairs.{Pair, IsPairAtMost, IsPairBelow, limit_of}
+use Rattle.fapp_model.specs.search.Partials.{choice_of, literal, names, Extends, IsLiteral, IsPartial}
 use Rattle.fapp_model.specs.Records.{first_path, second_path}
 use Rattle.fapp_model.specs.Tags.{IsTagOf, has_limit, least_tag, mode_level}
 use Rattle.fapp_model.specs.Triples.{IsBelow}
-use Rattle.fapp_model.specs.Weights.{pair_with}
+use Rattle.fapp_model.specs.search.Weights.{pair_with}
 use Rattle.dead_laws.specs.DeadLaws.{NamesAll}
 use Rattle.dead_laws.specs.ImpliedLaws.{HasAll}
 use Rattle.dead_laws.proofs.Anys.{none-member}

@@ -5,21 +5,21 @@ use Rattle.std.proofs.lemmas.List.Elements.{All-contains, All-cons, All-head, Al
 use Rattle.fapp_model.specs.declared.instance.Instance.{Instance}
 use Rattle.fapp_model.specs.declared.literal.Literal.{Literal}
 use Rattle.fapp_model.specs.declared.triple.Triple.{Triple}
-use Rattle.fapp_model.specs.Arcs.{IsSupported, OutsideArc}
+use Rattle.fapp_model.specs.search.Arcs.{IsSupported, OutsideArc}
 use Rattle.fapp_model.specs.Assignments.{count_at}
-use Rattle.fapp_model.specs.Clashes.{clashes, clashes_with}
+use Rattle.fapp_model.specs.search.Clashes.{clashes, clashes_with}
 use Rattle.fapp_model.specs.Costs.{cost, violations}
-use Rattle.fapp_model.specs.Dead.{Dead, DeadBy, IsLeastAdded, least, clash, outside_literal, no_choice_left, over_limit}
-use Rattle.fapp_model.specs.Implied.{Implied}
+use Rattle.fapp_model.specs.search.Dead.{Dead, DeadBy, IsLeastAdded, least, clash, outside_literal, no_choice_left, over_limit}
+use Rattle.fapp_model.specs.search.Implied.{Implied}
 use Rattle.fapp_model.specs.Instances.{IsInstance}
 use Rattle.fapp_model.specs.Least.{IsFeasible}
 use Rattle.fapp_model.specs.Levels.{levels_of}
-use Rattle.fapp_model.specs.Modes.{IsWithin, pair_below}
-use Rattle.fapp_model.specs.Pairs.{Pair, IsPairAtMost, limit_of}
-use Rattle.fapp_model.specs.Partials.{literal, names, Extends, IsLiteral, IsPartial}
+use Rattle.fapp_model.specs.search.Modes.{IsWithin, pair_below}
+use Rattle.fapp_model.specs.search.Pairs.{Pair, IsPairAtMost, limit_of}
+use Rattle.fapp_model.specs.search.Partials.{literal, names, Extends, IsLiteral, IsPartial}
 use Rattle.fapp_model.specs.Tags.{IsTagOf, has_limit, mode_level, top_tag}
 use Rattle.fapp_model.specs.Triples.{IsBelow}
-use Rattle.fapp_model.specs.Weights.{added_pair, pair_with}
+use Rattle.fapp_model.specs.search.Weights.{added_pair, pair_with}
 use Rattle.dead_laws.specs.DeadLaws.{RulesOut}
 use Rattle.dead_laws.proofs.CostLaws.{cost-within}
 use Rattle.dead_laws.proofs.DeadLower.{IsPairAtMost-trans, nothing_below}

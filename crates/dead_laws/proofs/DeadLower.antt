@@ -5,17 +5,17 @@ use Rattle.std.proofs.lemmas.Bool.{cases_lt, ltb-true, lt-ltb, both_ways}
 use Rattle.fapp_model.specs.declared.instance.Instance.{Instance}
 use Rattle.fapp_model.specs.declared.literal.Literal.{Literal}
 use Rattle.fapp_model.specs.declared.triple.Triple.{Triple}
-use Rattle.fapp_model.specs.Arcs.{OutsideArc}
+use Rattle.fapp_model.specs.search.Arcs.{OutsideArc}
 use Rattle.fapp_model.specs.Assignments.{count_at}
-use Rattle.fapp_model.specs.Clashes.{clashes_with}
-use Rattle.fapp_model.specs.Dead.{Dead, IsLeastAdded, least, clash, outside_literal, no_choice_left, over_limit}
+use Rattle.fapp_model.specs.search.Clashes.{clashes_with}
+use Rattle.fapp_model.specs.search.Dead.{Dead, IsLeastAdded, least, clash, outside_literal, no_choice_left, over_limit}
 use Rattle.fapp_model.specs.Instances.{IsInstance}
 use Rattle.fapp_model.specs.Levels.{levels_of}
-use Rattle.fapp_model.specs.Pairs.{Pair, IsPairAtMost, limit_of}
-use Rattle.fapp_model.specs.Partials.{literal, names}
+use Rattle.fapp_model.specs.search.Pairs.{Pair, IsPairAtMost, limit_of}
+use Rattle.fapp_model.specs.search.Partials.{literal, names}
 use Rattle.fapp_model.specs.Tags.{IsTagOf, least_tag, mode_level}
 use Rattle.fapp_model.specs.Triples.{IsBelow}
-use Rattle.fapp_model.specs.Weights.{added_pair, bad_before, inside, pair_with}
+use Rattle.fapp_model.specs.search.Weights.{added_pair, bad_before, inside, pair_with}
 use Rattle.dead_laws.specs.ImpliedLaws.{IsAtMost}
 use Rattle.dead_laws.proofs.Anys.{positive-sum_by, range-contains}
 use Rattle.dead_laws.proofs.LowerLevels.{InArc_higher, added_clashes, clashes_lower, clashes_with_lower, free_higher, inside_clashes, outside_lower}

@@ -7,13 +7,13 @@ use Rattle.fapp_model.specs.declared.instance.Instance.{Instance}
 use Rattle.fapp_model.specs.declared.literal.Literal.{Literal}
 use Rattle.fapp_model.specs.declared.triple.Triple.{Triple}
 use Rattle.fapp_model.specs.Assignments.{count_at}
-use Rattle.fapp_model.specs.Clashes.{clashes, clashes_with}
-use Rattle.fapp_model.specs.Dead.{Dead, DeadBy, IsLeastAdded, Remains, least, clash, outside_literal, no_choice_left, over_limit}
+use Rattle.fapp_model.specs.search.Clashes.{clashes, clashes_with}
+use Rattle.fapp_model.specs.search.Dead.{Dead, DeadBy, IsLeastAdded, Remains, least, clash, outside_literal, no_choice_left, over_limit}
 use Rattle.fapp_model.specs.Instances.{IsInstance}
-use Rattle.fapp_model.specs.Pairs.{Pair, IsPairAtMost, limit_of}
-use Rattle.fapp_model.specs.Partials.{literal, names, IsLiteral, IsPartial}
+use Rattle.fapp_model.specs.search.Pairs.{Pair, IsPairAtMost, limit_of}
+use Rattle.fapp_model.specs.search.Partials.{literal, names, IsLiteral, IsPartial}
 use Rattle.fapp_model.specs.Tags.{has_limit, mode_level}
-use Rattle.fapp_model.specs.Weights.{added_pair, bad_before, bad_further, pair_with}
+use Rattle.fapp_model.specs.search.Weights.{added_pair, bad_before, bad_further, pair_with}
 use Rattle.dead_laws.specs.ImpliedLaws.{HasAll}
 use Rattle.dead_laws.proofs.Anys.{any-member, none-member, passing}
 use Rattle.dead_laws.proofs.DeadImplied.{small-paths}

@@ -6,17 +6,17 @@ use Rattle.std.proofs.lemmas.List.Elements.{All-contains, All-contains_itself}
 use Rattle.fapp_model.specs.declared.instance.Instance.{Instance}
 use Rattle.fapp_model.specs.declared.literal.Literal.{Literal}
 use Rattle.fapp_model.specs.declared.triple.Triple.{Triple}
-use Rattle.fapp_model.specs.Arcs.{OutsideArc}
+use Rattle.fapp_model.specs.search.Arcs.{OutsideArc}
 use Rattle.fapp_model.specs.Assignments.{count_at}
-use Rattle.fapp_model.specs.Clashes.{clashes, clashes_with}
-use Rattle.fapp_model.specs.Dead.{Dead, DeadBy, IsLeastAdded, Remains, least, clash, outside_literal, no_choice_left, over_limit}
+use Rattle.fapp_model.specs.search.Clashes.{clashes, clashes_with}
+use Rattle.fapp_model.specs.search.Dead.{Dead, DeadBy, IsLeastAdded, Remains, least, clash, outside_literal, no_choice_left, over_limit}
 use Rattle.fapp_model.specs.Instances.{IsInstance}
 use Rattle.fapp_model.specs.Levels.{levels_of}
-use Rattle.fapp_model.specs.Pairs.{Pair, IsPairAtMost, IsPairBelow, limit_of}
-use Rattle.fapp_model.specs.Partials.{literal, names, IsLiteral, IsPartial}
+use Rattle.fapp_model.specs.search.Pairs.{Pair, IsPairAtMost, IsPairBelow, limit_of}
+use Rattle.fapp_model.specs.search.Partials.{literal, names, IsLiteral, IsPartial}
 use Rattle.fapp_model.specs.Tags.{IsTagOf, has_limit, least_tag, mode_level}
 use Rattle.fapp_model.specs.Triples.{IsBelow}
-use Rattle.fapp_model.specs.Weights.{added_pair, pair_with}
+use Rattle.fapp_model.specs.search.Weights.{added_pair, pair_with}
 use Rattle.dead_laws.specs.ArcLaws.{IsArcs}
 use Rattle.dead_laws.specs.DeadLaws.{AgreeOn}
 use Rattle.dead_laws.proofs.Anys.{contains-range, no-member, none-member, passing, range-contains}

@@ -7,9 +7,9 @@ use Rattle.fapp_model.specs.declared.choice.Choice.{Choice}
 use Rattle.fapp_model.specs.declared.instance.Instance.{Instance}
 use Rattle.fapp_model.specs.declared.literal.Literal.{Literal}
 use Rattle.fapp_model.specs.declared.record.Record.{Record}
-use Rattle.fapp_model.specs.Pairs.{Pair, IsPairAtMost}
-use Rattle.fapp_model.specs.Partials.{names}
-use Rattle.fapp_model.specs.Weights.{added, added_pair, bad_before, bad_further, between, inside, over_open, pair_with}
+use Rattle.fapp_model.specs.search.Pairs.{Pair, IsPairAtMost}
+use Rattle.fapp_model.specs.search.Partials.{names}
+use Rattle.fapp_model.specs.search.Weights.{added, added_pair, bad_before, bad_further, between, inside, over_open, pair_with}
 use Rattle.dead_laws.specs.ImpliedLaws.{HasAll}
 use Rattle.dead_laws.proofs.PairSums.{AtMost, grown-at_most, sum-at_most}
 use Rattle.dead_laws.proofs.Picks.{AreDistinct, at-names, names-at, named-sum, range-named, fewer-sum, sum_by-split}

@@ -6,10 +6,10 @@ use Rattle.fapp_model.specs.declared.literal.Literal.{Literal}
 use Rattle.fapp_model.specs.declared.triple.Triple.{Triple}
 use Rattle.fapp_model.specs.Assignments.{count_at}
 use Rattle.fapp_model.specs.Costs.{cost, cost_by, violations}
-use Rattle.fapp_model.specs.Implied.{Implied}
+use Rattle.fapp_model.specs.search.Implied.{Implied}
 use Rattle.fapp_model.specs.Least.{IsFeasible}
 use Rattle.fapp_model.specs.Levels.{levels_of}
-use Rattle.fapp_model.specs.Partials.{literal, Extends}
+use Rattle.fapp_model.specs.search.Partials.{literal, Extends}
 use Rattle.fapp_model.specs.Tags.{top_tag}
 use Rattle.fapp_model.specs.Triples.{IsBelow}
 use Rattle.dead_laws.specs.ImpliedLaws.{HasAll, IsAtMost}

@@ -6,12 +6,12 @@ use Rattle.fapp_model.specs.declared.choice.Choice.{Choice}
 use Rattle.fapp_model.specs.declared.instance.Instance.{Instance}
 use Rattle.fapp_model.specs.declared.literal.Literal.{Literal}
 use Rattle.fapp_model.specs.declared.record.Record.{Record}
-use Rattle.fapp_model.specs.Arcs.{InArc, IsSupported, OutsideArc}
-use Rattle.fapp_model.specs.Clashes.{joins, is_hard_bad, blocks, clashes, clashes_with}
+use Rattle.fapp_model.specs.search.Arcs.{InArc, IsSupported, OutsideArc}
+use Rattle.fapp_model.specs.search.Clashes.{joins, is_hard_bad, blocks, clashes, clashes_with}
 use Rattle.fapp_model.specs.Instances.{IsInstance, HasNumbers}
-use Rattle.fapp_model.specs.Partials.{choice_of, literal}
+use Rattle.fapp_model.specs.search.Partials.{choice_of, literal}
 use Rattle.fapp_model.specs.Records.{is_bad, is_broken}
-use Rattle.fapp_model.specs.Weights.{added, bad_before, between, inside}
+use Rattle.fapp_model.specs.search.Weights.{added, bad_before, between, inside}
 use Rattle.dead_laws.proofs.Anys.{passing, any-member, positive-sum_by}
 use Rattle.dead_laws.proofs.Violations.{bad_lower, numbers_of}
 

@@ -3,7 +3,7 @@ use Rattle.std.proofs.Common.{◌≡◌, ◌⊎◌, ℕ, ◌+◌, ◌<◌, ◌�
 use Rattle.std.proofs.lemmas.Bool.{cases_lt, cases_order}
 use Rattle.std.proofs.lemmas.List.Sums.{sum_by-cons}
 use Rattle.std.proofs.lemmas.List.Elements.{All-head, All-tail}
-use Rattle.fapp_model.specs.Pairs.{Pair, IsPairAtMost, IsPairBelow}
+use Rattle.fapp_model.specs.search.Pairs.{Pair, IsPairAtMost, IsPairBelow}
 
 -- the order on the pairs' numbers
 abbrev pub AtMost : ℕ → ℕ → ℕ → ℕ → Type 0

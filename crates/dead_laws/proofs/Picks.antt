@@ -6,7 +6,7 @@ use Rattle.std.proofs.lemmas.List.Sums.{sum_by-cons}
 use Rattle.std.proofs.lemmas.List.Elements.{All-from_get_or, All-tail, All-head}
 use Rattle.std.proofs.lemmas.List.FromFn.{length-range_with_len, get_or-range_with_len}
 use Rattle.fapp_model.specs.declared.literal.Literal.{Literal}
-use Rattle.fapp_model.specs.Partials.{names}
+use Rattle.fapp_model.specs.search.Partials.{names}
 use Rattle.dead_laws.specs.ImpliedLaws.{HasAll}
 use Rattle.dead_laws.proofs.Anys.{passing, any-member, no-member, contains-range}
 use Rattle.dead_laws.proofs.Sums.{sum_by-add, sum_by-le-members, sum_by-none, sum_by-same-members}

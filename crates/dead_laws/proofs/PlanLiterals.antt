@@ -11,14 +11,14 @@ use Rattle.fapp_model.specs.declared.literal.Literal.{Literal}
 use Rattle.fapp_model.specs.declared.record.Record.{Record}
 use Rattle.fapp_model.specs.Assignments.{breaks, chosen, meets, path_at, violates}
 use Rattle.fapp_model.specs.Choices.{choice}
-use Rattle.fapp_model.specs.Clashes.{blocks, clashes, clashes_with, is_hard_bad, joins}
+use Rattle.fapp_model.specs.search.Clashes.{blocks, clashes, clashes_with, is_hard_bad, joins}
 use Rattle.fapp_model.specs.Costs.{sum_under, violations}
 use Rattle.fapp_model.specs.Instances.{IsInstance}
-use Rattle.fapp_model.specs.Modes.{pair_below}
-use Rattle.fapp_model.specs.Pairs.{Pair}
-use Rattle.fapp_model.specs.Partials.{choice_of, literal, names, Extends}
+use Rattle.fapp_model.specs.search.Modes.{pair_below}
+use Rattle.fapp_model.specs.search.Pairs.{Pair}
+use Rattle.fapp_model.specs.search.Partials.{choice_of, literal, names, Extends}
 use Rattle.fapp_model.specs.Records.{first_path, second_path, is_bad}
-use Rattle.fapp_model.specs.Weights.{bad_before, bad_further, between, inside, over_open, pair_with}
+use Rattle.fapp_model.specs.search.Weights.{bad_before, bad_further, between, inside, over_open, pair_with}
 use Rattle.dead_laws.specs.ImpliedLaws.{HasAll}
 use Rattle.dead_laws.proofs.Anys.{contains-range, no-member}
 use Rattle.dead_laws.proofs.Picks.{AreDistinct, at-names, pick, range_apart}

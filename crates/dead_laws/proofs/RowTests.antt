@@ -8,15 +8,15 @@ use Rattle.std.proofs.lemmas.List.Sums.{AllPass-from_list_all}
 use Rattle.fapp_model.specs.declared.instance.Instance.{Instance}
 use Rattle.fapp_model.specs.declared.literal.Literal.{Literal}
 use Rattle.fapp_model.specs.declared.triple.Triple.{Triple}
-use Rattle.fapp_model.specs.Arcs.{InArc, OutsideArc}
+use Rattle.fapp_model.specs.search.Arcs.{InArc, OutsideArc}
 use Rattle.fapp_model.specs.Assignments.{count_at}
-use Rattle.fapp_model.specs.Clashes.{clashes, shares_record}
-use Rattle.fapp_model.specs.Dead.{Dead}
+use Rattle.fapp_model.specs.search.Clashes.{clashes, shares_record}
+use Rattle.fapp_model.specs.search.Dead.{Dead}
 use Rattle.fapp_model.specs.Instances.{IsInstance}
-use Rattle.fapp_model.specs.Pairs.{IsPairBelow, limit_of}
-use Rattle.fapp_model.specs.Partials.{literal, IsLiteral, IsPartial}
+use Rattle.fapp_model.specs.search.Pairs.{IsPairBelow, limit_of}
+use Rattle.fapp_model.specs.search.Partials.{literal, IsLiteral, IsPartial}
 use Rattle.fapp_model.specs.Tags.{has_limit, least_tag, mode_level}
-use Rattle.fapp_model.specs.Weights.{pair_with}
+use Rattle.fapp_model.specs.search.Weights.{pair_with}
 use Rattle.dead_laws.specs.DeadLaws.{AgreeOn}
 use Rattle.dead_laws.proofs.Anys.{contains-range, no-member}
 use Rattle.dead_laws.proofs.ArcTest.{has_lonely, supported-by_test}

@@ -3,14 +3,14 @@ use Rattle.std.proofs.Common.{◌≡◌, ◌≢◌, ◌⊎◌, ℕ, zero, suc, �
 use Rattle.std.proofs.lemmas.Bool.{false≢true, not-true, true≢false}
 use Rattle.std.proofs.lemmas.List.Elements.{All-cons, All-nil}
 use Rattle.fapp_model.specs.declared.literal.Literal.{Literal}
-use Rattle.fapp_model.specs.Arcs.{InArc, OutsideArc}
+use Rattle.fapp_model.specs.search.Arcs.{InArc, OutsideArc}
 use Rattle.fapp_model.specs.Assignments.{count_at}
-use Rattle.fapp_model.specs.Clashes.{clashes_with}
-use Rattle.fapp_model.specs.Dead.{Dead, IsLeastAdded, no_choice_left, over_limit}
-use Rattle.fapp_model.specs.Pairs.{Pair, IsPairAtMost, IsPairBelow, limit_of}
-use Rattle.fapp_model.specs.Partials.{literal, names, IsLiteral, IsPartial}
+use Rattle.fapp_model.specs.search.Clashes.{clashes_with}
+use Rattle.fapp_model.specs.search.Dead.{Dead, IsLeastAdded, no_choice_left, over_limit}
+use Rattle.fapp_model.specs.search.Pairs.{Pair, IsPairAtMost, IsPairBelow, limit_of}
+use Rattle.fapp_model.specs.search.Partials.{literal, names, IsLiteral, IsPartial}
 use Rattle.fapp_model.specs.Tags.{least_tag, mode_level}
-use Rattle.fapp_model.specs.Weights.{added_pair, pair_with}
+use Rattle.fapp_model.specs.search.Weights.{added_pair, pair_with}
 use Rattle.dead_laws.specs.Networks.{three_alike}
 use Rattle.dead_laws.specs.RowLaws.{EachThreeDie, OneChoiceLives, UnlikeSum, UnlikeTags, eleven_levels, tag, three_choices, unlike}
 use Rattle.dead_laws.proofs.DeadTests.{clash-dead, has_clash, least-pairs, least_pairs}

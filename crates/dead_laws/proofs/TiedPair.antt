@@ -2,9 +2,9 @@
 use Rattle.std.proofs.Common.{◌≡◌, ℕ, zero, suc, ◌<◌, ◌≤◌, Bool, true, not, refl, arith}
 use Rattle.std.proofs.lemmas.Bool.{and_parts}
 use Rattle.fapp_model.specs.declared.literal.Literal.{Literal}
-use Rattle.fapp_model.specs.Arcs.{InArc, OutsideArc}
+use Rattle.fapp_model.specs.search.Arcs.{InArc, OutsideArc}
 use Rattle.fapp_model.specs.Assignments.{count_at}
-use Rattle.fapp_model.specs.Partials.{literal, IsLiteral}
+use Rattle.fapp_model.specs.search.Partials.{literal, IsLiteral}
 use Rattle.dead_laws.specs.Networks.{tied_pair}
 use Rattle.dead_laws.proofs.ArcTest.{same_literal, without}
 use Rattle.dead_laws.proofs.NetworksValid.{tied-valid}

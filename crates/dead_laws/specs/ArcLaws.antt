@@ -2,7 +2,7 @@
 use Rattle.std.specs.Prelude.{◌↔◌, ℕ, Bool, IsTrue}
 use Rattle.fapp_model.specs.declared.instance.Instance.{Instance}
 use Rattle.fapp_model.specs.declared.literal.Literal.{Literal}
-use Rattle.fapp_model.specs.Arcs.{InArc, IsSupported}
+use Rattle.fapp_model.specs.search.Arcs.{InArc, IsSupported}
 use Rattle.fapp_model.specs.Instances.{IsInstance}
 
 -- The arcs of a level are themselves a supported family.

@@ -3,11 +3,11 @@ use Rattle.std.specs.Prelude.{◌↔◌, ◌⊎◌, not, ℕ, ◌<◌, Bool, IsT
 use Rattle.fapp_model.specs.declared.instance.Instance.{Instance}
 use Rattle.fapp_model.specs.declared.literal.Literal.{Literal}
 use Rattle.fapp_model.specs.declared.triple.Triple.{Triple}
-use Rattle.fapp_model.specs.Dead.{Dead, DeadBy}
-use Rattle.fapp_model.specs.Implied.{Implied}
+use Rattle.fapp_model.specs.search.Dead.{Dead, DeadBy}
+use Rattle.fapp_model.specs.search.Implied.{Implied}
 use Rattle.fapp_model.specs.Instances.{IsInstance}
 use Rattle.fapp_model.specs.Least.{IsFeasible}
-use Rattle.fapp_model.specs.Partials.{IsLiteral, IsPartial, names}
+use Rattle.fapp_model.specs.search.Partials.{IsLiteral, IsPartial, names}
 use Rattle.fapp_model.specs.Tags.{IsTagOf, mode_level, top_tag}
 use Rattle.dead_laws.specs.ArcLaws.{IsArcs}
 use Rattle.dead_laws.specs.ImpliedLaws.{HasAll, IsAtMost}

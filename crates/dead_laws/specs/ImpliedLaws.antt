@@ -4,9 +4,9 @@ use Rattle.fapp_model.specs.declared.instance.Instance.{Instance}
 use Rattle.fapp_model.specs.declared.literal.Literal.{Literal}
 use Rattle.fapp_model.specs.declared.triple.Triple.{Triple}
 use Rattle.fapp_model.specs.Assignments.{count_at}
-use Rattle.fapp_model.specs.Implied.{Implied}
+use Rattle.fapp_model.specs.search.Implied.{Implied}
 use Rattle.fapp_model.specs.Least.{IsFeasible}
-use Rattle.fapp_model.specs.Partials.{literal}
+use Rattle.fapp_model.specs.search.Partials.{literal}
 use Rattle.fapp_model.specs.Tags.{top_tag}
 use Rattle.fapp_model.specs.Triples.{IsBelow}
 

@@ -3,13 +3,13 @@ use Rattle.std.specs.Prelude.{◌≡◌, ℕ, ◌+◌, ◌<◌, ◌≤◌, List,
 use Rattle.fapp_model.specs.declared.instance.Instance.{Instance}
 use Rattle.fapp_model.specs.declared.literal.Literal.{Literal}
 use Rattle.fapp_model.specs.declared.triple.Triple.{Triple}
-use Rattle.fapp_model.specs.Arcs.{InArc, OutsideArc}
+use Rattle.fapp_model.specs.search.Arcs.{InArc, OutsideArc}
 use Rattle.fapp_model.specs.Assignments.{count_at}
-use Rattle.fapp_model.specs.Dead.{Dead, IsLeastAdded}
+use Rattle.fapp_model.specs.search.Dead.{Dead, IsLeastAdded}
 use Rattle.fapp_model.specs.Instances.{IsInstance}
-use Rattle.fapp_model.specs.Pairs.{Pair}
-use Rattle.fapp_model.specs.Partials.{literal}
-use Rattle.fapp_model.specs.Weights.{pair_with}
+use Rattle.fapp_model.specs.search.Pairs.{Pair}
+use Rattle.fapp_model.specs.search.Partials.{literal}
+use Rattle.fapp_model.specs.search.Weights.{pair_with}
 use Rattle.dead_laws.specs.Networks.{three_alike, tied_pair}
 
 -- a triple by its numbers

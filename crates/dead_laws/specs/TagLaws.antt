@@ -6,7 +6,7 @@ use Rattle.fapp_model.specs.Assignments.{IsAssignment}
 use Rattle.fapp_model.specs.Costs.{cost}
 use Rattle.fapp_model.specs.Instances.{IsInstance}
 use Rattle.fapp_model.specs.Least.{IsFeasible}
-use Rattle.fapp_model.specs.Modes.{IsWithin}
+use Rattle.fapp_model.specs.search.Modes.{IsWithin}
 use Rattle.fapp_model.specs.Tags.{IsTagOf, code_of, least_tag, triple_from}
 use Rattle.fapp_model.specs.Triples.{IsBelow}
 

@@ -7,16 +7,4 @@ pub mod Costs
 pub mod Triples
 pub mod Least
 pub mod Tags
-pub mod Pairs
-pub mod Modes
-pub mod Partials
-pub mod Implied
-pub mod Clashes
-pub mod Arcs
-pub mod Weights
-pub mod Dead
-pub mod WorkOrder
-pub mod Prefixes
-pub mod Tries
-pub mod Jobs
-pub mod LineBound
+pub mod search

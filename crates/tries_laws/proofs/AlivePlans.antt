@@ -5,11 +5,11 @@ use Rattle.std.proofs.lemmas.List.Elements.{All-contains}
 use Rattle.fapp_model.specs.declared.instance.Instance.{Instance}
 use Rattle.fapp_model.specs.declared.literal.Literal.{Literal}
 use Rattle.fapp_model.specs.declared.triple.Triple.{Triple}
-use Rattle.fapp_model.specs.Arcs.{IsSupported, InArc}
+use Rattle.fapp_model.specs.search.Arcs.{IsSupported, InArc}
 use Rattle.fapp_model.specs.Assignments.{count_at}
-use Rattle.fapp_model.specs.Clashes.{clashes, clashes_with, shares_record}
-use Rattle.fapp_model.specs.Dead.{Dead, least, clash, outside_literal, no_choice_left, over_limit}
-use Rattle.fapp_model.specs.Partials.{literal}
+use Rattle.fapp_model.specs.search.Clashes.{clashes, clashes_with, shares_record}
+use Rattle.fapp_model.specs.search.Dead.{Dead, least, clash, outside_literal, no_choice_left, over_limit}
+use Rattle.fapp_model.specs.search.Partials.{literal}
 use Rattle.fapp_model.specs.Tags.{least_tag, has_limit, mode_level}
 use Rattle.tries_laws.proofs.Members.{any-some}
 

@@ -6,11 +6,11 @@ use Rattle.fapp_model.specs.declared.instance.Instance.{Instance}
 use Rattle.fapp_model.specs.declared.literal.Literal.{Literal}
 use Rattle.fapp_model.specs.declared.triple.Triple.{Triple}
 use Rattle.fapp_model.specs.Assignments.{count_at}
-use Rattle.fapp_model.specs.Dead.{Dead}
-use Rattle.fapp_model.specs.Partials.{literal}
-use Rattle.fapp_model.specs.Prefixes.{GoesOn, IsAlong, IsPrefix, extensions, lists_along}
-use Rattle.fapp_model.specs.Tries.{IsTries, IsTriesBy}
-use Rattle.fapp_model.specs.WorkOrder.{work_order}
+use Rattle.fapp_model.specs.search.Dead.{Dead}
+use Rattle.fapp_model.specs.search.Partials.{literal}
+use Rattle.fapp_model.specs.search.Prefixes.{GoesOn, IsAlong, IsPrefix, extensions, lists_along}
+use Rattle.fapp_model.specs.search.Tries.{IsTries, IsTriesBy}
+use Rattle.fapp_model.specs.search.WorkOrder.{work_order}
 use Rattle.tries_laws.proofs.Lists.{from-lists_along, in-lists_along, once-lists_along}
 use Rattle.tries_laws.proofs.Members.{from-map, in-map}
 use Rattle.tries_laws.proofs.Pairs.{pairs-map, pairs-weaker}

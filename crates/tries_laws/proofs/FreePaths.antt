@@ -9,14 +9,14 @@ use Rattle.fapp_model.specs.declared.literal.Literal.{Literal}
 use Rattle.fapp_model.specs.declared.record.Record.{Record}
 use Rattle.fapp_model.specs.declared.triple.Triple.{Triple}
 use Rattle.fapp_model.specs.Assignments.{count_at}
-use Rattle.fapp_model.specs.Clashes.{clashes, shares_record}
-use Rattle.fapp_model.specs.Dead.{Dead}
-use Rattle.fapp_model.specs.Jobs.{job_count, job_level, job_prefix, target, ways}
-use Rattle.fapp_model.specs.Partials.{IsLiteral, literal}
-use Rattle.fapp_model.specs.Prefixes.{IsPrefix}
+use Rattle.fapp_model.specs.search.Clashes.{clashes, shares_record}
+use Rattle.fapp_model.specs.search.Dead.{Dead}
+use Rattle.fapp_model.specs.search.Jobs.{job_count, job_level, job_prefix, target, ways}
+use Rattle.fapp_model.specs.search.Partials.{IsLiteral, literal}
+use Rattle.fapp_model.specs.search.Prefixes.{IsPrefix}
 use Rattle.fapp_model.specs.Tags.{has_limit, least_tag, mode_level}
-use Rattle.fapp_model.specs.Tries.{IsTries, IsTriesBy}
-use Rattle.fapp_model.specs.WorkOrder.{work_order}
+use Rattle.fapp_model.specs.search.Tries.{IsTries, IsTriesBy}
+use Rattle.fapp_model.specs.search.WorkOrder.{work_order}
 use Rattle.tries_laws.specs.JobLaws.{IsDepth}
 use Rattle.tries_laws.specs.RowLaws.{IsFree}
 use Rattle.tries_laws.proofs.AlivePlans.{IsClear, IsOf, not_dead}

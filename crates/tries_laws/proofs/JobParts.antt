@@ -5,11 +5,11 @@ use Rattle.std.proofs.lemmas.List.Elements.{Contains-get_or}
 use Rattle.std.proofs.lemmas.Nat.{div-add-mod', mod_below, div-mul-add, div_below, mod-mul-add}
 use Rattle.fapp_model.specs.declared.instance.Instance.{Instance}
 use Rattle.fapp_model.specs.declared.literal.Literal.{Literal}
-use Rattle.fapp_model.specs.Jobs.{IsJob, depth, greatest_to, job_count, job_level, job_number, job_prefix, most_depth, prefixes, target, ways}
+use Rattle.fapp_model.specs.search.Jobs.{IsJob, depth, greatest_to, job_count, job_level, job_number, job_prefix, most_depth, prefixes, target, ways}
 use Rattle.fapp_model.specs.Levels.{levels_of}
-use Rattle.fapp_model.specs.Prefixes.{IsAlong, IsPrefix}
+use Rattle.fapp_model.specs.search.Prefixes.{IsAlong, IsPrefix}
 use Rattle.fapp_model.specs.Tags.{IsTagOf, is_tag}
-use Rattle.fapp_model.specs.WorkOrder.{work_order}
+use Rattle.fapp_model.specs.search.WorkOrder.{work_order}
 use Rattle.tries_laws.specs.JobLaws.{IsDepth}
 use Rattle.tries_laws.proofs.Lists.{in-choice_lists, from-choice_lists, length-choice_lists}
 use Rattle.tries_laws.proofs.WorkOrders.{order-length}

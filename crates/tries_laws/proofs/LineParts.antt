@@ -5,14 +5,14 @@ use Rattle.fapp_model.specs.declared.instance.Instance.{Instance}
 use Rattle.fapp_model.specs.declared.literal.Literal.{Literal}
 use Rattle.fapp_model.specs.declared.triple.Triple.{Triple}
 use Rattle.fapp_model.specs.Assignments.{count_at}
-use Rattle.fapp_model.specs.Dead.{Dead}
+use Rattle.fapp_model.specs.search.Dead.{Dead}
 use Rattle.fapp_model.specs.Instances.{IsInstance}
-use Rattle.fapp_model.specs.Jobs.{job_count, job_level, job_prefix, target}
-use Rattle.fapp_model.specs.LineBound.{IsMostLines, choice_total, tree_size}
-use Rattle.fapp_model.specs.Prefixes.{IsPrefix}
+use Rattle.fapp_model.specs.search.Jobs.{job_count, job_level, job_prefix, target}
+use Rattle.fapp_model.specs.search.LineBound.{IsMostLines, choice_total, tree_size}
+use Rattle.fapp_model.specs.search.Prefixes.{IsPrefix}
 use Rattle.fapp_model.specs.Tags.{IsTagOf}
-use Rattle.fapp_model.specs.Tries.{IsTries}
-use Rattle.fapp_model.specs.WorkOrder.{work_order}
+use Rattle.fapp_model.specs.search.Tries.{IsTries}
+use Rattle.fapp_model.specs.search.WorkOrder.{work_order}
 use Rattle.dead_laws.proofs.DeadTests.{dead_or_not}
 use Rattle.tries_laws.proofs.Extensions.{along-append}
 use Rattle.tries_laws.proofs.JobParts.{job-is, prefixes-all, target-is_tag}

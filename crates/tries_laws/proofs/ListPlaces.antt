@@ -13,9 +13,9 @@ use Rattle.fapp_model.specs.declared.literal.Literal.{Literal}
 use Rattle.fapp_model.specs.Assignments.{count_at, no_path, path_at}
 use Rattle.fapp_model.specs.Choices.{choices}
 use Rattle.fapp_model.specs.Instances.{IsInstance, IsPath}
-use Rattle.fapp_model.specs.Jobs.{ways}
-use Rattle.fapp_model.specs.Partials.{literal}
-use Rattle.fapp_model.specs.Prefixes.{one_more, lists_along, choice_lists}
+use Rattle.fapp_model.specs.search.Jobs.{ways}
+use Rattle.fapp_model.specs.search.Partials.{literal}
+use Rattle.fapp_model.specs.search.Prefixes.{one_more, lists_along, choice_lists}
 use Rattle.fapp_model.proofs.ChoiceLemmas.{fixed_count, free_count}
 use Rattle.tries_laws.proofs.Lists.{length-pieces, length-one_more, length-lists_along, length-choice_lists}
 use Rattle.tries_laws.proofs.Sums.{sum-same}

@@ -6,9 +6,9 @@ use Rattle.std.proofs.lemmas.List.FromFn.{length-range_with_len}
 use Rattle.fapp_model.specs.declared.instance.Instance.{Instance}
 use Rattle.fapp_model.specs.declared.literal.Literal.{Literal}
 use Rattle.fapp_model.specs.Assignments.{count_at}
-use Rattle.fapp_model.specs.Jobs.{ways}
-use Rattle.fapp_model.specs.Partials.{literal}
-use Rattle.fapp_model.specs.Prefixes.{IsAlong, IsListBefore, one_more, lists_along, choice_lists}
+use Rattle.fapp_model.specs.search.Jobs.{ways}
+use Rattle.fapp_model.specs.search.Partials.{literal}
+use Rattle.fapp_model.specs.search.Prefixes.{IsAlong, IsListBefore, one_more, lists_along, choice_lists}
 use Rattle.tries_laws.proofs.Members.{at_front, behind, front_or_behind, no_member, in-map, from-map, in-flat_map, from-flat_map, in-range, from-range, All-from_members}
 use Rattle.tries_laws.proofs.Pairs.{pairs-nil, pairs-cons, pairs-map, pairs-flat_map, pairs-weaker, rising}
 

@@ -5,10 +5,10 @@ use Rattle.std.proofs.lemmas.List.Elements.{All-head, All-tail, All-map, All-tak
 use Rattle.fapp_model.specs.declared.instance.Instance.{Instance}
 use Rattle.fapp_model.specs.declared.literal.Literal.{Literal}
 use Rattle.fapp_model.specs.Assignments.{IsAssignment}
-use Rattle.fapp_model.specs.Jobs.{depth, prefixes}
-use Rattle.fapp_model.specs.Partials.{Extends, literal}
-use Rattle.fapp_model.specs.Prefixes.{IsAlong}
-use Rattle.fapp_model.specs.WorkOrder.{work_order}
+use Rattle.fapp_model.specs.search.Jobs.{depth, prefixes}
+use Rattle.fapp_model.specs.search.Partials.{Extends, literal}
+use Rattle.fapp_model.specs.search.Prefixes.{IsAlong}
+use Rattle.fapp_model.specs.search.WorkOrder.{work_order}
 use Rattle.tries_laws.proofs.Lists.{in-choice_lists, from-choice_lists}
 use Rattle.tries_laws.proofs.WorkOrders.{order-is}
 

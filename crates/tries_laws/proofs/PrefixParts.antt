@@ -4,9 +4,9 @@ use Rattle.std.proofs.lemmas.List.Elements.{All-nil, All-cons, All-head, All-tai
 use Rattle.fapp_model.specs.declared.instance.Instance.{Instance}
 use Rattle.fapp_model.specs.declared.literal.Literal.{Literal}
 use Rattle.fapp_model.specs.Assignments.{count_at}
-use Rattle.fapp_model.specs.Partials.{IsLiteral, IsPartial}
-use Rattle.fapp_model.specs.Prefixes.{IsAlong, IsPrefix}
-use Rattle.fapp_model.specs.WorkOrder.{work_order, comes_before, degree}
+use Rattle.fapp_model.specs.search.Partials.{IsLiteral, IsPartial}
+use Rattle.fapp_model.specs.search.Prefixes.{IsAlong, IsPrefix}
+use Rattle.fapp_model.specs.search.WorkOrder.{work_order, comes_before, degree}
 use Rattle.tries_laws.proofs.Members.{at_front, behind, front_or_behind, no_member, All-from_members}
 use Rattle.tries_laws.proofs.Pairs.{pairs-nil, pairs-cons, pairs-head, pairs-tail, pairs-weaker}
 use Rattle.tries_laws.proofs.WorkOrders.{order-is, first-asym}

@@ -8,9 +8,9 @@ use Rattle.std.proofs.lemmas.List.Sums.{sum_by-cons, length-filter}
 use Rattle.fapp_model.specs.declared.instance.Instance.{Instance}
 use Rattle.fapp_model.specs.declared.literal.Literal.{Literal}
 use Rattle.fapp_model.specs.Assignments.{count_at}
-use Rattle.fapp_model.specs.Partials.{literal}
-use Rattle.fapp_model.specs.Prefixes.{IsAlong}
-use Rattle.fapp_model.specs.Tries.{IsSumOver, IsOneAndBelow, IsTriesBy}
+use Rattle.fapp_model.specs.search.Partials.{literal}
+use Rattle.fapp_model.specs.search.Prefixes.{IsAlong}
+use Rattle.fapp_model.specs.search.Tries.{IsSumOver, IsOneAndBelow, IsTriesBy}
 use Rattle.tries_laws.proofs.Members.{at_front, behind, All-from_members, in-filter, from-filter}
 use Rattle.tries_laws.proofs.Pairs.{pairs-head, pairs-filter}
 use Rattle.tries_laws.proofs.Sums.{sum-same, sum-add, range-sum-le, range-sum-part}

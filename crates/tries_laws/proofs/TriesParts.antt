@@ -5,9 +5,9 @@ use Rattle.std.proofs.lemmas.Bool.{cases_lt}
 use Rattle.fapp_model.specs.declared.instance.Instance.{Instance}
 use Rattle.fapp_model.specs.declared.literal.Literal.{Literal}
 use Rattle.fapp_model.specs.Assignments.{count_at}
-use Rattle.fapp_model.specs.Partials.{literal}
-use Rattle.fapp_model.specs.Prefixes.{IsAlong, lists_along}
-use Rattle.fapp_model.specs.Tries.{IsSumOver, IsOneAndBelow, IsTriesBy}
+use Rattle.fapp_model.specs.search.Partials.{literal}
+use Rattle.fapp_model.specs.search.Prefixes.{IsAlong, lists_along}
+use Rattle.fapp_model.specs.search.Tries.{IsSumOver, IsOneAndBelow, IsTriesBy}
 use Rattle.tries_laws.proofs.Lists.{length-lists_along}
 use Rattle.tries_laws.proofs.Sums.{range-sum-same, range-sum-most}
 

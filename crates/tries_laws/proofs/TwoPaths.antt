@@ -3,15 +3,15 @@ use Rattle.std.proofs.Common.{◌≡◌, ◌⊎◌, ℕ, zero, suc, ◌<◌, tru
 use Rattle.std.proofs.lemmas.Bool.{or_cases, and_parts, eqb-true, true≢false}
 use Rattle.std.proofs.lemmas.List.Elements.{All-cons, All-nil}
 use Rattle.fapp_model.specs.declared.literal.Literal.{Literal}
-use Rattle.fapp_model.specs.Arcs.{OutsideArc}
+use Rattle.fapp_model.specs.search.Arcs.{OutsideArc}
 use Rattle.fapp_model.specs.Assignments.{count_at}
-use Rattle.fapp_model.specs.Clashes.{clashes, clashes_with, shares_record}
-use Rattle.fapp_model.specs.Dead.{Dead, no_choice_left}
-use Rattle.fapp_model.specs.Jobs.{target}
-use Rattle.fapp_model.specs.Partials.{literal}
+use Rattle.fapp_model.specs.search.Clashes.{clashes, clashes_with, shares_record}
+use Rattle.fapp_model.specs.search.Dead.{Dead, no_choice_left}
+use Rattle.fapp_model.specs.search.Jobs.{target}
+use Rattle.fapp_model.specs.search.Partials.{literal}
 use Rattle.fapp_model.specs.Tags.{mode_level}
-use Rattle.fapp_model.specs.Tries.{IsTries, IsTriesBy}
-use Rattle.fapp_model.specs.WorkOrder.{work_order}
+use Rattle.fapp_model.specs.search.Tries.{IsTries, IsTriesBy}
+use Rattle.fapp_model.specs.search.WorkOrder.{work_order}
 use Rattle.tries_laws.specs.Networks.{two_paths}
 use Rattle.tries_laws.proofs.AlivePlans.{IsClear, IsOf, not_dead}
 

@@ -4,12 +4,12 @@ use Rattle.fapp_model.specs.declared.instance.Instance.{Instance}
 use Rattle.fapp_model.specs.declared.literal.Literal.{Literal}
 use Rattle.fapp_model.specs.Assignments.{IsAssignment}
 use Rattle.fapp_model.specs.Instances.{IsInstance}
-use Rattle.fapp_model.specs.Jobs.{IsJob, depth, job_count, job_level, job_number, job_prefix, most_depth, prefixes, target, ways}
+use Rattle.fapp_model.specs.search.Jobs.{IsJob, depth, job_count, job_level, job_number, job_prefix, most_depth, prefixes, target, ways}
 use Rattle.fapp_model.specs.Levels.{levels_of}
-use Rattle.fapp_model.specs.Partials.{Extends}
-use Rattle.fapp_model.specs.Prefixes.{IsListBefore, IsPrefix}
+use Rattle.fapp_model.specs.search.Partials.{Extends}
+use Rattle.fapp_model.specs.search.Prefixes.{IsListBefore, IsPrefix}
 use Rattle.fapp_model.specs.Tags.{IsTagOf}
-use Rattle.fapp_model.specs.WorkOrder.{work_order}
+use Rattle.fapp_model.specs.search.WorkOrder.{work_order}
 
 -- A job's target is a tag.
 abbrev pub TargetsAreTags : Type 0

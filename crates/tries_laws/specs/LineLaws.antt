@@ -2,7 +2,7 @@
 use Rattle.std.specs.Prelude.{◌≡◌, ℕ}
 use Rattle.fapp_model.specs.declared.instance.Instance.{Instance}
 use Rattle.fapp_model.specs.Instances.{IsInstance}
-use Rattle.fapp_model.specs.LineBound.{IsMostLines}
+use Rattle.fapp_model.specs.search.LineBound.{IsMostLines}
 
 -- The bound on lines is one number: at most one, and for a valid instance some.
 pub record OneMostLines : Type 0 where

@@ -3,9 +3,9 @@ use Rattle.std.specs.Prelude.{◌≡◌, ◌≢◌, ◌↔◌, ℕ, ◌+◌, ◌
 use Rattle.std.specs.List.{range_with_len}
 use Rattle.fapp_model.specs.declared.instance.Instance.{Instance}
 use Rattle.fapp_model.specs.declared.literal.Literal.{Literal}
-use Rattle.fapp_model.specs.Jobs.{ways}
-use Rattle.fapp_model.specs.Partials.{IsPartial, literal}
-use Rattle.fapp_model.specs.Prefixes.{GoesOn, IsAlong, IsListBefore, IsPrefix, choice_lists, extensions, lists_along}
+use Rattle.fapp_model.specs.search.Jobs.{ways}
+use Rattle.fapp_model.specs.search.Partials.{IsPartial, literal}
+use Rattle.fapp_model.specs.search.Prefixes.{GoesOn, IsAlong, IsListBefore, IsPrefix, choice_lists, extensions, lists_along}
 
 -- A prefix is a partial assignment.
 abbrev pub PrefixesArePartial : Type 0

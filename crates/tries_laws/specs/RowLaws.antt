@@ -3,11 +3,11 @@ use Rattle.std.specs.Prelude.{◌≡◌, ℕ, ◌+◌, ◌-◌, ◌<◌, List, [
 use Rattle.fapp_model.specs.declared.instance.Instance.{Instance}
 use Rattle.fapp_model.specs.declared.literal.Literal.{Literal}
 use Rattle.fapp_model.specs.Assignments.{count_at}
-use Rattle.fapp_model.specs.Jobs.{depth, job_count, job_level, job_prefix, target}
-use Rattle.fapp_model.specs.Partials.{literal}
-use Rattle.fapp_model.specs.Prefixes.{IsPrefix}
-use Rattle.fapp_model.specs.Tries.{IsTries}
-use Rattle.fapp_model.specs.WorkOrder.{work_order}
+use Rattle.fapp_model.specs.search.Jobs.{depth, job_count, job_level, job_prefix, target}
+use Rattle.fapp_model.specs.search.Partials.{literal}
+use Rattle.fapp_model.specs.search.Prefixes.{IsPrefix}
+use Rattle.fapp_model.specs.search.Tries.{IsTries}
+use Rattle.fapp_model.specs.search.WorkOrder.{work_order}
 use Rattle.dead_laws.specs.Networks.{three_alike}
 use Rattle.tries_laws.specs.Networks.{one_path, small_network, two_paths}
 

@@ -5,13 +5,13 @@ use Rattle.fapp_model.specs.declared.instance.Instance.{Instance}
 use Rattle.fapp_model.specs.declared.literal.Literal.{Literal}
 use Rattle.fapp_model.specs.declared.triple.Triple.{Triple}
 use Rattle.fapp_model.specs.Assignments.{count_at}
-use Rattle.fapp_model.specs.Dead.{Dead}
+use Rattle.fapp_model.specs.search.Dead.{Dead}
 use Rattle.fapp_model.specs.Instances.{IsInstance}
-use Rattle.fapp_model.specs.Partials.{literal}
-use Rattle.fapp_model.specs.Prefixes.{GoesOn, IsPrefix, extensions}
+use Rattle.fapp_model.specs.search.Partials.{literal}
+use Rattle.fapp_model.specs.search.Prefixes.{GoesOn, IsPrefix, extensions}
 use Rattle.fapp_model.specs.Tags.{IsTagOf}
-use Rattle.fapp_model.specs.Tries.{IsTries}
-use Rattle.fapp_model.specs.WorkOrder.{work_order}
+use Rattle.fapp_model.specs.search.Tries.{IsTries}
+use Rattle.fapp_model.specs.search.WorkOrder.{work_order}
 
 -- A prefix has one number of tries at a tag: at most one, and in a valid instance some.
 pub record OneNumberOfTries : Type 0 where

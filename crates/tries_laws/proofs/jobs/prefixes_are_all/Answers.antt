@@ -1,7 +1,7 @@
 use Rattle.std.proofs.Common.{◌<◌, length, take, arith}
 use Rattle.std.proofs.lemmas.List.Elements.{All-take}
-use Rattle.fapp_model.specs.Jobs.{depth}
-use Rattle.fapp_model.specs.WorkOrder.{work_order}
+use Rattle.fapp_model.specs.search.Jobs.{depth}
+use Rattle.fapp_model.specs.search.WorkOrder.{work_order}
 use Rattle.tries_laws.proofs.JobParts.{prefixes-all, prefixes-few}
 use Rattle.tries_laws.proofs.ListPlaces.{some_ways}
 use Rattle.tries_laws.proofs.Lists.{length-choice_lists, once-choice_lists, ordered-choice_lists}

@@ -1,6 +1,6 @@
 use Rattle.std.proofs.Common.{refl}
-use Rattle.fapp_model.specs.Jobs.{depth}
-use Rattle.fapp_model.specs.WorkOrder.{work_order}
+use Rattle.fapp_model.specs.search.Jobs.{depth}
+use Rattle.fapp_model.specs.search.WorkOrder.{work_order}
 use Rattle.dead_laws.specs.Networks.{three_alike}
 use Rattle.tries_laws.proofs.rows.three_alike_jobs.Goals as goal
 

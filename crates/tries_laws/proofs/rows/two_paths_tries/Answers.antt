@@ -1,6 +1,6 @@
 use Rattle.std.proofs.Common.{refl}
-use Rattle.fapp_model.specs.Jobs.{depth}
-use Rattle.fapp_model.specs.WorkOrder.{work_order}
+use Rattle.fapp_model.specs.search.Jobs.{depth}
+use Rattle.fapp_model.specs.search.WorkOrder.{work_order}
 use Rattle.tries_laws.specs.Networks.{two_paths}
 use Rattle.tries_laws.proofs.TwoPaths.{two_paths-tries}
 use Rattle.tries_laws.proofs.rows.two_paths_tries.Goals as goal

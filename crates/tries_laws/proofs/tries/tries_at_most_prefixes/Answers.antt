@@ -1,8 +1,8 @@
 use Rattle.std.proofs.Common.{length, drop, ◌++◌, arith}
 use Rattle.std.proofs.lemmas.List.{length-map}
-use Rattle.fapp_model.specs.Dead.{Dead}
-use Rattle.fapp_model.specs.Prefixes.{lists_along}
-use Rattle.fapp_model.specs.WorkOrder.{work_order}
+use Rattle.fapp_model.specs.search.Dead.{Dead}
+use Rattle.fapp_model.specs.search.Prefixes.{lists_along}
+use Rattle.fapp_model.specs.search.WorkOrder.{work_order}
 use Rattle.tries_laws.proofs.TriesParts.{tries-le}
 use Rattle.tries_laws.proofs.tries.tries_at_most_prefixes.Goals as goal
 

@@ -3,7 +3,7 @@ use Rattle.std.specs.Prelude.{◌≡◌, ℕ, ◌-◌, List, IsTrue}
 use Rattle.fapp_model.specs.declared.instance.Instance.{Instance}
 use Rattle.fapp_model.specs.declared.triple.Triple.{Triple}
 use Rattle.fapp_model.specs.Costs.{sum_under, violations}
-use Rattle.fapp_model.specs.Pairs.{Pair, IsPairBelow, limit_of}
+use Rattle.fapp_model.specs.search.Pairs.{Pair, IsPairBelow, limit_of}
 use Rattle.fapp_model.specs.Tags.{has_limit, mode_level}
 
 -- a plan's violations one level below a level, and their sum further below

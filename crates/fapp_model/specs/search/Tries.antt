@@ -5,9 +5,9 @@ use Rattle.fapp_model.specs.declared.instance.Instance.{Instance}
 use Rattle.fapp_model.specs.declared.literal.Literal.{Literal}
 use Rattle.fapp_model.specs.declared.triple.Triple.{Triple}
 use Rattle.fapp_model.specs.Assignments.{count_at}
-use Rattle.fapp_model.specs.Dead.{Dead}
-use Rattle.fapp_model.specs.Partials.{literal}
-use Rattle.fapp_model.specs.WorkOrder.{work_order}
+use Rattle.fapp_model.specs.search.Dead.{Dead}
+use Rattle.fapp_model.specs.search.Partials.{literal}
+use Rattle.fapp_model.specs.search.WorkOrder.{work_order}
 
 -- the sum of one number for each index below a count, where a relation says what numbers they may be
 pub record IsSumOver (count : ℕ) (IsPart : ℕ → ℕ → Type 0) (total : ℕ) : Type 0 where

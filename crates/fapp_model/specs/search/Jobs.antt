@@ -5,8 +5,8 @@ use Rattle.fapp_model.specs.declared.literal.Literal.{Literal}
 use Rattle.fapp_model.specs.declared.triple.Triple.{Triple}
 use Rattle.fapp_model.specs.Assignments.{count_at}
 use Rattle.fapp_model.specs.Levels.{levels_of}
-use Rattle.fapp_model.specs.Prefixes.{choice_lists}
-use Rattle.fapp_model.specs.WorkOrder.{work_order}
+use Rattle.fapp_model.specs.search.Prefixes.{choice_lists}
+use Rattle.fapp_model.specs.search.WorkOrder.{work_order}
 
 -- the most paths that a job's prefix names
 abbrev pub most_depth : ℕ

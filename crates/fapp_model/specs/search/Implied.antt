@@ -5,7 +5,7 @@ use Rattle.fapp_model.specs.declared.literal.Literal.{Literal}
 use Rattle.fapp_model.specs.declared.triple.Triple.{Triple}
 use Rattle.fapp_model.specs.Costs.{cost}
 use Rattle.fapp_model.specs.Least.{IsFeasible}
-use Rattle.fapp_model.specs.Partials.{Extends}
+use Rattle.fapp_model.specs.search.Partials.{Extends}
 use Rattle.fapp_model.specs.Triples.{IsBelow}
 
 -- no feasible assignment that has all the literals costs less than the tag

@@ -2,8 +2,8 @@
 use Rattle.std.specs.Prelude.{◌≡◌, ℕ, Bool, false, IsTrue}
 use Rattle.fapp_model.specs.declared.instance.Instance.{Instance}
 use Rattle.fapp_model.specs.declared.literal.Literal.{Literal}
-use Rattle.fapp_model.specs.Clashes.{shares_record, clashes}
-use Rattle.fapp_model.specs.Partials.{literal, IsLiteral}
+use Rattle.fapp_model.specs.search.Clashes.{shares_record, clashes}
+use Rattle.fapp_model.specs.search.Partials.{literal, IsLiteral}
 
 -- some choice of a path is in the family, with no hard-bad record between it and the literal
 pub record HasPartner (instance : Instance) (level : ℕ) (family : Literal → Bool) (a : Literal) (path : ℕ) : Type 0 where

@@ -3,10 +3,10 @@ use Rattle.std.specs.Prelude.{◌≡◌, ℕ, ◌+◌, ◌<◌, min, length, tak
 use Rattle.std.specs.List.{range_with_len}
 use Rattle.fapp_model.specs.declared.instance.Instance.{Instance}
 use Rattle.fapp_model.specs.Choices.{choices}
-use Rattle.fapp_model.specs.Jobs.{depth, job_count, job_level, job_prefix, target}
-use Rattle.fapp_model.specs.Prefixes.{lists_along}
-use Rattle.fapp_model.specs.Tries.{IsTries}
-use Rattle.fapp_model.specs.WorkOrder.{work_order}
+use Rattle.fapp_model.specs.search.Jobs.{depth, job_count, job_level, job_prefix, target}
+use Rattle.fapp_model.specs.search.Prefixes.{lists_along}
+use Rattle.fapp_model.specs.search.Tries.{IsTries}
+use Rattle.fapp_model.specs.search.WorkOrder.{work_order}
 
 -- the choices of all paths
 abbrev pub choice_total : Instance → ℕ

@@ -5,7 +5,7 @@ use Rattle.fapp_model.specs.declared.choice.Choice.{Choice}
 use Rattle.fapp_model.specs.declared.instance.Instance.{Instance}
 use Rattle.fapp_model.specs.declared.literal.Literal.{Literal}
 use Rattle.fapp_model.specs.declared.record.Record.{Record}
-use Rattle.fapp_model.specs.Partials.{choice_of}
+use Rattle.fapp_model.specs.search.Partials.{choice_of}
 use Rattle.fapp_model.specs.Records.{first_path, second_path, is_broken, is_bad}
 
 -- a record names one path first and the other second

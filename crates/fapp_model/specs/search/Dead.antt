@@ -4,13 +4,13 @@ use Rattle.std.specs.Prelude.{◌≡◌, ◌⊎◌, ℕ, ◌<◌, false, List, l
 use Rattle.fapp_model.specs.declared.instance.Instance.{Instance}
 use Rattle.fapp_model.specs.declared.literal.Literal.{Literal}
 use Rattle.fapp_model.specs.declared.triple.Triple.{Triple}
-use Rattle.fapp_model.specs.Arcs.{OutsideArc}
+use Rattle.fapp_model.specs.search.Arcs.{OutsideArc}
 use Rattle.fapp_model.specs.Assignments.{count_at}
-use Rattle.fapp_model.specs.Clashes.{clashes, clashes_with}
-use Rattle.fapp_model.specs.Pairs.{Pair, IsPairAtMost, limit_of}
-use Rattle.fapp_model.specs.Partials.{literal, names}
+use Rattle.fapp_model.specs.search.Clashes.{clashes, clashes_with}
+use Rattle.fapp_model.specs.search.Pairs.{Pair, IsPairAtMost, limit_of}
+use Rattle.fapp_model.specs.search.Partials.{literal, names}
 use Rattle.fapp_model.specs.Tags.{least_tag, has_limit, mode_level}
-use Rattle.fapp_model.specs.Weights.{added_pair, pair_with}
+use Rattle.fapp_model.specs.search.Weights.{added_pair, pair_with}
 
 -- a choice that is not outside, and has no hard-bad record between it and the literals
 pub record Remains (outside : Literal → Type 0) (instance : Instance) (level : ℕ) (literals : List Literal) (a : Literal) : Type 0 where

@@ -5,9 +5,9 @@ use Rattle.fapp_model.specs.declared.choice.Choice.{Choice}
 use Rattle.fapp_model.specs.declared.instance.Instance.{Instance}
 use Rattle.fapp_model.specs.declared.literal.Literal.{Literal}
 use Rattle.fapp_model.specs.declared.record.Record.{Record}
-use Rattle.fapp_model.specs.Clashes.{joins}
-use Rattle.fapp_model.specs.Pairs.{Pair}
-use Rattle.fapp_model.specs.Partials.{choice_of, names}
+use Rattle.fapp_model.specs.search.Clashes.{joins}
+use Rattle.fapp_model.specs.search.Pairs.{Pair}
+use Rattle.fapp_model.specs.search.Partials.{choice_of, names}
 use Rattle.fapp_model.specs.Records.{is_bad}
 
 -- 1 where a record is bad one level below a level
