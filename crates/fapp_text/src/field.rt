@@ -1,5 +1,6 @@
 ghost use Rattle.std.specs.Prelude.{◌≡◌, not, take, drop};
 ghost use Rattle.std.specs.List.{position, position_or_len};
+ghost use Rattle.std.specs.Str.{bytes_eq};
 ghost use Rattle.fapp_text.specs.Fields.{is_blank};
 
 /// The fields of a line, from its first on.
@@ -30,6 +31,13 @@ impl<'a> Fields<'a> {
         }
         Some(field)
     }
+}
+
+/// Whether a field is a word.
+pub fn is(field: &[u8], word: &[u8]) -> bool
+    ensures { result ≡ bytes_eq field.now word.now }
+{
+    field == word
 }
 
 fn is_blank(byte: u8) -> bool

@@ -1,15 +1,18 @@
 //! Texts of lines, fields and numbers: what formats of one record a line are read and written by.
 #![tactic(auto)]
 
+mod failure;
 mod field;
 mod laws;
 mod line;
 mod numeral;
 
-pub use field::Fields;
+pub use failure::{Failure, LineFault, failure_at, fault_at};
+pub use field::{Fields, is};
 pub use laws::{fields_law, lines_law};
-pub use line::Lines;
-pub use numeral::{MAX_NUMBER, NoMemory, NumFault, number, push_number};
+pub use line::{Lines, MAX_TEXT};
+pub use numeral::{MAX_NUMBER, NumFault, number, push_number, push_signed, sign};
+pub use std::alloc::AllocError as NoMemory;
 
 #[cfg(test)]
 mod tests {
