@@ -1,7 +1,9 @@
 ghost use Rattle.std.specs.Prelude.{◌≡◌, ◌+◌, ◌<◌, ◌≤◌, ◌∷◌, length};
 ghost use Rattle.std.specs.List.{position};
 ghost use Rattle.fapp_text.specs.Lines.{is_line_feed, lines};
-ghost use Rattle.fapp_text.specs.declared.line.TheConstants.{MAX_TEXT};
+ghost use Rattle.fapp_text.specs.Left.{LinesLeft, GivesLine};
+
+use std::marker::Model;
 
 /// The most bytes that a text of lines may have, so that each line has a number.
 pub const MAX_TEXT: usize = 1_073_741_824;
@@ -11,17 +13,26 @@ pub const MAX_TEXT: usize = 1_073_741_824;
 pub struct Lines<'a> {
     rest: &'a [u8],
     given: u32,
-    ghost few: { given + length rest.now ≤ MAX_TEXT },
+}
+
+impl<'a> Model for Lines<'a> {
+    ghost use Rattle.std.specs.Prelude.{◌+◌, ◌≤◌, length};
+    ghost use Rattle.fapp_text.specs.Lines.{lines};
+    ghost use Rattle.fapp_text.specs.Left.{LinesLeft};
+    ghost use Rattle.fapp_text.specs.declared.line.TheConstants.{MAX_TEXT};
+
+    ghost Value = { LinesLeft };
+
+    ghost view = { λ it. record { number = it.given + 1; lines = lines it.rest.now } };
+
+    ghost invariant = { λ it. it.given + length it.rest.now ≤ MAX_TEXT };
 }
 
 impl<'a> Lines<'a> {
-    ghost use Rattle.fapp_text.specs.Left.{lines_left, GivesLine};
-
     /// All lines of a text of at most `MAX_TEXT` bytes.
     pub fn new(bytes: &'a [u8]) -> Lines<'a>
         requires { length bytes.now ≤ MAX_TEXT }
-        ensures left { lines_left result ≡ lines bytes.now }
-        ensures given { result.given ≡ 0 }
+        ensures { result ≡ record { number = 1; lines = lines bytes.now } }
     {
         Lines {
             rest: bytes,

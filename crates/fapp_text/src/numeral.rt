@@ -1,12 +1,14 @@
 ghost use Rattle.std.specs.Prelude.{◌≡◌, ◌<◌, ◌++◌, OnOk, OnErr, decimal, length, IsTrue};
 ghost use Rattle.std.specs.List.{list_all};
 ghost use Rattle.std.specs.Fmt.{signed_decimal};
-ghost use Rattle.fapp_text.specs.Numbers.{is_digit, is_numeral, value, bounded, number_of};
+ghost use Rattle.fapp_text.specs.Numbers.{is_digit, is_numeral, value, bounded, number_of, fault_number};
 ghost use Rattle.fapp_text.specs.Signs.{sign_of};
 
 use crate::field::is;
 use itoa::Buffer;
 use std::alloc::AllocError as NoMemory;
+use std::error::Error;
+use std::fmt;
 
 /// The greatest number that a field may be.
 pub const MAX_NUMBER: u32 = 1_000_000_000;
@@ -15,10 +17,30 @@ pub const MAX_NUMBER: u32 = 1_000_000_000;
 #[derive(Clone, Copy, Debug, PartialEq, Eq)]
 pub enum NumFault {
     /// It is empty, or has a byte that is no decimal digit.
-    NotDigits,
+    NotDigits = 1,
     /// It is digits whose value is above `MAX_NUMBER`.
-    TooLarge,
+    TooLarge = 2,
 }
+
+impl NumFault {
+    /// Its number: 1 for `NotDigits`, 2 for `TooLarge`.
+    pub fn number(self) -> u8
+        ensures { result ≡ fault_number self }
+    {
+        self as u8
+    }
+}
+
+impl fmt::Display for NumFault {
+    fn fmt<W: fmt::Write>(&self, f: &mut fmt::Formatter<W>) -> fmt::Result {
+        match self {
+            NumFault::NotDigits => write!(f, "not digits"),
+            NumFault::TooLarge => write!(f, "above {MAX_NUMBER}"),
+        }
+    }
+}
+
+impl Error for NumFault {}
 
 /// The number that a field is: decimal digits, leading zeros too.
 pub fn number(field: &[u8]) -> Result<u32, NumFault>
