@@ -1,7 +1,7 @@
 -- Numbers of which one is greater than the one before it.
 use Rattle.std.proofs.Common.{◌≡◌, ℕ, suc, ◌+◌, ◌<◌, ◌≤◌, true, false, ltb, List, [], ◌∷◌, length, get_or, drop, refl, arith, drop-cons}
 use Rattle.std.proofs.lemmas.List.{drop_all}
-use Rattle.record_reader.specs.Rows.{rises, rises_after}
+use Rattle.record_reader.specs.Entries.{rises, rises_after}
 
 pub rises_first : (dist : List ℕ) (most : ℕ) → ((i : ℕ) → get_or dist i 0 ≤ most) → rises_after most dist ≡ rises dist
 rises_first [] most h = refl

@@ -1,15 +1,15 @@
-use fapp_model::Items;
+use fapp_model::MAX_LEVELS;
 
 /// `DM domain frequency`: the frequency is in the domain.
 #[derive(Clone, Copy, Debug)]
-pub struct DomainRow {
+pub struct DomainEntry {
     pub domain: u32,
     pub frequency: u32,
 }
 
 /// `TR number domain pol`: the next path. Its polarization is -1, 1 or, where it is free, 0.
 #[derive(Clone, Copy, Debug)]
-pub struct PathRow {
+pub struct PathEntry {
     pub line: u32,
     pub number: u32,
     pub domain: u32,
@@ -23,41 +23,34 @@ pub enum Rule {
     Freq { equal: bool, n: u32 },
     /// `P E x` or `P I x`: the polarizations are equal, or are not.
     Pol { equal: bool },
-    /// The least distances at equal polarizations.
-    Same { dist: [u32; 11] },
-    /// The least distances at different polarizations.
-    Other { dist: [u32; 11] },
+    /// The least distance of each level at equal polarizations, and 0 where there is no level.
+    Same { dist: [u32; MAX_LEVELS as usize] },
+    /// The least distance of each level at different polarizations, and 0 where there is no level.
+    Other { dist: [u32; MAX_LEVELS as usize] },
 }
 
-/// `CI first second` and a rule of the first two kinds, or `CE first second` or `CD first second` and eleven
-/// distances. `first` and `second` are numbers of paths.
+/// `CI first second` and a rule of the first two kinds, or `CE first second` or `CD first second` and a
+/// distance for each level. `first` and `second` are numbers of paths.
 #[derive(Clone, Copy, Debug)]
-pub struct ConstraintRow {
+pub struct ConstraintEntry {
     pub line: u32,
     pub first: u32,
     pub second: u32,
     pub rule: Rule,
 }
 
-/// A record that names what stands elsewhere in the text.
+/// What a line links: a path to its domain, or two paths to each other.
+#[derive(Clone, Copy, Debug)]
+pub enum Link {
+    Path(PathEntry),
+    Constraint(ConstraintEntry),
+}
+
+/// What a line says.
 #[derive(Clone, Copy, Debug)]
 pub enum Entry {
-    Path(PathRow),
-    Constraint(ConstraintRow),
-}
-
-/// The record of a line.
-#[derive(Clone, Copy, Debug)]
-pub enum Row {
-    Domain(DomainRow),
-    Entry(Entry),
-}
-
-/// The records of a text by their kinds, in order.
-#[derive(Debug, Drop)]
-pub struct Sheet {
-    pub domains: Items<DomainRow>,
-    pub entries: Items<Entry>,
+    Domain(DomainEntry),
+    Link(Link),
 }
 
 /// What the first field of a line names.
