@@ -27,8 +27,10 @@ RefusesAs refused NoMemory = Unit {0}
 
 -- a draft of one more link, or why the whole text refuses it
 abbrev pub Grows : Reader → List Link → Link → Result (Unit {0}) (Failure (LineFault Cause)) → Draft → Type 0
-Grows reader earlier link (Ok done) new = (link_refusal (domains_of reader) (paths_of reader.links) earlier link ≡ None) × IsDraft reader (earlier ++ link ∷ []) new
-Grows reader earlier link (Err failure) new = RefusesAs (fault_at (line_of link) (link_refusal (domains_of reader) (paths_of reader.links) earlier link)) failure
+Grows reader earlier link (Ok done) new =
+    (link_refusal (domains_of reader) (paths_of reader.links) earlier link ≡ None) × IsDraft reader (earlier ++ link ∷ []) new
+Grows reader earlier link (Err failure) new =
+    RefusesAs (fault_at (line_of link) (link_refusal (domains_of reader) (paths_of reader.links) earlier link)) failure
 
 -- the record between two positions, where both are known
 abbrev pub record_by : Option ℕ → Option ℕ → Rule → Option Record

@@ -35,7 +35,8 @@ numbers (text ∷ rest) = do
 
 -- whether a field is the first of two words and not the second
 abbrev pub either_word : List ℕ → List ℕ → List ℕ → Result Bool Cause
-either_word first second text = if bytes_eq text first then Ok true else (if bytes_eq text second then Ok false else Err BadWord)
+either_word first second text =
+    if bytes_eq text first then Ok true else (if bytes_eq text second then Ok false else Err BadWord)
 
 -- a sign, or 0 where the path is free
 abbrev pub polarization : List ℕ → Result ℤ Cause

@@ -52,7 +52,8 @@ record_between i j (Same dist) = records.Same i j dist
 record_between i j (Other dist) = records.Other i j dist
 
 abbrev pub record_of : List PathEntry → ConstraintEntry → Record
-record_of paths entry = record_between (unwrap_or (place_of paths entry.first) 0) (unwrap_or (place_of paths entry.second) 0) entry.rule
+record_of paths entry =
+    record_between (unwrap_or (place_of paths entry.first) 0) (unwrap_or (place_of paths entry.second) 0) entry.rule
 
 -- paths and constraint records in the order of their lines
 abbrev pub instance_of : Domains → List Link → Instance

@@ -20,7 +20,8 @@ use Rattle.record_reader.specs.Instances.{frequencies, paths_of, constraints_of,
 abbrev pub domain_refusal : List DomainEntry → DomainEntry → Option Cause
 domain_refusal earlier entry =
     if nat_le MAX_DOMAIN_RECORDS (length earlier) then Some TooManyValues
-    else (if nat_lt MAX_DOMAIN_FREQUENCIES (length (frequencies (earlier ++ entry ∷ []) entry.domain)) then Some DomainTooLarge else None)
+    else (if nat_lt MAX_DOMAIN_FREQUENCIES (length (frequencies (earlier ++ entry ∷ []) entry.domain)) then Some DomainTooLarge
+    else None)
 
 abbrev pub path_refusal : List PathEntry → PathEntry → Option Cause
 path_refusal earlier entry =

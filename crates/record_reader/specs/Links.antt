@@ -20,7 +20,8 @@ choice_count domains entry = length (choices (path_of domains entry))
 abbrev pub path_link_refusal : Domains → List PathEntry → PathEntry → Option Cause
 path_link_refusal domains earlier entry =
     if length (domains entry.domain) == 0 then Some UnknownDomain
-    else (if nat_lt MAX_CHOICES (sum_by (choice_count domains) (earlier ++ entry ∷ [])) then Some TooManyChoices else None)
+    else (if nat_lt MAX_CHOICES (sum_by (choice_count domains) (earlier ++ entry ∷ [])) then Some TooManyChoices
+    else None)
 
 -- one of its numbers is no path's
 abbrev pub constraint_link_refusal : List PathEntry → ConstraintEntry → Option Cause
@@ -48,4 +49,5 @@ or_later (Some first) later = Some first
 abbrev pub first_link_refusal : Domains → List PathEntry → List Link → List Link → Option (LineFault Cause)
 first_link_refusal domains paths earlier [] = None
 first_link_refusal domains paths earlier (link ∷ rest) =
-    or_later (fault_at (line_of link) (link_refusal domains paths earlier link)) (first_link_refusal domains paths (earlier ++ link ∷ []) rest)
+    or_later (fault_at (line_of link) (link_refusal domains paths earlier link))
+    (first_link_refusal domains paths (earlier ++ link ∷ []) rest)

@@ -24,7 +24,8 @@ frequencies_in domains domain = keys_of (get nat_cmp domains domain)
 -- each domain has the entry's frequency beside its own, if it is the entry's domain
 abbrev pub AddsFrequency : DomainEntry → BTreeMap ℕ (BTreeSet ℕ) → ℕ → BTreeMap ℕ (BTreeSet ℕ) → Type 0
 AddsFrequency entry old count new =
-    ((domain : ℕ) → frequencies_in new domain ≡ put_entry domain (frequencies_in old domain) entry) × (count ≡ length (frequencies_in new entry.domain))
+    ((domain : ℕ) → frequencies_in new domain ≡ put_entry domain (frequencies_in old domain) entry)
+    × (count ≡ length (frequencies_in new entry.domain))
 
 abbrev pub domains_of : Reader → Domains
 domains_of reader = frequencies_in reader.domains
@@ -44,12 +45,14 @@ pub record Holds (reader : Reader) (contents : Contents) : Type 0 where
   pub constraints : reader.constraints ≡ length (constraints_of contents.links)
 
 -- the reader holds what reading gives, or reading fails so
-abbrev pub HoldsRead : Result Contents (LineFault Cause) → Result (Unit {0}) (Failure (LineFault Cause)) → Reader → Type 0
+abbrev pub HoldsRead : Result Contents (LineFault Cause)
+    → Result (Unit {0}) (Failure (LineFault Cause)) → Reader → Type 0
 HoldsRead read (Ok done) reader = (contents : Contents) × (read ≡ Ok contents) × Holds reader contents
 HoldsRead read (Err failure) reader = Fails failure read
 
 -- what a line makes of each contents that the reader may hold
-abbrev pub Takes : (Contents → Result Contents (LineFault Cause)) → Reader → Result (Unit {0}) (Failure (LineFault Cause)) → Reader → Type 0
+abbrev pub Takes : (Contents → Result Contents (LineFault Cause))
+    → Reader → Result (Unit {0}) (Failure (LineFault Cause)) → Reader → Type 0
 Takes read old result new = (contents : Contents) → Holds old contents → HoldsRead (read contents) result new
 
 abbrev pub GivesReader : Result Contents (LineFault Cause) → Result Reader (Failure (LineFault Cause)) → Type 0

@@ -37,7 +37,8 @@ impl Draft {
         requires domains { AreDomains (domains_of reader.now) }
         requires entry { IsPathEntry entry }
         requires few { self.old.choices ≤ MAX_CHOICES }
-        ensures { (earlier : List Link) → IsDraft reader.now earlier self.old → Grows reader.now earlier (links.Path entry) result self.new }
+        ensures { (earlier : List Link) → IsDraft reader.now earlier self.old
+            → Grows reader.now earlier (links.Path entry) result self.new }
     {
         let path = path_of(alloc, &reader.domains, entry)?;
         if path.freqs.is_empty() {
@@ -55,7 +56,8 @@ impl Draft {
     /// Adds the record of an entry, if it names paths that are there.
     fn add_record(&mut self, reader: &Reader, entry: ConstraintEntry) -> Result<(), ReadError>
         requires { HasPositions reader.now.positions (paths_of reader.now.links) }
-        ensures { (earlier : List Link) → IsDraft reader.now earlier self.old → Grows reader.now earlier (links.Constraint entry) result self.new }
+        ensures { (earlier : List Link) → IsDraft reader.now earlier self.old
+            → Grows reader.now earlier (links.Constraint entry) result self.new }
     {
         match record_of(&reader.positions, &entry) {
             Some(record) => {
@@ -105,7 +107,8 @@ fn frequencies(
 
 /// The record of an entry, if the paths that it names have positions.
 fn record_of(positions: &BTreeMap<u32, u16>, entry: &ConstraintEntry) -> Option<Record>
-    ensures { result ≡ record_by (get nat_cmp positions.now entry.now.first) (get nat_cmp positions.now entry.now.second) entry.now.rule }
+    ensures { result ≡ record_by (get nat_cmp positions.now entry.now.first) (get nat_cmp positions.now entry.now.second)
+        entry.now.rule }
 {
     let first = *positions.get(&entry.first)?;
     let second = *positions.get(&entry.second)?;

@@ -60,7 +60,8 @@ impl Reader {
     }
 
     fn add_domain(&mut self, alloc: Global, line: u32, entry: DomainEntry) -> Result<(), ReadError>
-        ensures { Takes (λ contents. at_line line (read_entry contents (entries.Domain entry))) self.old result self.new }
+        ensures { Takes (λ contents. at_line line (read_entry contents (entries.Domain entry)))
+            self.old result self.new }
     {
         if is_full(self.domain_records, MAX_DOMAIN_RECORDS) {
             return Err(fault_at(line, Cause::TooManyValues));
@@ -74,7 +75,8 @@ impl Reader {
     }
 
     fn add_path(&mut self, line: u32, entry: PathEntry) -> Result<(), ReadError>
-        ensures { Takes (λ contents. at_line line (read_entry contents (entries.Link (links.Path entry)))) self.old result self.new }
+        ensures { Takes (λ contents. at_line line (read_entry contents (entries.Link (links.Path entry))))
+            self.old result self.new }
     {
         if self.positions.contains_key(&entry.number) {
             return Err(fault_at(line, Cause::DuplicatePath));
@@ -89,7 +91,8 @@ impl Reader {
     }
 
     fn add_constraint(&mut self, line: u32, entry: ConstraintEntry) -> Result<(), ReadError>
-        ensures { Takes (λ contents. at_line line (read_entry contents (entries.Link (links.Constraint entry)))) self.old result self.new }
+        ensures { Takes (λ contents. at_line line (read_entry contents (entries.Link (links.Constraint entry))))
+            self.old result self.new }
     {
         if is_full(self.constraints, MAX_RECORDS) {
             return Err(fault_at(line, Cause::TooManyRecords));
@@ -101,14 +104,16 @@ impl Reader {
 
     /// Takes a line, if the lines before it allow it. One without fields says nothing.
     fn add_line(&mut self, alloc: Global, line: u32, text: &[u8]) -> Result<(), ReadError>
-        ensures { Takes (λ contents. at_line line (read_line contents line (fields_of text.now))) self.old result self.new }
+        ensures { Takes (λ contents. at_line line (read_line contents line (fields_of text.now)))
+            self.old result self.new }
     {
         let fields = first_fields(alloc, text)?;
         self.add_fields(alloc, line, fields.as_slice())
     }
 
     fn add_fields(&mut self, alloc: Global, line: u32, fields: &[&[u8]]) -> Result<(), ReadError>
-        ensures { Takes (λ contents. at_line line (read_line contents line (map (λ x. x.now) fields.now))) self.old result self.new }
+        ensures { Takes (λ contents. at_line line (read_line contents line (map (λ x. x.now) fields.now)))
+            self.old result self.new }
     {
         if fields.is_empty() {
             return Ok(());
