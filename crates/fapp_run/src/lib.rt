@@ -8,6 +8,7 @@ mod status;
 mod top;
 mod words;
 
+pub use outcome::{MAX_INPUT, Outcome, answer};
 pub use status::Status;
 pub use top::run;
 

@@ -64,13 +64,3 @@ fn bad_input_line(alloc: Global, line: u32, cause: &str) -> Result<String, Alloc
     writeln!(text, "BADINPUT {line} {cause}")?;
     Ok(text)
 }
-
-/// There was no memory.
-#[derive(Clone, Copy, Debug, PartialEq, Eq)]
-pub struct NoMemory;
-
-impl From<AllocError> for NoMemory {
-    fn from(_: AllocError) -> Self {
-        NoMemory
-    }
-}
