@@ -4,5 +4,6 @@ pub mod Statuses
 pub mod Words
 pub mod PlanText
 pub mod Answers
+pub mod AnswerLaws
 pub mod Outcomes
 pub mod Runs
