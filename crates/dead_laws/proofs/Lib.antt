@@ -1,9 +1,4 @@
-pub mod TagParts
-pub mod Sums
-pub mod ClearLevels
-pub mod Violations
 pub mod CostLaws
-pub mod Anys
 pub mod RecordEnds
 pub mod ArcTest
 pub mod ImpliedLemmas
@@ -18,7 +13,7 @@ pub mod DeadFull
 pub mod BestChoices
 pub mod DeadMore
 pub mod DeadTests
-pub mod NetworksValid
-pub mod RowTests
+pub mod ExamplesValid
+pub mod ExampleTests
 pub mod TiedPair
 pub mod ThreeAlike

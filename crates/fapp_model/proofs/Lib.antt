@@ -1,1 +1,11 @@
 pub mod ChoiceLemmas
+pub mod Members
+pub mod InOrder
+pub mod Sums
+pub mod Anys
+pub mod WorkOrders
+pub mod LevelNumbers
+pub mod TagParts
+pub mod ClearLevels
+pub mod Violations
+pub mod CostParts

@@ -18,11 +18,11 @@ use Rattle.fapp_model.specs.Tags.{has_limit, least_tag, mode_level}
 use Rattle.fapp_model.specs.search.Tries.{IsTries, IsTriesBy}
 use Rattle.fapp_model.specs.search.WorkOrder.{work_order}
 use Rattle.tries_laws.specs.JobLaws.{IsDepth}
-use Rattle.tries_laws.specs.RowLaws.{IsFree}
+use Rattle.tries_laws.specs.ExampleLaws.{IsFree}
 use Rattle.tries_laws.proofs.AlivePlans.{IsClear, IsOf, not_dead}
 use Rattle.tries_laws.proofs.JobParts.{depth-is, depth-greatest, job-is, prefixes-all}
 use Rattle.tries_laws.proofs.PrefixParts.{prefix-is_partial}
-use Rattle.tries_laws.proofs.WorkOrders.{order-is, order-length}
+use Rattle.fapp_model.proofs.WorkOrders.{order-is, order-length}
 
 any-none : (p : Record → Bool) (rs : List Record) → rs ≡ [] → list_any p rs ≡ false
 any-none p rs e = ap (list_any p) e
