@@ -3,7 +3,6 @@ use Rattle.std.proofs.Common.{◌≡◌, ◌⊎◌, ℕ, ◌<◌, ◌≤◌, Lis
 use Rattle.std.specs.Prelude.{Ok, Err}
 use Rattle.fapp_model.specs.declared.instance.Instance.{Instance}
 use Rattle.fapp_model.specs.Least.{IsFeasible}
-use Rattle.record_reader.specs.declared.cause.BadInput.{BadInput as Refused}
 use Rattle.record_reader.specs.Texts.{instance_of_text}
 use Rattle.fapp_run.specs.declared.outcome.TheConstants.{MAX_INPUT}
 use Rattle.fapp_run.specs.declared.status.Status.{Status}
@@ -14,11 +13,9 @@ pub record IsLong (bytes : List ℕ) (status : Status) : Type 0 where
   pub long : MAX_INPUT < length bytes
   pub is : status ≡ TooLong
 
-pub record IsBad (bytes : List ℕ) (status : Status) : Type 0 where
-  pub short : length bytes ≤ MAX_INPUT
-  pub refused : Refused
-  pub read : instance_of_text bytes ≡ Err refused
-  pub is : status ≡ BadInput refused
+abbrev pub IsBad : List ℕ → Status → Type 0
+IsBad bytes status =
+    (refused : _) × (length bytes ≤ MAX_INPUT) × (instance_of_text bytes ≡ Err refused) × (status ≡ BadInput refused)
 
 pub record IsBest (bytes : List ℕ) (status : Status) : Type 0 where
   pub short : length bytes ≤ MAX_INPUT
@@ -41,7 +38,7 @@ Kind bytes status = IsLong bytes status ⊎ (IsBad bytes status ⊎ (IsBest byte
 kind : (bytes : List ℕ) (status : Status) (text : List ℕ) → Answers bytes status text → Kind bytes status
 unfolding Kind
 kind bytes TooLong text a = inl (record { long = a.0; is = refl })
-kind bytes (BadInput refused) text a = inr (inl (record { short = a.0; refused = refused; read = a.1; is = refl }))
+kind bytes (BadInput refused) text a = inr (inl (refused, a.0, a.1, refl))
 kind bytes Best text a =
     inr (inr (inl (record { short = a.0; instance = a.1; read = a.2; plan = a.3.0; feasible = a.3.1.feasible; is = refl })))
 kind bytes NoneFeasible text a = inr (inr (inr (record { short = a.0; instance = a.1; read = a.2; none = a.3.0; is = refl })))

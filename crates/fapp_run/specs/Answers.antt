@@ -9,13 +9,13 @@ use Rattle.fapp_run.specs.declared.status.Status.TheVariants.{Best, NoneFeasible
 use Rattle.fapp_run.specs.PlanText.{plan_text}
 use Rattle.fapp_run.specs.Statuses.{refusal_line}
 
--- a network's answer: its least plan in lines, or nothing where no plan is feasible
+-- an instance's answer: its least plan in lines, or nothing where no plan is feasible
 abbrev pub IsPlanOf : Instance → Status → List ℕ → Type 0
 IsPlanOf instance Best text = (plan : List ℕ) × Least instance plan × (text ≡ plan_text instance plan)
 IsPlanOf instance NoneFeasible text = ((plan : List ℕ) → IsFeasible instance plan → ⊥) × (text ≡ [])
 IsPlanOf instance _ text = ⊥
 
--- the answer to an input: that it is longer than the limit, or its first refused line, or that of the network whose
+-- the answer to an input: that it is longer than the limit, or its first refused line, or that of the instance whose
 -- text it is
 abbrev pub Answers : List ℕ → Status → List ℕ → Type 0
 Answers bytes TooLong text = (MAX_INPUT < length bytes) × (text ≡ refusal_line TooLong)

@@ -32,7 +32,7 @@ IsRun words source source' sink sink' status =
 abbrev pub IsAnswer : Status → Type 0
 IsAnswer status = (status ≡ Best) ⊎ ((status ≡ NoneFeasible) ⊎ (status ≡ NoMemory))
 
--- on the words that are taken, a text of a network within the limit, and no fault, the run ends with an answer
+-- on the words that are taken, a text of an instance within the limit, and no fault, the run ends with an answer
 abbrev pub Completes : List (String Global) → SourceMoment → SourceMoment → SinkMoment → SinkMoment → Status → Type 0
 Completes words source source' sink sink' status =
     (bytes : List ℕ) (instance : Instance) → ArePromised words

@@ -1,4 +1,4 @@
-// The least plan of a small network, by going through the plans. A front of a plan that breaks an imperative
+// The least plan of a small instance, by going through the plans. A front of a plan that breaks an imperative
 // record is not continued, and nothing is tried once a plan without any violation stands.
 ghost use Rattle.std.specs.Prelude.{◌≡◌, ℕ, ◌<◌, ◌≤◌, ◌↔◌, List, length, true, IsTrue, MatchBool, IfOk, OnOk, vec_len};
 ghost use Rattle.std.specs.List.{list_any};

@@ -24,8 +24,8 @@ pub struct Outcome {
     pub text: String,
 }
 
-/// The outcome for an input, given as its bytes: the least plan of the network whose text it is, or that no plan meets
-/// the network, the first refused line of another text, or `TooLong` for more than `MAX_INPUT` bytes. `run` answers
+/// The outcome for an input, given as its bytes: the least plan of the instance whose text it is, or that no plan meets
+/// the instance, the first refused line of another text, or `TooLong` for more than `MAX_INPUT` bytes. `run` answers
 /// just so to what it reads.
 pub fn answer(alloc: Global, bytes: &[u8]) -> Result<Outcome, NoMemory>
     ensures { IfOk result (λ outcome. Answers bytes.now outcome.status (string_bytes outcome.text)) }
@@ -40,7 +40,7 @@ pub fn answer(alloc: Global, bytes: &[u8]) -> Result<Outcome, NoMemory>
     }
 }
 
-/// The least plan of a network, as an outcome.
+/// The least plan of an instance, as an outcome.
 fn plan_outcome(alloc: Global, instance: &Instance) -> Result<Outcome, NoMemory>
     requires { IsInstance instance.now }
     ensures { IfOk result (λ outcome. IsPlanOf instance.now outcome.status (string_bytes outcome.text)) }

@@ -13,7 +13,7 @@ pub enum Status {
     NoneFeasible,
     /// The words are not `solve --answer-only`. Nothing was read.
     Usage,
-    /// The input is no text of a network: its first refused line, and why.
+    /// The input is no text of an instance: its first refused line, and why.
     BadInput(BadInput),
     /// The input has more bytes than the limit.
     TooLong,

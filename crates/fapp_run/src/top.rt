@@ -9,7 +9,7 @@ use crate::words::are_promised;
 use fapp_io::{NoMemory, ReadEnd, Sink, Source, WriteEnd, read_all, write_all};
 use std::alloc::Global;
 
-/// Does all that the program does, for the words after its name: reads a network, looks for its least plan and
+/// Does all that the program does, for the words after its name: reads an instance, looks for its least plan and
 /// writes it. All output is made before the first write.
 pub fn run<S: Source, K: Sink>(
     alloc: Global,
@@ -21,7 +21,7 @@ pub fn run<S: Source, K: Sink>(
     ensures run { IsRun words.now (S.moment source.old) (S.moment source.new)
         (K.moment sink.old) (K.moment sink.new) result }
 
-    // On the words that are taken, a text of a network and no fault, the answer is a plan or that there is none.
+    // On the words that are taken, a text of an instance and no fault, the answer is a plan or that there is none.
     ensures completes { Completes words.now (S.moment source.old) (S.moment source.new)
         (K.moment sink.old) (K.moment sink.new) result }
 {
