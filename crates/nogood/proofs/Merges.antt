@@ -1,11 +1,12 @@
 -- How far two lists of literals are merged.
-use Rattle.std.proofs.Common.{◌≡◌, ◌⊎◌, ℕ, ◌+◌, ◌<◌, ◌≤◌, List, [], ◌∷◌, ◌++◌, length, get_or, drop, All, Contains, refl, sym, subst, inl, inr, ⊎_elim, arith}
+use Rattle.std.proofs.Common.{◌≡◌, ◌⊎◌, ℕ, ◌+◌, ◌<◌, ◌≤◌, List, [], ◌∷◌, ◌++◌, length, get_or, drop, All, Contains, sym, subst, inl, inr, ⊎_elim, arith}
 use Rattle.std.proofs.lemmas.List.{append-nil, drop_all, drop_more}
-use Rattle.std.proofs.lemmas.List.Elements.{All-nil, All-cons, All-head, All-tail, All-push, All-append, All-weaker, All-contains, All-contains_itself, Contains-push, Contains-append_left, Contains-append_right}
+use Rattle.std.proofs.lemmas.List.Elements.{All-nil, All-cons, All-head, All-tail, All-push, All-append, All-weaker, Contains-push, Contains-append_left, Contains-append_right}
 use Rattle.std.proofs.lemmas.List.Quantifiers.{all_pairs_push}
 use Rattle.fapp_model.specs.declared.literal.Literal.{Literal}
 use Rattle.nogood.specs.Literals.{Agree, IsAscending, IsJoin}
-use Rattle.nogood.proofs.Members.{All-from_members, at_front, behind, front_or_behind, no_member, pairs-nil, pairs-head, pairs-tail, pairs-append}
+use Rattle.fapp_model.proofs.Members.{All-from_members, at_front, behind, front_or_behind, no_member}
+use Rattle.fapp_model.proofs.InOrder.{pairs-nil, pairs-head, pairs-tail, pairs-append}
 
 -- all of a list's paths are above a literal's
 abbrev pub IsUnder : List Literal → Literal → Type 0

@@ -1,6 +1,7 @@
 -- Operations on lists of literals.
 use Rattle.std.specs.Prelude.{◌≡◌, ◌⊎◌, ℕ, ◌<◌, not, ◌==◌, List, filter, All, AllPairs, Contains}
 use Rattle.fapp_model.specs.declared.literal.Literal.{Literal}
+use Rattle.fapp_model.specs.search.Partials.{HasAll}
 
 -- each literal's path is below that of the next one
 abbrev pub IsAscending : List Literal → Type 0
@@ -17,6 +18,6 @@ other_paths path literals = filter (λ a. not (a.path == path)) literals
 -- the literals of either list, each once, ascending by path
 pub record IsJoin (left right joined : List Literal) : Type 0 where
   pub ascending : IsAscending joined
-  pub has_left : All (Contains joined) left
-  pub has_right : All (Contains joined) right
+  pub has_left : HasAll joined left
+  pub has_right : HasAll joined right
   pub only : All (λ a. Contains left a ⊎ Contains right a) joined

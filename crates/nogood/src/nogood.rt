@@ -2,11 +2,10 @@ ghost use Rattle.std.specs.Prelude.{◌≡◌, ◌↔◌, All, Contains, IfOk, I
 ghost use Rattle.nogood.specs.Literals.{IsAscending, Agree, IsJoin, other_paths};
 ghost use Rattle.nogood.specs.Partials.{Gives};
 
-use std::alloc::{AllocError as NoMemory, Global};
-use std::marker::Model;
-
 use crate::Partial;
-use fapp_model::{Items, Literal};
+use fapp_model::{Items, Literal, NoMemory};
+use std::alloc::Global;
+use std::marker::Model;
 
 /// Literals of distinct paths, ascending by path: choices that can't all stand in a plan that is wanted.
 /// Contracts see the list.
@@ -84,11 +83,7 @@ impl Nogood {
 }
 
 /// The literals of two lists, ascending by path; one that stands in both stands once.
-fn merged(
-    alloc: Global,
-    left: &[Literal],
-    right: &[Literal],
-) -> Result<Vec<Literal>, NoMemory>
+fn merged(alloc: Global, left: &[Literal], right: &[Literal]) -> Result<Vec<Literal>, NoMemory>
     requires left { IsAscending left.now }
     requires right { IsAscending right.now }
     requires agree { Agree left.now right.now }

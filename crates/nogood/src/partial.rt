@@ -1,7 +1,8 @@
 ghost use Rattle.std.specs.Prelude.{◌≡◌, ◌<◌, length, replicate, slice_set, IfOk};
 ghost use Rattle.nogood.specs.Partials.{choice_given};
 
-use std::alloc::{AllocError as NoMemory, Global};
+use fapp_model::NoMemory;
+use std::alloc::Global;
 use std::marker::Model;
 
 /// The choices that were made so far, by path: an array with a choice's index for each path that is set.

@@ -1,7 +1,6 @@
-use Rattle.std.proofs.Common.{◌≡◌, ◌<◌, not, eqb, List, AllPairs, rules, ap, sym, ◌∙◌, subst}
+use Rattle.std.proofs.Common.{◌≡◌, ◌<◌, not, eqb, rules, ap, sym, ◌∙◌, subst}
 use Rattle.std.proofs.lemmas.Fn.{filter_same}
 use Rattle.std.proofs.lemmas.List.Kept.{AllPairs-filter}
-use Rattle.fapp_model.specs.declared.literal.Literal.{Literal}
 use Rattle.nogood.specs.Literals.{IsAscending, other_paths}
 use Rattle.nogood.proofs.nogood.Nogood.without.Goals as goal
 
