@@ -1,4 +1,4 @@
--- Networks without records, of which each path has one choice: they are tried path by path.
+-- Instances without records, of which each path has one choice: they are tried path by path.
 use Rattle.std.proofs.Common.{◌≡◌, ℕ, ◌+◌, ◌-◌, ◌*◌, ◌<◌, Bool, false, List, [], ◌∷◌, ◌++◌, length, take, drop, All, sum_by, refl, sym, ap, ◌∙◌, subst, inr, arith, zero-add}
 use Rattle.std.specs.List.{range_with_len, list_any}
 use Rattle.std.proofs.lemmas.List.{length-drop}
@@ -18,7 +18,7 @@ use Rattle.fapp_model.specs.Tags.{has_limit, least_tag, mode_level}
 use Rattle.fapp_model.specs.search.Tries.{IsTries, IsTriesBy}
 use Rattle.fapp_model.specs.search.WorkOrder.{work_order}
 use Rattle.tries_laws.specs.JobLaws.{IsDepth}
-use Rattle.tries_laws.specs.RowLaws.{IsFree}
+use Rattle.tries_laws.specs.ExampleLaws.{IsFree}
 use Rattle.tries_laws.proofs.AlivePlans.{IsClear, IsOf, not_dead}
 use Rattle.tries_laws.proofs.JobParts.{depth-is, depth-greatest, job-is, prefixes-all}
 use Rattle.tries_laws.proofs.PrefixParts.{prefix-is_partial}
