@@ -1,0 +1,3 @@
+pub mod Measures
+pub mod Heights
+pub mod Indexes
