@@ -1,2 +1,4 @@
 pub mod HeightLaws
 pub mod PairLaws
+pub mod DegreeLaws
+pub mod LinkLaws

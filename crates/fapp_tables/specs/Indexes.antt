@@ -1,10 +1,10 @@
 -- Which paths share a record, and which records two paths share.
-use Rattle.std.specs.Prelude.{ℕ, ◌+◌, true, Bool, ◌||◌, ◌==◌, List, length, filter, slice_index_or, sum_by, if◌then◌else◌}
+use Rattle.std.specs.Prelude.{ℕ, ◌+◌, false, Bool, ◌||◌, ◌==◌, List, length, filter, slice_index_or, sum_by, if◌then◌else◌}
 use Rattle.std.specs.List.{range_with_len}
 use Rattle.fapp_model.specs.declared.choice.Choice.{Choice}
 use Rattle.fapp_model.specs.declared.instance.Instance.{Instance}
 use Rattle.fapp_model.specs.declared.record.Record.{Record}
-use Rattle.fapp_model.specs.declared.record.Record.TheVariants.{Pol}
+use Rattle.fapp_model.specs.declared.record.Record.TheVariants.{Freq}
 use Rattle.fapp_model.specs.search.Clashes.{joins, shares_record}
 use Rattle.fapp_model.specs.Records.{first_path}
 
@@ -14,7 +14,7 @@ touches path other r = joins path other r || joins other path r
 
 -- what stands past the end of a list of records
 abbrev pub no_record : Record
-no_record = Pol 0 0 true
+no_record = Freq 0 0 false 0
 
 abbrev pub record_at : Instance → ℕ → Record
 record_at instance position = slice_index_or instance.records position no_record

@@ -2,7 +2,11 @@
 #![tactic(auto)]
 
 mod counts;
+mod links;
+mod order;
 mod pairs;
 
 pub use counts::{Counts, record_counts, record_height};
+pub use links::{Link, sorted_links};
+pub use order::{Place, work_order};
 pub use pairs::pair_counts;
