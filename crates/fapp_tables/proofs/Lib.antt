@@ -2,3 +2,4 @@ pub mod HeightLaws
 pub mod PairLaws
 pub mod DegreeLaws
 pub mod LinkLaws
+pub mod RankLaws
