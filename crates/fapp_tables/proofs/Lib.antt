@@ -3,3 +3,4 @@ pub mod PairLaws
 pub mod DegreeLaws
 pub mod LinkLaws
 pub mod RankLaws
+pub mod PlaceLaws

@@ -4,7 +4,7 @@ use Rattle.std.specs.List.{range_with_len}
 use Rattle.std.proofs.lemmas.List.{flat_map_more}
 use Rattle.std.specs.List.{AllAdjacentBelow}
 use Rattle.std.specs.List.Sorted.{IsPermutation}
-use Rattle.std.proofs.lemmas.Bool.{and_from, and_parts, eq-eqb, eqb-true, or_cases}
+use Rattle.std.proofs.lemmas.Bool.{and_from, and_parts, eq-eqb, eqb-true, or_cases, or_right}
 use Rattle.std.proofs.lemmas.List.Elements.{All-nil, All-cons, Contains-get_or}
 use Rattle.std.proofs.lemmas.List.Sorted.{Contains-permutation, IsPermutation-sym, IsNonDecreasingBy-from_all_adjacent}
 use Rattle.std.proofs.lemmas.List.FromFn.{length-range_with_len, get_or-range_with_len}
@@ -84,10 +84,6 @@ pub links_apart : (instance : Instance) → IsInstance instance → AllPairs Apa
 links_apart instance valid =
     let n = length instance.records in
     pairs-flat_map Apart (links_at instance) (range_with_len 0 n) (within instance n valid (omega arith)) (across instance n valid (omega arith))
-
-or_right : (x y : Bool) → y ≡ true → (x || y) ≡ true
-or_right true y e = refl
-or_right false y e = e
 
 touches_both : (r : Record) → touches (first_path r) (second_path r) r ≡ true
 touches_both r = rw (and_from _ _ (eq-eqb (first_path r) (first_path r) refl) (eq-eqb (second_path r) (second_path r) refl)) refl

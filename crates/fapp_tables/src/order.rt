@@ -24,6 +24,13 @@ pub fn work_order(alloc: Global, instance: &Instance) -> Result<Vec<u16>, NoMemo
 {
     let mut places = places_of(alloc, instance)?;
     sort_places(&mut places);
+    paths_of(alloc, &places)
+}
+
+/// The paths of places, in their order.
+fn paths_of(alloc: Global, places: &[Place]) -> Result<Vec<u16>, NoMemory>
+    ensures { IfOk result (λ paths. paths.items ≡ map (λ p. p.path) places.now) }
+{
     places.iter().map(|place| place.path).collect(alloc)
 }
 
