@@ -4,3 +4,5 @@ pub mod DegreeLaws
 pub mod LinkLaws
 pub mod RankLaws
 pub mod PlaceLaws
+pub mod FilterLaws
+pub mod RunLaws
