@@ -6,3 +6,4 @@ pub mod RankLaws
 pub mod PlaceLaws
 pub mod FilterLaws
 pub mod RunLaws
+pub mod IndexLaws

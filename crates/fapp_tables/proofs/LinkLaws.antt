@@ -6,7 +6,7 @@ use Rattle.std.specs.List.{AllAdjacentBelow}
 use Rattle.std.specs.List.Sorted.{IsPermutation}
 use Rattle.std.proofs.lemmas.Bool.{and_from, and_parts, eq-eqb, eqb-true, or_cases, or_right}
 use Rattle.std.proofs.lemmas.List.Elements.{All-nil, All-cons, Contains-get_or}
-use Rattle.std.proofs.lemmas.List.Sorted.{Contains-permutation, IsPermutation-sym, IsNonDecreasingBy-from_all_adjacent}
+use Rattle.std.proofs.lemmas.List.Sorted.{length_permutation, Contains-permutation, IsPermutation-sym, IsNonDecreasingBy-from_all_adjacent}
 use Rattle.std.proofs.lemmas.List.FromFn.{length-range_with_len, get_or-range_with_len}
 use Rattle.fapp_model.specs.declared.instance.Instance.{Instance}
 use Rattle.fapp_model.specs.declared.record.Record.{Record}
@@ -142,10 +142,16 @@ rank_at_most a b oa ob pa pb (inl less) = omega arith
 rank_at_most a b oa ob pa pb (inr (same, inl less)) = omega arith
 rank_at_most a b oa ob pa pb (inr (same, inr (also, most))) = omega arith
 
+-- two links a record
+two_each : (instance : Instance) (a n : ℕ) → length (flat_map (links_at instance) (range_with_len a n)) ≡ 2 * n
+two_each instance a zero = refl
+two_each instance a (suc n) = omega (arith, two_each instance (a + 1) n)
+
 -- links in order rise, and are all
 pub sorted_links : (instance : Instance) (links sorted : List Link) → IsInstance instance → links ≡ flat_map (links_at instance) (range_with_len 0 (length instance.records)) →
     IsPermutation links sorted → AllAdjacentBelow IsNotAfter sorted (length sorted) → AreSortedLinks instance sorted
 sorted_links instance links sorted valid is moved ordered = record {
+  count = length_permutation links sorted moved ∙ (ap length is ∙ two_each instance 0 (length instance.records));
   members = λ a. (λ m. is_link a m, λ h. Contains-permutation links sorted a moved (subst (λ xs. Contains xs a) (sym is) (to_links instance a h)));
   rising = rising_ranks link_rank links sorted (subst (AllPairs Apart) (sym is) (links_apart instance valid)) moved
       (IsNonDecreasingBy-from_all_adjacent link_rank sorted (λ k d inside.

@@ -134,7 +134,7 @@ module _ (links : List Link) (rises : AllPairs (λ a b. link_rank a < link_rank 
     ]
   ]
 
-  next_within : (x : ℕ) → x < length (run_places links) → first (x + 1) ≤ length links
+  pub next_within : (x : ℕ) → x < length (run_places links) → first (x + 1) ≤ length links
   next_within x inside = elim (cases_lt (x + 1) (length (run_places links))) [
     | inl less ↦ let at = begins_at (x + 1) less in omega (arith, at.inside)
     | inr more ↦ let same : x + 1 ≡ length (run_places links) = omega arith in omega (arith, ap first same, at_end)

@@ -30,5 +30,6 @@ link_rank a = pair_rank a * 4294967296 + a.position
 
 -- all links of an instance, each once, in order
 pub record AreSortedLinks (instance : Instance) (links : List Link) : Type 0 where
+  pub count : length links ≡ 2 * length instance.records
   pub members : (a : Link) → Contains links a ↔ IsLink instance a
   pub rising : AllPairs (λ a b. link_rank a < link_rank b) links
