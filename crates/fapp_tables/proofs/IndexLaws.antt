@@ -5,6 +5,9 @@ use Rattle.std.proofs.lemmas.Bool.{cases_lt, eqb-true, eq-eqb, ne_eqb}
 use Rattle.std.proofs.lemmas.List.{get_or_default, get_or-map, length-map, length_push, length-take, length-drop, get_or-take, get_or-drop, take-map, drop-map}
 use Rattle.std.proofs.lemmas.List.Elements.{Contains-get_or}
 use Rattle.std.proofs.lemmas.List.Kept.{AllPairs-filter}
+use Rattle.std.proofs.lemmas.List.FromFn.{length-range_with_len}
+use Rattle.std.proofs.lemmas.List.Sums.{length-filter, count_by-le-length}
+use Rattle.std.specs.List.Sorted.{IsNonDecreasingBy}
 use Rattle.fapp_model.specs.declared.instance.Instance.{Instance}
 use Rattle.fapp_model.specs.Instances.{IsInstance}
 use Rattle.fapp_model.specs.search.Clashes.{shares_record}
@@ -16,7 +19,7 @@ use Rattle.fapp_tables.specs.declared.runs.Runs.{Runs as RunsOfLinks}
 use Rattle.fapp_tables.specs.Indexes.{neighbours_of, records_of, record_at, no_record, touches}
 use Rattle.fapp_tables.specs.Links.{AreSortedLinks, IsLink, link_rank, pair_rank}
 use Rattle.fapp_tables.specs.Parts.{AreIndexes, HasPart}
-use Rattle.fapp_tables.specs.Runs.{AreRuns, IsStart, link_at, no_link, run_places}
+use Rattle.fapp_tables.specs.Runs.{AreRuns, IsStart, begins_run, link_at, no_link, run_places}
 use Rattle.fapp_tables.proofs.FilterLaws.{filter_run}
 use Rattle.fapp_tables.proofs.LinkLaws.{names_two}
 use Rattle.fapp_tables.proofs.RunLaws.{IsSmall, first_is, begins_at, at_end, first-up, before_run, run_is, of_run, length-firsts, next_within}
@@ -163,3 +166,92 @@ module _ (instance : Instance) (valid : IsInstance instance) (links : List Link)
           let both = same_pair h path z tiny.other low (ap pair_rank is_head ∙ (run.is ∙ ap pair_rank at)) in
           subst (λ q. Contains (map (λ (a : Link). a.other) (of_path path)) q) both.1
           (in-map (λ (a : Link). a.other) (of_path path) h (in-filter (λ (a : Link). eqb a.path path) heads h mh (eq-eqb h.path path both.0)))
+
+  pub paths-rise : IsNonDecreasingBy (λ (a : Link). a.path) heads
+  paths-rise i j d most inside = elim (cases_lt i j) [
+    | inl less ↦
+        let up = heads-rise i j d less inside in
+        let tiny = small_link (get_or heads j d) (head_in (get_or heads j d) (Contains-get_or heads j d inside)) in
+        let also = small_link (get_or heads i d) (head_in (get_or heads i d) (Contains-get_or heads i d (omega arith))) in
+        omega (arith, up, tiny.other, also.other)
+    | inr more ↦ let same : i ≡ j = omega arith in omega (arith, ap (λ k. (get_or heads k d).path) same)
+  ]
+
+  pub few_heads : length heads ≤ length links
+  few_heads = omega (arith, length-heads, count_by-le-length (begins_run links) (range_with_len 0 (length links)), length-filter (begins_run links) (range_with_len 0 (length links)), length-range_with_len 0 (length links))
+
+  -- the heads of a path stand from its start to that of the next path
+  record OfPath (path start end : ℕ) : Type 0 where
+    forward : start ≤ end
+    within : end ≤ length heads
+    is : of_path path ≡ slice_range heads start end
+
+  heads_of : (path start end : ℕ) → IsStart heads path start → IsStart heads (path + 1) end → OfPath path start end
+  heads_of path start end h k = record {
+    forward = forward;
+    within = k.within;
+    is = filter_run (λ a. eqb a.path path) heads start end forward k.within
+        (λ x d below. ne_eqb _ _ (λ e. omega (arith, e, h.before x d (omega arith) below)))
+        (λ x d least below. eq-eqb _ _ (omega (arith, h.behind x d least (omega (arith, k.within)), k.before x d (omega arith) below)))
+        (λ x d least inside. ne_eqb _ _ (λ e. omega (arith, e, k.behind x d least inside)));
+  }
+    where
+      forward : start ≤ end
+      forward = elim (cases_lt end start) [
+        | inl less ↦ absurd (omega (arith, h.before end no_link (omega arith) less, k.behind end no_link (omega arith) (omega (arith, h.within))))
+        | inr most ↦ most
+      ]
+
+  module _ (starts neighbours firsts positions : List ℕ) (whole : length starts ≡ length instance.paths + 1)
+      (starting : (path : ℕ) → path ≤ length instance.paths → IsStart heads path (slice_index starts path))
+      (others : neighbours ≡ map (λ (a : Link). a.other) heads) (places : positions ≡ map (λ (a : Link). a.position) links)
+      (begin : firsts ≡ run_places links ++ length links ∷ []) where
+    abbrev start : ℕ → ℕ
+    start path = slice_index starts path
+
+    of : (path : ℕ) → path < length instance.paths → OfPath path (start path) (start (path + 1))
+    of path inside = heads_of path (start path) (start (path + 1)) (starting path (omega arith)) (starting (path + 1) (omega arith))
+
+    neighbours_part : (path : ℕ) → path < length instance.paths → HasPart starts neighbours path (neighbours_of instance path)
+    neighbours_part path inside =
+        let at = of path inside in
+        record {
+          inside = omega (arith, whole);
+          forward = at.forward;
+          within = omega (arith, at.within, ap length others, length-map heads (λ (a : Link). a.other));
+          is = ap (λ xs. slice_range xs (start path) (start (path + 1))) others ∙ (map-range (λ (a : Link). a.other) heads (start path) (start (path + 1))
+              ∙ (ap (map (λ (a : Link). a.other)) (sym at.is) ∙ neighbours_are path));
+        }
+
+    records_part : (path place : ℕ) → path < length instance.paths → place < length (neighbours_of instance path) →
+        HasPart firsts positions (start path + place) (records_of instance path (slice_index (neighbours_of instance path) place))
+    records_part path place inside in_place =
+        let at = of path inside in
+        let near = neighbours_part path inside in
+        let x = start path + place in
+        let short : place < start (path + 1) - start path = omega (arith, in_place, ap length near.is, length-range neighbours (start path) (start (path + 1)) near.forward near.within) in
+        let in_heads : x < length heads = omega (arith, at.within) in
+        let in_runs : x < length (run_places links) = omega (arith, in_heads, length-heads) in
+        let a = link_at links (first x) in
+        let is_head : get_or heads x no_link ≡ a = head_at x no_link in_runs in
+        let same_path : a.path ≡ path =
+        omega (arith, ap (λ (h : Link). h.path) is_head, (starting path (omega arith)).behind x no_link (omega arith) in_heads, (starting (path + 1) (omega arith)).before x no_link (omega arith) (omega arith)) in
+        let same_other : a.other ≡ slice_index (neighbours_of instance path) place =
+        sym (ap (λ xs. slice_index xs place) (sym near.is) ∙ (get_or-range neighbours (start path) (start (path + 1)) place 0 short
+        ∙ (ap (λ xs. slice_index xs x) others ∙ (get_or-map (λ (h : Link). h.other) heads x no_link 0 in_heads ∙ ap (λ (h : Link). h.other) is_head)))) in
+        let up = first-up links sorted.rising small_at x (x + 1) (omega arith) (omega (arith, length-firsts links sorted.rising small_at)) in
+        let low = small_link a (head_in a (subst (Contains heads) is_head (Contains-get_or heads x no_link in_heads))) in
+        record {
+          inside = omega (arith, ap length begin, length-firsts links sorted.rising small_at);
+          forward = omega (arith, up, ap (λ xs. slice_index xs x) begin, ap (λ xs. slice_index xs (x + 1)) begin);
+          within = omega (arith, next_within links sorted.rising small_at x in_runs, ap (λ xs. slice_index xs (x + 1)) begin, ap length places, length-map links (λ (h : Link). h.position));
+          is = ap (λ xs. slice_range positions (slice_index xs x) (slice_index xs (x + 1))) begin
+              ∙ (ap (λ xs. slice_range xs (first x) (first (x + 1))) places
+              ∙ (map-range (λ (h : Link). h.position) links (first x) (first (x + 1))
+              ∙ (ap (map (λ (h : Link). h.position)) (sym (run_is links sorted.rising small_at x in_runs))
+              ∙ (ap (λ n. map (λ (h : Link). h.position) (of_pair n)) (ap (λ p. p * 65536 + a.other) same_path)
+              ∙ (records_are path a.other low.other ∙ ap (records_of instance path) same_other)))));
+        }
+
+    pub are_indexes : AreIndexes instance starts neighbours firsts positions
+    are_indexes = record { neighbours_at = neighbours_part; records_at = records_part }
