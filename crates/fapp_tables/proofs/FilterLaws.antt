@@ -7,7 +7,7 @@ use Rattle.std.proofs.lemmas.List.Folds.{drop_split}
 use Rattle.fapp_tables.proofs.HeightLaws.{range_more}
 
 module _ {X : Type 0} (test : X → Bool) where
-  filter-none : (xs : List X) → All (λ x. test x ≡ false) xs → filter test xs ≡ []
+  pub filter-none : (xs : List X) → All (λ x. test x ≡ false) xs → filter test xs ≡ []
   filter-none [] h = refl
   filter-none (x ∷ xs) h = rw (All-head (λ x. test x ≡ false) x xs h) (filter-none xs (All-tail (λ x. test x ≡ false) x xs h))
 

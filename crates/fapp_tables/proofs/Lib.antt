@@ -7,3 +7,4 @@ pub mod PlaceLaws
 pub mod FilterLaws
 pub mod RunLaws
 pub mod IndexLaws
+pub mod PartLaws

@@ -1,17 +1,27 @@
-use Rattle.std.proofs.Common.{rules, ◌≡◌, ◌<◌, length, slice_index, IfOk, ℕ, ◌+◌, ◌-◌, ◌*◌, ◌≤◌, ◌/◌, ◌%◌, Bool, true, false, nat_eq, nat_lt, List, [], ◌∷◌, ◌++◌, slice_index_or, slice_set, bit_and, bit_or, Fits, w8, w32, w64, Bor, MutBor}
-use Rattle.fapp_model.specs.Instances.{IsInstance}
-use Rattle.fapp_model.specs.search.WorkOrder.{work_order}
-use Rattle.fapp_tables.specs.Indexes.{neighbours_of, records_of}
+use Rattle.std.proofs.Common.{◌≡◌, ◌+◌, List, length, slice_index, ap, sym, subst, ◌∙◌, arith}
+use Rattle.std.specs.List.{slice_range}
+use Rattle.std.proofs.lemmas.List.{get_or_read}
+use Rattle.fapp_tables.proofs.PartLaws.{run_at}
 use Rattle.fapp_tables.proofs.tables.Tables.records_at.Goals as goal
 
--- src/tables.rt:91:25
 pub index-requires-2 : goal.index-requires-2
-index-requires-2 c = ?
+index-requires-2 c =
+    let run = run_at c.self.inside.instance.now c.args.self.now c.self.inside.starts.items c.self.inside.neighbours.items c.self.inside.firsts.items c.self.inside.positions.items
+    c.args.path c.args.place c.index.result.now c.self.view_is c.self.invariant.indexed c.requires.path c.requires.place c.index.ensures in
+    omega (arith, run.inside)
 
--- src/tables.rt:91:64
 pub overflow_add-run-2 : goal.overflow_add-run-2
-overflow_add-run-2 c = ?
+overflow_add-run-2 c =
+    let run = run_at c.self.inside.instance.now c.args.self.now c.self.inside.starts.items c.self.inside.neighbours.items c.self.inside.firsts.items c.self.inside.positions.items
+    c.args.path c.args.place c.index.result.now c.self.view_is c.self.invariant.indexed c.requires.path c.requires.place c.index.ensures in
+    omega (arith, run.inside)
 
--- src/tables.rt:91:9
 pub slice_bounds-result-count : goal.slice_bounds-result-count
-slice_bounds-result-count c = ?
+slice_bounds-result-count c =
+    let run = run_at c.self.inside.instance.now c.args.self.now c.self.inside.starts.items c.self.inside.neighbours.items c.self.inside.firsts.items c.self.inside.positions.items
+    c.args.path c.args.place c.index.result.now c.self.view_is c.self.invariant.indexed c.requires.path c.requires.place c.index.ensures in
+    let firsts = c.self.inside.firsts.items in
+    let k = c.index.result.now + c.args.place in
+    let low = get_or_read firsts k c.index-2.result.now (omega (arith, run.inside)) c.index-2.ensures 0 in
+    let high = get_or_read firsts (k + 1) c.index-3.result.now run.inside c.index-3.ensures 0 in
+    omega (arith, low, high, run.forward)
