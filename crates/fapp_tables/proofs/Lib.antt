@@ -8,3 +8,4 @@ pub mod FilterLaws
 pub mod RunLaws
 pub mod IndexLaws
 pub mod PartLaws
+pub mod ClashLaws

@@ -19,7 +19,7 @@ flips x y = elim (cases_eq x y) [
 pub rising_ranks : {X : Type 0} (rank : X → ℕ) (xs ys : List X) → AllPairs (λ a b. rank a ≢ rank b) xs → IsPermutation xs ys → IsNonDecreasingBy rank ys → AllPairs (λ a b. rank a < rank b) ys
 rising_ranks rank xs ys apart moved ordered i j d before inside =
     let distinct = IsDistinct-IsPermutation eqb flips (map rank xs) (map rank ys) (IsPermutation-map rank xs ys moved)
-        (IsDistinct-from_AllPairs Decides-eqb (map rank xs) (pairs-map (λ a b. a ≢ b) rank xs apart)) in
+    (IsDistinct-from_AllPairs Decides-eqb (map rank xs) (pairs-map (λ a b. a ≢ b) rank xs apart)) in
     let differ : get_or (map rank ys) i 0 ≢ get_or (map rank ys) j 0 = AllPairs-from_IsDistinct Decides-eqb (map rank ys) distinct i j 0 before (omega (arith, length-map ys rank)) in
     let at_i = get_or-map rank ys i d 0 (omega arith) in
     let at_j = get_or-map rank ys j d 0 inside in

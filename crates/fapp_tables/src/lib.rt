@@ -9,8 +9,6 @@ mod runs;
 mod tables;
 
 pub use counts::{Counts, record_counts, record_height};
-pub use links::{Link, sorted_links};
-pub use order::{Place, work_order};
-pub use pairs::pair_counts;
-pub use runs::{Runs, runs_of, starts_of, others_of, positions_of};
+pub use links::Link;
+pub use pairs::{pair_clashes, pair_counts};
 pub use tables::Tables;

@@ -4,9 +4,8 @@ ghost use Rattle.std.specs.List.Sorted.{IsPermutation};
 ghost use Rattle.fapp_model.specs.Instances.{IsInstance};
 ghost use Rattle.fapp_tables.specs.Links.{AreSortedLinks, IsNotAfter, links_at};
 
-use std::alloc::Global;
-
 use fapp_model::{Instance, NoMemory};
+use std::alloc::Global;
 
 /// A record, as seen from one of the two paths that it names. Links are ordered by path, other path and position.
 #[derive(Clone, Copy, Debug, PartialEq, Eq, PartialOrd, Ord)]

@@ -5,10 +5,9 @@ ghost use Rattle.fapp_model.specs.Instances.{IsInstance};
 ghost use Rattle.fapp_model.specs.search.WorkOrder.{degree, work_order};
 ghost use Rattle.fapp_tables.specs.Places.{IsNext, place_of};
 
+use fapp_model::{Instance, NoMemory};
 use std::alloc::Global;
 use std::cmp::Reverse;
-
-use fapp_model::{Instance, NoMemory};
 
 /// A path's place in the work order: those that more records name come first, then those that stand earlier.
 #[derive(Clone, Copy, Debug, PartialEq, Eq, PartialOrd, Ord)]

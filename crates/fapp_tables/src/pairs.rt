@@ -1,6 +1,7 @@
 ghost use Rattle.std.specs.Prelude.{◌≡◌, ◌≢◌, ◌≤◌, ◌<◌, ◌+◌, ◌*◌, length};
 ghost use Rattle.fapp_model.specs.Instances.{IsInstance};
-ghost use Rattle.fapp_tables.specs.Indexes.{between_choices, record_at, records_of, turned};
+ghost use Rattle.fapp_model.specs.search.Clashes.{is_hard_bad};
+ghost use Rattle.fapp_tables.specs.Indexes.{between_choices, clashes_between, record_at, records_of, turned, turned_bad};
 ghost use Rattle.fapp_tables.specs.Measures.{coded_part, hard_part};
 
 use crate::{Counts, record_counts};
@@ -37,6 +38,55 @@ fn turned_counts(
     } else {
         record_counts(constraint, level, second, first)
     }
+}
+
+/// Whether a record is hard-bad at a level between a choice of its first path and one of its second.
+fn is_hard_bad(constraint: &Record, level: u32, first: Choice, second: Choice) -> bool
+    ensures { result ≡ is_hard_bad level constraint.now first second }
+{
+    constraint.is_broken(first, second) || constraint.is_bad(level, first, second)
+}
+
+/// Whether a record of a path is hard-bad at a level, by the path's choice and the other path's.
+fn is_turned_bad(
+    instance: &Instance,
+    position: u32,
+    level: u32,
+    path: u16,
+    first: Choice,
+    second: Choice,
+) -> bool
+    requires { position < length instance.now.records }
+    ensures { result ≡ turned_bad level path first second (record_at instance.now position) }
+{
+    let constraint = record_at(instance, position);
+    if constraint.first_path() == path {
+        is_hard_bad(constraint, level, first, second)
+    } else {
+        is_hard_bad(constraint, level, second, first)
+    }
+}
+
+/// Whether some record is hard-bad at a level between a choice of a path and one of another path.
+pub fn pair_clashes(
+    instance: &Instance,
+    positions: &[u32],
+    level: u32,
+    path: u16,
+    other: u16,
+    first: Choice,
+    second: Choice,
+) -> bool
+    requires apart { path ≢ other }
+    requires positions { positions.now ≡ records_of instance.now path other }
+    ensures { result ≡ clashes_between instance.now level path other first second }
+{
+    for position in positions {
+        if is_turned_bad(instance, *position, level, path, first, second) {
+            return true;
+        }
+    }
+    false
 }
 
 /// What the records between a choice of a path and one of another path add at a level.

@@ -2,10 +2,9 @@ ghost use Rattle.std.specs.Prelude.{◌≡◌, ◌+◌, ◌*◌, ◌<◌, ◌≤
 ghost use Rattle.std.specs.List.Sorted.{IsNonDecreasingBy};
 ghost use Rattle.fapp_tables.specs.Runs.{AreRuns, IsStart, begins_run};
 
-use std::alloc::Global;
-
 use crate::Link;
 use fapp_model::{MAX_PATHS, MAX_RECORDS, NoMemory};
+use std::alloc::Global;
 
 /// Where the links of each pair of paths stand, among all links in order.
 #[derive(Debug, Drop)]

@@ -1,15 +1,18 @@
-ghost use Rattle.std.specs.Prelude.{◌≡◌, ◌<◌, length, slice_index, IfOk};
+ghost use Rattle.std.specs.Prelude.{◌≡◌, ◌≢◌, ◌<◌, ◌≤◌, length, slice_index, IfOk};
 ghost use Rattle.fapp_model.specs.Instances.{IsInstance};
+ghost use Rattle.fapp_model.specs.search.Clashes.{clashes};
+ghost use Rattle.fapp_model.specs.search.Partials.{IsLiteral, choice_of, literal};
 ghost use Rattle.fapp_model.specs.search.WorkOrder.{work_order};
 ghost use Rattle.fapp_tables.specs.Indexes.{neighbours_of, records_of};
-
-use std::alloc::Global;
-use std::marker::Model;
+ghost use Rattle.fapp_tables.specs.Measures.{pair_between, pair_code};
 
 use crate::links::sorted_links;
 use crate::order::work_order;
 use crate::runs::{Runs, others_of, positions_of, runs_of, starts_of};
-use fapp_model::{Instance, NoMemory};
+use crate::{pair_clashes, pair_counts};
+use fapp_model::{Choice, Instance, MAX_LEVELS, NoMemory, choice_at};
+use std::alloc::Global;
+use std::marker::Model;
 
 /// Indexes over the records of an instance. Contracts see the instance.
 #[derive(Debug, Drop)]
@@ -101,5 +104,41 @@ impl<'a> Tables<'a> {
             Ok(place) => self.records_at(i, place),
             Err(_) => &[],
         }
+    }
+
+    /// Whether some record between two choices is hard-bad at a level: an imperative record that is broken, or a
+    /// compatibility record that is bad there.
+    pub fn hard_bad(&self, level: u32, i: u16, c: u16, j: u16, d: u16) -> bool
+        requires first { IsLiteral self.now (literal i c) }
+        requires second { IsLiteral self.now (literal j d) }
+        requires apart { i ≢ j }
+        ensures { result ≡ clashes self.now level (literal i c) (literal j d) }
+    {
+        let (first, second) = (self.choice(i, c), self.choice(j, d));
+        let positions = self.records_between(i, j);
+        pair_clashes(self.instance, positions, level, i, j, first, second)
+    }
+
+    /// What the records between two choices add below a level, at most `MAX_LEVELS`: the violations one level below
+    /// it times `S_SPAN`, and the sum of the violations further below.
+    pub fn weight(&self, level: u32, i: u16, c: u16, j: u16, d: u16) -> u64
+        requires first { IsLiteral self.now (literal i c) }
+        requires second { IsLiteral self.now (literal j d) }
+        requires apart { i ≢ j }
+        requires level { level ≤ MAX_LEVELS }
+        ensures { result ≡ pair_code (pair_between self.now level (literal i c) (literal j d)) }
+    {
+        let (first, second) = (self.choice(i, c), self.choice(j, d));
+        let positions = self.records_between(i, j);
+        pair_counts(self.instance, positions, level, i, j, first, second).sum
+    }
+
+    /// A path's choice by its index.
+    fn choice(&self, path: u16, index: u16) -> Choice
+        requires { IsLiteral self.now (literal path index) }
+        ensures { result ≡ choice_of self.now (literal path index) }
+    {
+        let path = &self.instance.paths.as_slice()[path as usize];
+        choice_at(path, u32::from(index))
     }
 }

@@ -25,8 +25,13 @@ overflow_add-index_mut c =
     let valid = here c.args.instance.now _ c.loop-constraint.constraint-index c.requires c.as_slice-constraint-items.ensures c.loop-constraint-test.true in
     let inside : c.first_path.result < length c.args.instance.now.paths = omega (arith, c.first_path.ensures, valid.first) in
     let is = get_or_read c.loop-constraint.degrees.items c.first_path.result c.index_mut.result.now (omega (arith, c.loop-constraint.invariant.whole)) c.index_mut.ensures.value 0 in
-    omega (arith, is, few c.args.instance.now _ c.requires c.as_slice-constraint-items.ensures,
-    c.loop-constraint.invariant.counted c.first_path.result inside, degree_few c.as_slice-constraint-items.result.now c.loop-constraint.constraint-index c.first_path.result)
+    omega (
+      arith,
+      is,
+      few c.args.instance.now _ c.requires c.as_slice-constraint-items.ensures,
+      c.loop-constraint.invariant.counted c.first_path.result inside,
+      degree_few c.as_slice-constraint-items.result.now c.loop-constraint.constraint-index c.first_path.result,
+    )
 
 pub overflow_add-index_mut-in-loop-constraint : goal.overflow_add-index_mut-in-loop-constraint
 overflow_add-index_mut-in-loop-constraint c =
@@ -34,8 +39,13 @@ overflow_add-index_mut-in-loop-constraint c =
     let inside : c.second_path.result < length c.args.instance.now.paths = omega (arith, c.second_path.ensures, valid.second) in
     let is = y_few c.loop-constraint.degrees.items c.first_path.result c.second_path.result c.index_mut.result.now c.index_mut-in-loop-constraint.result.now
     (λ e. valid.different (sym c.first_path.ensures ∙ (e ∙ c.second_path.ensures))) (omega (arith, c.loop-constraint.invariant.whole)) c.index_mut-in-loop-constraint.ensures.value in
-    omega (arith, is, few c.args.instance.now _ c.requires c.as_slice-constraint-items.ensures,
-    c.loop-constraint.invariant.counted c.second_path.result inside, degree_few c.as_slice-constraint-items.result.now c.loop-constraint.constraint-index c.second_path.result)
+    omega (
+      arith,
+      is,
+      few c.args.instance.now _ c.requires c.as_slice-constraint-items.ensures,
+      c.loop-constraint.invariant.counted c.second_path.result inside,
+      degree_few c.as_slice-constraint-items.result.now c.loop-constraint.constraint-index c.second_path.result,
+    )
 
 pub loop-constraint-preserved : goal.loop-constraint-preserved
 loop-constraint-preserved c =
@@ -53,9 +63,9 @@ loop-constraint-preserved c =
     record {
       whole = length-set (set counts i (x + 1)) j (y + 1) ∙ (length-set counts i (x + 1) ∙ whole);
       counted = λ path inside.
-      two_more counts i j x y path (λ e. valid.different (sym c.first_path.ensures ∙ (e ∙ c.second_path.ensures)))
-      (omega (arith, c.first_path.ensures, valid.first)) (omega (arith, c.second_path.ensures, valid.second)) c.index_mut.ensures.value c.index_mut-in-loop-constraint.ensures.value (omega arith)
-      ∙ (ap (λ n. n + cond (eqb i path || eqb j path) 1 0) (c.loop-constraint.invariant.counted path inside) ∙ sym (more path));
+          two_more counts i j x y path (λ e. valid.different (sym c.first_path.ensures ∙ (e ∙ c.second_path.ensures)))
+          (omega (arith, c.first_path.ensures, valid.first)) (omega (arith, c.second_path.ensures, valid.second)) c.index_mut.ensures.value c.index_mut-in-loop-constraint.ensures.value (omega arith)
+          ∙ (ap (λ n. n + cond (eqb i path || eqb j path) 1 0) (c.loop-constraint.invariant.counted path inside) ∙ sym (more path));
     }
 
 pub returns : goal.returns
