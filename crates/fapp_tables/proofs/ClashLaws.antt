@@ -1,9 +1,9 @@
 -- Which records clash between two choices, by their positions, and what their pairs are as one number.
-use Rattle.std.proofs.Common.{◌≡◌, ◌≢◌, ℕ, ◌+◌, ◌*◌, ◌<◌, Bool, true, false, cond, eqb, ◌&&◌, ◌||◌, List, [], ◌∷◌, length, get_or, refl, sym, ap, ◌∙◌, subst, inl, inr, ⊎_elim, All, Contains, IsTrue, sum_by, arith}
+use Rattle.std.proofs.Common.{◌≡◌, ◌≢◌, ℕ, ◌+◌, ◌*◌, Bool, true, false, cond, eqb, ◌&&◌, ◌||◌, List, [], ◌∷◌, length, refl, sym, ap, ◌∙◌, subst, ⊎_elim, All, Contains, sum_by, arith}
 use Rattle.std.specs.List.{list_any, range_with_len}
-use Rattle.std.proofs.lemmas.Bool.{cases_Bool, and_parts, and_left, or_cases, or_parts, or_left, or_right, or_from, eqb-true, ne_eqb}
+use Rattle.std.proofs.lemmas.Bool.{cases_Bool, and_parts, and_left, or_parts, or_right, or_from, eqb-true, ne_eqb}
 use Rattle.std.proofs.lemmas.List.{get_or_default}
-use Rattle.std.proofs.lemmas.List.Elements.{All-contains, All-from_get_or, Contains-get_or}
+use Rattle.std.proofs.lemmas.List.Elements.{All-contains, Contains-get_or}
 use Rattle.std.proofs.lemmas.List.Sums.{sum_by-cons}
 use Rattle.fapp_model.specs.declared.choice.Choice.{Choice}
 use Rattle.fapp_model.specs.declared.instance.Instance.{Instance}
@@ -11,7 +11,7 @@ use Rattle.fapp_model.specs.declared.limits.TheConstants.{S_SPAN}
 use Rattle.fapp_model.specs.declared.literal.Literal.{Literal}
 use Rattle.fapp_model.specs.declared.record.Record.{Record}
 use Rattle.fapp_model.specs.Records.{first_path, second_path}
-use Rattle.fapp_model.specs.search.Clashes.{blocks, clashes, is_hard_bad, joins}
+use Rattle.fapp_model.specs.search.Clashes.{clashes, is_hard_bad, joins}
 use Rattle.fapp_model.specs.search.Partials.{choice_of}
 use Rattle.fapp_model.specs.search.Weights.{bad_before, bad_further, between}
 use Rattle.fapp_model.proofs.Anys.{any-member, no-member}

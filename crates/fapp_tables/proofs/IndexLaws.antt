@@ -1,8 +1,8 @@
 -- The flat lists hold the neighbours of each path, and the records of each path and neighbour.
-use Rattle.std.proofs.Common.{◌≡◌, ◌≢◌, ◌⊎◌, ℕ, zero, suc, ◌+◌, ◌-◌, ◌*◌, ◌<◌, ◌≤◌, Bool, true, false, eqb, List, [], ◌∷◌, ◌++◌, length, get_or, map, filter, take, drop, refl, sym, ap, ◌∙◌, subst, inl, inr, ⊎_elim, All, AllPairs, Contains, IsTrue, slice_index, arith}
+use Rattle.std.proofs.Common.{◌≡◌, ℕ, ◌+◌, ◌-◌, ◌*◌, ◌<◌, ◌≤◌, Bool, true, eqb, List, [], ◌∷◌, ◌++◌, length, get_or, map, filter, take, drop, refl, sym, ap, ◌∙◌, subst, inl, inr, AllPairs, Contains, slice_index, arith}
 use Rattle.std.specs.List.{range_with_len, slice_range}
 use Rattle.std.proofs.lemmas.Bool.{cases_lt, eqb-true, eq-eqb, ne_eqb}
-use Rattle.std.proofs.lemmas.List.{get_or_default, get_or-map, length-map, length_push, length-take, length-drop, get_or-take, get_or-drop, take-map, drop-map}
+use Rattle.std.proofs.lemmas.List.{get_or_default, get_or-map, length-map, length-take, length-drop, get_or-take, get_or-drop, take-map, drop-map}
 use Rattle.std.proofs.lemmas.List.Elements.{Contains-get_or}
 use Rattle.std.proofs.lemmas.List.Kept.{AllPairs-filter}
 use Rattle.std.proofs.lemmas.List.FromFn.{length-range_with_len}
@@ -15,14 +15,13 @@ use Rattle.fapp_model.proofs.Anys.{any-member, passing}
 use Rattle.fapp_model.proofs.Members.{in-filter, from-filter, in-map, from-map, in-range, from-range}
 use Rattle.fapp_model.proofs.InOrder.{pairs-map, same_members, rising}
 use Rattle.fapp_tables.specs.declared.links.Link.{Link}
-use Rattle.fapp_tables.specs.declared.runs.Runs.{Runs as RunsOfLinks}
 use Rattle.fapp_tables.specs.Indexes.{neighbours_of, records_of, record_at, no_record, touches}
 use Rattle.fapp_tables.specs.Links.{AreSortedLinks, IsLink, link_rank, pair_rank}
 use Rattle.fapp_tables.specs.Parts.{AreIndexes, HasPart}
-use Rattle.fapp_tables.specs.Runs.{AreRuns, IsStart, begins_run, link_at, no_link, run_places}
+use Rattle.fapp_tables.specs.Runs.{IsStart, begins_run, link_at, no_link, run_places}
 use Rattle.fapp_tables.proofs.FilterLaws.{filter_run}
 use Rattle.fapp_tables.proofs.LinkLaws.{names_two}
-use Rattle.fapp_tables.proofs.RunLaws.{IsSmall, first_is, begins_at, at_end, first-up, before_run, run_is, of_run, length-firsts, next_within}
+use Rattle.fapp_tables.proofs.RunLaws.{IsSmall, first_is, first-up, before_run, run_is, of_run, length-firsts, next_within}
 
 abbrev Rises : List ℕ → Type 0
 Rises xs = AllPairs (λ a b. a < b) xs

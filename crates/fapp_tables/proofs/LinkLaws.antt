@@ -1,5 +1,5 @@
 -- The links of the records of an instance.
-use Rattle.std.proofs.Common.{◌≡◌, ◌≢◌, ◌⊎◌, ◌↔◌, ℕ, zero, suc, ◌+◌, ◌*◌, ◌<◌, ◌≤◌, Bool, true, false, eqb, ◌||◌, List, [], ◌∷◌, ◌++◌, length, get_or, flat_map, append_assoc, zero-add, refl, sym, ap, ◌∙◌, subst, inl, inr, ⊎_elim, All, AllPairs, Contains, arith}
+use Rattle.std.proofs.Common.{◌≡◌, ◌≢◌, ◌⊎◌, ℕ, zero, suc, ◌+◌, ◌*◌, ◌<◌, ◌≤◌, true, eqb, List, [], ◌∷◌, ◌++◌, length, get_or, flat_map, append_assoc, zero-add, refl, sym, ap, ◌∙◌, subst, inl, inr, ⊎_elim, All, AllPairs, Contains, arith}
 use Rattle.std.specs.List.{range_with_len}
 use Rattle.std.proofs.lemmas.List.{flat_map_more}
 use Rattle.std.specs.List.{AllAdjacentBelow}
@@ -18,7 +18,7 @@ use Rattle.fapp_model.proofs.InOrder.{pairs-nil, pairs-cons, pairs-flat_map}
 use Rattle.fapp_model.specs.Records.{first_path, second_path}
 use Rattle.fapp_tables.specs.declared.links.Link.{Link}
 use Rattle.fapp_tables.specs.Indexes.{no_record, record_at, touches}
-use Rattle.fapp_tables.specs.Links.{AreSortedLinks, IsLink, IsNotAfter, links_at, link_rank, pair_rank}
+use Rattle.fapp_tables.specs.Links.{AreSortedLinks, IsLink, IsNotAfter, links_at, link_rank}
 use Rattle.fapp_tables.proofs.HeightLaws.{range_more}
 use Rattle.fapp_tables.proofs.RankLaws.{rising_ranks}
 

@@ -1,5 +1,5 @@
 -- Where the parts of the flat lists stand, by what their starts are read as.
-use Rattle.std.proofs.Common.{◌≡◌, ℕ, ◌+◌, ◌<◌, ◌≤◌, false, List, [], length, get_or, slice_index, Err, Result, ap, sym, ◌∙◌, subst, inl, inr, Contains, arith}
+use Rattle.std.proofs.Common.{◌≡◌, ℕ, ◌+◌, ◌<◌, ◌≤◌, false, List, [], length, get_or, slice_index, Err, ap, sym, ◌∙◌, subst, inl, inr, Contains, arith}
 use Rattle.std.specs.List.{range_with_len}
 use Rattle.std.specs.List.Sorted.{IsBinarySearchResult}
 use Rattle.std.specs.Ordering.{nat_cmp}

@@ -1,5 +1,5 @@
 -- The places of paths, in order, give the work order.
-use Rattle.std.proofs.Common.{◌≡◌, ◌≢◌, ◌⊎◌, ℕ, ◌+◌, ◌-◌, ◌*◌, ◌<◌, ◌≤◌, true, ◌||◌, ◌&&◌, eqb, ltb, List, [], ◌∷◌, ◌++◌, length, map, get_or, zero-add, refl, sym, ap, ◌∙◌, subst, inl, inr, All, AllPairs, Contains, IsTrue, arith}
+use Rattle.std.proofs.Common.{◌≡◌, ◌≢◌, ℕ, ◌+◌, ◌-◌, ◌*◌, ◌<◌, ◌≤◌, true, ◌||◌, ◌&&◌, eqb, ltb, List, [], ◌∷◌, ◌++◌, length, map, get_or, zero-add, refl, sym, ap, ◌∙◌, subst, inl, inr, AllPairs, Contains, IsTrue, arith}
 use Rattle.std.specs.List.{range_with_len, AllAdjacentBelow}
 use Rattle.std.specs.List.Sorted.{IsPermutation}
 use Rattle.std.proofs.lemmas.Bool.{cases_order, eq-eqb, lt-ltb, and_from, or_right}
@@ -12,7 +12,7 @@ use Rattle.fapp_model.specs.declared.instance.Instance.{Instance}
 use Rattle.fapp_model.specs.Instances.{IsInstance}
 use Rattle.fapp_model.specs.search.WorkOrder.{IsWorkOrder, comes_before, degree, names_path}
 use Rattle.fapp_model.proofs.Members.{All-from_members, in-map, from-map, in-range, from-range}
-use Rattle.fapp_model.proofs.InOrder.{pairs-map, rising}
+use Rattle.fapp_model.proofs.InOrder.{pairs-map}
 use Rattle.fapp_tables.specs.declared.order.Place.{Place}
 use Rattle.fapp_tables.specs.Places.{IsNext, place_of}
 use Rattle.fapp_tables.proofs.RankLaws.{rising_ranks}

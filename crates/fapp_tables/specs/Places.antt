@@ -1,6 +1,5 @@
 -- Paths by their number of records.
 use Rattle.std.specs.Prelude.{◌≡◌, ◌⊎◌, ℕ, ◌<◌, ◌≤◌}
-use Rattle.std.specs.declared.cmp.Reverse.{Reverse}
 use Rattle.fapp_model.specs.declared.instance.Instance.{Instance}
 use Rattle.fapp_model.specs.search.WorkOrder.{degree}
 use Rattle.fapp_tables.specs.declared.order.Place.{Place}

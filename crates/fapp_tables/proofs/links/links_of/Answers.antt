@@ -1,10 +1,7 @@
-use Rattle.std.proofs.Common.{◌≡◌, ℕ, ◌+◌, ◌<◌, List, [], ◌∷◌, ◌++◌, length, get_or, flat_map, append_assoc, ap, sym, ◌∙◌, arith}
-use Rattle.std.specs.List.{range_with_len}
+use Rattle.std.proofs.Common.{List, get_or, ap, ◌∙◌}
 use Rattle.fapp_model.specs.declared.record.Record.{Record}
 use Rattle.fapp_model.specs.Records.{first_path, second_path}
-use Rattle.fapp_tables.specs.declared.links.Link.{Link}
 use Rattle.fapp_tables.specs.Indexes.{no_record}
-use Rattle.fapp_tables.specs.Links.{links_at}
 use Rattle.fapp_tables.proofs.LinkLaws.{links_more}
 use Rattle.fapp_tables.proofs.links.links_of.Goals as goal
 

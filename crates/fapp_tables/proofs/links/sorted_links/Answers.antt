@@ -1,6 +1,5 @@
-use Rattle.std.proofs.Common.{◌≡◌, ◌++◌, length, drop, take, ap, sym, subst, ◌∙◌, arith}
+use Rattle.std.proofs.Common.{length, drop, ap, sym, subst, ◌∙◌, arith}
 use Rattle.std.proofs.lemmas.List.{take_at}
-use Rattle.std.specs.List.Sorted.{IsPermutation}
 use Rattle.fapp_tables.specs.Links.{AreSortedLinks}
 use Rattle.fapp_tables.proofs.LinkLaws.{sorted_links}
 use Rattle.fapp_tables.proofs.links.sorted_links.Goals as goal

@@ -1,5 +1,4 @@
-use Rattle.std.proofs.Common.{◌≡◌, ◌≢◌, ℕ, ◌+◌, ◌<◌, ◌≤◌, cond, eqb, ◌||◌, List, length, map, get_or, set, take, count_by, ap, sym, subst, ◌∙◌, arith, All, w32, Fits}
-use Rattle.std.specs.List.{range_with_len}
+use Rattle.std.proofs.Common.{◌≡◌, ℕ, ◌+◌, ◌<◌, ◌≤◌, cond, eqb, ◌||◌, List, length, get_or, set, count_by, ap, sym, ◌∙◌, arith}
 use Rattle.std.proofs.lemmas.List.{get_or_read, take_all, length-set}
 use Rattle.std.proofs.lemmas.List.FromFn.{fill_by_all}
 use Rattle.std.proofs.lemmas.List.Elements.{All-same}
@@ -7,7 +6,6 @@ use Rattle.fapp_model.specs.declared.instance.Instance.{Instance}
 use Rattle.fapp_model.specs.declared.record.Record.{Record}
 use Rattle.fapp_model.specs.Instances.{IsInstance, IsRecord}
 use Rattle.fapp_model.specs.Levels.{levels_of}
-use Rattle.fapp_model.specs.Records.{first_path, second_path}
 use Rattle.fapp_model.specs.search.WorkOrder.{degree, names_path}
 use Rattle.fapp_tables.specs.Indexes.{no_record}
 use Rattle.fapp_tables.proofs.DegreeLaws.{degree_more, degree_few, two_more, y_few, degree_so_far}

@@ -1,7 +1,7 @@
-use Rattle.std.proofs.Common.{◌≡◌, ℕ, ◌<◌, false, List, length, slice_index, All, Contains, ap, sym, subst, ◌∙◌, inl, inr, arith}
+use Rattle.std.proofs.Common.{◌≡◌, ℕ, ◌<◌, false, List, length, slice_index, All, Contains, sym, subst, inl, inr, arith}
 use Rattle.std.proofs.lemmas.Bool.{cases_lt}
 use Rattle.std.proofs.lemmas.List.Elements.{All-same, All-from_get_or, Contains-get_or}
-use Rattle.fapp_tables.specs.Indexes.{record_at, records_of, turned_bad}
+use Rattle.fapp_tables.specs.Indexes.{record_at, turned_bad}
 use Rattle.fapp_tables.proofs.ClashLaws.{clash_found, no_clash}
 use Rattle.fapp_tables.proofs.PairLaws.{positions_within}
 use Rattle.fapp_tables.proofs.pairs.pair_clashes.Goals as goal

@@ -1,6 +1,6 @@
 use Rattle.std.proofs.Common.{ℕ, Vec, Global, ap, sym, ◌∙◌}
 use Rattle.fapp_tables.specs.declared.links.Link.{Link}
-use Rattle.fapp_tables.proofs.RunLaws.{more_begun, more_same, RunsTo}
+use Rattle.fapp_tables.proofs.RunLaws.{more_begun, more_same}
 use Rattle.fapp_tables.proofs.runs.runs_of.Goals as goal
 use Rattle.fapp_tables.proofs.runs.runs_of.Goals.{then-begins_run+in_ok-push+in_ok-push-2, else-begins_run}
 

@@ -1,8 +1,8 @@
-use Rattle.std.proofs.Common.{◌≡◌, ◌≤◌, ℕ, List, length, map, slice_index, ap, sym, subst, ◌∙◌, arith}
+use Rattle.std.proofs.Common.{List, length, map, slice_index, ap, sym, subst, ◌∙◌, arith}
 use Rattle.std.specs.List.Sorted.{IsNonDecreasingBy}
 use Rattle.fapp_tables.specs.declared.links.Link.{Link}
 use Rattle.fapp_tables.specs.Links.{AreSortedLinks}
-use Rattle.fapp_tables.specs.Runs.{IsStart, link_at, run_places}
+use Rattle.fapp_tables.specs.Runs.{IsStart}
 use Rattle.fapp_tables.proofs.IndexLaws.{paths-rise, few_heads, are_indexes}
 use Rattle.fapp_tables.proofs.tables.Tables.new.Goals as goal
 

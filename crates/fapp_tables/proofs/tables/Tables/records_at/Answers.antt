@@ -1,5 +1,4 @@
-use Rattle.std.proofs.Common.{◌≡◌, ◌+◌, List, length, slice_index, ap, sym, subst, ◌∙◌, arith}
-use Rattle.std.specs.List.{slice_range}
+use Rattle.std.proofs.Common.{◌+◌, arith}
 use Rattle.std.proofs.lemmas.List.{get_or_read}
 use Rattle.fapp_tables.proofs.PartLaws.{run_at}
 use Rattle.fapp_tables.proofs.tables.Tables.records_at.Goals as goal

@@ -1,4 +1,4 @@
-use Rattle.std.proofs.Common.{List, ℕ, Result, subst}
+use Rattle.std.proofs.Common.{ℕ, Result, subst}
 use Rattle.std.specs.List.Sorted.{IsBinarySearchResult}
 use Rattle.std.specs.Ordering.{nat_cmp}
 use Rattle.fapp_tables.proofs.PartLaws.{none_found}
