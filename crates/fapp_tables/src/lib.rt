@@ -9,6 +9,5 @@ mod runs;
 mod tables;
 
 pub use counts::{Counts, record_counts, record_height};
-pub use links::Link;
 pub use pairs::{pair_clashes, pair_counts};
 pub use tables::Tables;

@@ -2,7 +2,7 @@ ghost use Rattle.std.specs.Prelude.{◌≡◌, ◌+◌, ◌*◌, ◌<◌, ◌≤
 ghost use Rattle.std.specs.List.Sorted.{IsNonDecreasingBy};
 ghost use Rattle.fapp_tables.specs.Runs.{AreRuns, IsStart, begins_run};
 
-use crate::Link;
+use crate::links::Link;
 use fapp_model::{MAX_PATHS, MAX_RECORDS, NoMemory};
 use std::alloc::Global;
 

@@ -15,12 +15,18 @@ use std::alloc::Global;
 use std::marker::Model;
 
 /// Indexes over the records of an instance. Contracts see the instance.
+///
+/// They stand in flat lists: the neighbours of each path one after another, and the positions of the records of each
+/// path and neighbour one after another. A record takes at most 20 bytes (8 for its position, seen from both paths,
+/// and 6 at each side where its pair has no other record) and a path 6.
 #[derive(Debug, Drop)]
 pub struct Tables<'a> {
     instance: &'a Instance,
     order: Vec<u16>,
+    /// Where the neighbours of each path begin; at the end their number.
     starts: Vec<u32>,
     neighbours: Vec<u16>,
+    /// Where the records of each path and neighbour begin; at the end their number.
     firsts: Vec<u32>,
     positions: Vec<u32>,
 }
@@ -37,7 +43,7 @@ impl<'a> Model for Tables<'a> {
 }
 
 impl<'a> Tables<'a> {
-    /// Makes the indexes of an instance.
+    /// Makes the indexes of an instance. While it runs it takes further 32 bytes a record.
     pub fn new(alloc: Global, instance: &'a Instance) -> Result<Tables<'a>, NoMemory>
         requires { IsInstance instance.now }
         ensures { IfOk result (λ tables. tables ≡ instance.now) }
