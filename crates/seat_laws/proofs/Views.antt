@@ -1,10 +1,11 @@
 -- The live views after a step of one seat, after a split and after a join.
-use Rattle.std.proofs.Common.{◌≡◌, ◌≢◌, ◌⊎◌, inl, inr, ⊎_elim, ℕ, zero, suc, ◌+◌, ◌≤◌, Bool, true, false, List, [], ◌∷◌, ◌++◌, set, sym, refl, ap, ◌∙◌, subst, arith}
+use Rattle.std.proofs.Common.{sum_by, ◌≡◌, ◌≢◌, ◌⊎◌, inl, inr, ⊎_elim, ℕ, zero, suc, ◌+◌, ◌≤◌, Bool, true, false, List, [], ◌∷◌, ◌++◌, set, sym, refl, ap, ◌∙◌, subst, arith}
 use mathlib.Core.Logic.{dite}
 use mathlib.Core.Option.{some, some-injective, some-ne-none}
 use native.Mathlib.Decide.{ℕ_discrete}
 use lib.ListN.{get_elem?}
-use Rattle.std.proofs.lemmas.Bool.{true≢false}
+use Rattle.std.proofs.lemmas.Bool.{true≢false, cond-true, cond-false, cases_Bool}
+use Rattle.std.proofs.lemmas.List.Sums.{sum_by-cons}
 use Rattle.atomic_table.proofs.Lists.{at_set, at_snoc, at_longer, set_else}
 use Rattle.seat_laws.specs.Shares.{Live, EachLive, SomeLive, part_of, IsShared, WholeIsAlone}
 use Rattle.seat_laws.proofs.Sums.{sum_set, sum_more, two_within}
@@ -84,7 +85,7 @@ module _ {V : Type 0} (spent : V → Bool) (share : V → ℕ) where
   pub part_live : (v : V) → spent v ≡ false → part_of spent share v ≡ share v
   part_live v un = rw un refl
 
-  part_gone : (v : V) → spent v ≡ true → part_of spent share v ≡ 0
+  pub part_gone : (v : V) → spent v ≡ true → part_of spent share v ≡ 0
   part_gone v is = rw is refl
 
   pub shared_set : (whole : ℕ) (views : List V) (id : ℕ) (v w : V) → IsShared spent share whole views → Live spent views id v → spent w ≡ false → share w ≡ share v → IsShared spent share whole (set views id w)
@@ -140,3 +141,26 @@ module _ {V : Type 0} (spent : V → Bool) (share : V → ℕ) where
   alone whole views b i j u v lu all lv = dite (ℕ_discrete i j)
       (λ e. same_view spent views i j u v e lu lv)
       (λ ne. let two = within_whole whole views b i j u v ne lu lv in let some = b.parts j v lv in absurd (omega arith))
+
+  -- what is counted over the live views is the count of the one that has the whole share
+  pub alone_sum : (count : V → ℕ) (whole : ℕ) (views : List V) → IsShared spent share whole views → (id : ℕ) (v : V) → Live spent views id v → share v ≡ whole → sum_by (part_of spent count) views ≡ count v
+  alone_sum count whole views b id v l all =
+      only_one views id v l.there others ∙ cond-false (spent v) 0 (count v) l.unspent
+    where
+      part : V → ℕ
+      part u = part_of spent count u
+
+      others : (j : ℕ) (u : V) → j ≢ id → get_elem? views j ≡ some u → part u ≡ 0
+      others j u ne at = ⊎_elim
+          (λ gone. cond-true (spent u) 0 (count u) gone)
+          (λ live. let two = within_whole whole views b id j v u (λ e. ne (sym e)) l (record { there = at; unspent = live }) in let some_share = b.parts j u (record { there = at; unspent = live }) in absurd (omega arith))
+          (cases_Bool (spent u))
+
+      none_sum : (xs : List V) → ((j : ℕ) (u : V) → get_elem? xs j ≡ some u → part u ≡ 0) → sum_by part xs ≡ 0
+      none_sum [] none_of = refl
+      none_sum (x ∷ xs) none_of = let here = none_of 0 x refl in let rest = none_sum xs (λ j u e. none_of (suc j) u e) in omega (arith, sum_by-cons part x xs)
+
+      only_one : (xs : List V) (i : ℕ) (u : V) → get_elem? xs i ≡ some u → ((j : ℕ) (w : V) → j ≢ i → get_elem? xs j ≡ some w → part w ≡ 0) → sum_by part xs ≡ part u
+      only_one [] i u at none_of = absurd (some-ne-none u (sym at))
+      only_one (x ∷ xs) zero u at none_of = let is : part x ≡ part u = ap part (some-injective x u at) in let rest = none_sum xs (λ j w e. none_of (suc j) w (λ z. omega arith) e) in omega (arith, sum_by-cons part x xs)
+      only_one (x ∷ xs) (suc i) u at none_of = let here = none_of 0 x (λ z. omega arith) refl in let rest = only_one xs i u at (λ j w ne e. none_of (suc j) w (λ z. ne (omega arith)) e) in omega (arith, sum_by-cons part x xs)
