@@ -1,8 +1,9 @@
 // A ring with its hands.
-ghost use Rattle.std.specs.Prelude.{◌≡◌, ◌*◌, ◌<◌, ◌≤◌, [], length, All, IfOk};
+ghost use Rattle.std.specs.Prelude.{◌≡◌, ℕ, ◌*◌, ◌<◌, ◌≤◌, [], length, All, IfOk};
 ghost use Rattle.seat_laws.specs.declared.TheConstants.{WHOLE_SHARE};
+ghost use Rattle.steal_ring.specs.Jobs.{times};
 ghost use Rattle.steal_ring.specs.Seats.{view_of};
-ghost use Rattle.steal_ring.specs.Hands.{won_of, found_of, share_of_hand, shares_of, IsHandOf, IsDealt};
+ghost use Rattle.steal_ring.specs.Hands.{won_of, found_of, share_of_hand, shares_of, IsHandOf, IsListed, IsDealt};
 
 use crate::hand::Hand;
 use crate::seat::{Ring, RingSeat};
@@ -58,9 +59,11 @@ impl Hand {
         self.seat.share()
     }
 
-    /// The jobs that it was given, in order.
+    /// The jobs that it was given, in order. They are distinct, and stand in its own list or its neighbour's.
     pub fn taken(&self) -> &[u32]
-        ensures { result.now ≡ won_of self.now }
+        ensures taken { result.now ≡ won_of self.now }
+        ensures distinct { (job : ℕ) → times job result.now ≤ 1 }
+        ensures listed { (job : ℕ) → 0 < times job result.now → (job < self.now.jobs) × IsListed self.now job }
     {
         self.taken.as_slice()
     }

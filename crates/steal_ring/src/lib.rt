@@ -10,6 +10,8 @@ mod next;
 mod plays;
 mod ring;
 mod seat;
+#[cfg(test)]
+mod tests;
 mod view;
 
 pub use hand::Hand;

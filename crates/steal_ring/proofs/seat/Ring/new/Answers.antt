@@ -55,7 +55,7 @@ returns-clause-new c =
     let hand = c.in_ok-begin-2.field-0 in
     let is = c.in_ok-begin-2.ensures in
     subst (All IsFresh) (sym c.push_reserved-2.ensures.items)
-        (All-push IsFresh c.loop-number.hands.items hand was.fresh (ap (λ s. (view_of s).won) is.0 ∙ was.clean.1, ap (λ s. (view_of s).found) is.0 ∙ was.clean.0))
+    (All-push IsFresh c.loop-number.hands.items hand was.fresh (ap (λ s. (view_of s).won) is.0 ∙ was.clean.1, ap (λ s. (view_of s).found) is.0 ∙ was.clean.0))
 
 pub returns-clause-hands : goal.returns-clause-hands
 returns-clause-hands c =
