@@ -1,0 +1,13 @@
+//! Rows of words that many seats share: each row is written once, by the seat that drew it, and never changes.
+#![tactic(auto)]
+
+mod ends;
+mod plays;
+mod pool;
+mod seat;
+mod view;
+mod words;
+
+pub use ends::rows_are_implied;
+pub use seat::{MAX_ROWS, Pool, PoolSeat};
+pub use view::{Content, Held, Move, PoolView, Writing};
