@@ -5,9 +5,9 @@ use Rattle.std.specs.List.{All, sum_by}
 use Rattle.std.proofs.Common.{Option, Some, None, IfSome}
 use Rattle.std.proofs.lemmas.List.Elements.{All-weaker}
 use Rattle.fapp_model.specs.declared.instance.Instance.{Instance}
-use Rattle.nogood_pool.specs.declared.view.Held.{Held}
+use Rattle.nogood_pool.specs.declared.view.HeldRow.{HeldRow}
 use Rattle.nogood_pool.specs.declared.view.PoolView.{PoolView}
-use Rattle.nogood_pool.specs.declared.view.Writing.{Writing}
+use Rattle.nogood_pool.specs.declared.view.RowInWriting.{RowInWriting}
 use Rattle.nogood_pool.specs.Pool.{cell, counter_of, once, times, below, written, IsHeld, IsWriting, Fits}
 
 pub cell_here : (ws : List ℕ) (r k n : ℕ) → 1 + 9 * r + k < length ws → cell (set ws (1 + 9 * r + k) n) r k ≡ n
@@ -38,7 +38,7 @@ pub record Beside (ws new : List ℕ) (r : ℕ) : Type 0 where
 
 module _ (instance : Instance) (ws new : List ℕ) (r : ℕ) (beside : Beside ws new r) where
   -- a row that holds a content goes on to hold it
-  pub held_kept : (h : Held) → h.row ≢ r → IsHeld instance ws h → IsHeld instance new h
+  pub held_kept : (h : HeldRow) → h.row ≢ r → IsHeld instance ws h → IsHeld instance new h
   held_kept h ne is = record {
     drawn = le_trans is.drawn beside.counter;
     short = is.short;
@@ -47,7 +47,7 @@ module _ (instance : Instance) (ws new : List ℕ) (r : ℕ) (beside : Beside ws
     valid = is.valid;
   }
 
-  pub writing_kept : (o : Option Writing) → written r o ≡ 0 → IfSome o (IsWriting instance ws) → IfSome o (IsWriting instance new)
+  pub writing_kept : (o : Option RowInWriting) → written r o ≡ 0 → IfSome o (IsWriting instance ws) → IfSome o (IsWriting instance new)
   writing_kept None z is = tt
   writing_kept (Some w) z is = let ne = once_zero r w.row z in record {
     drawn = le_trans is.drawn beside.counter;
@@ -60,10 +60,10 @@ module _ (instance : Instance) (ws new : List ℕ) (r : ℕ) (beside : Beside ws
   }
 
   -- a row with a tag is another one than a row without
-  pub held_apart : cell ws r 0 ≡ 0 → (h : Held) → IsHeld instance ws h → h.row ≢ r
+  pub held_apart : cell ws r 0 ≡ 0 → (h : HeldRow) → IsHeld instance ws h → h.row ≢ r
   held_apart z h is e = let above = is.valid.above in let t : cell ws h.row 0 ≡ h.content.tag = is.tag in let same : cell ws h.row 0 ≡ cell ws r 0 = ap (λ (q : ℕ). cell ws q 0) e in absurd (omega arith)
 
-  pub helds_kept : cell ws r 0 ≡ 0 → (hs : List Held) → All (IsHeld instance ws) hs → All (IsHeld instance new) hs
+  pub helds_kept : cell ws r 0 ≡ 0 → (hs : List HeldRow) → All (IsHeld instance ws) hs → All (IsHeld instance new) hs
   helds_kept z hs all = All-weaker (IsHeld instance ws) (IsHeld instance new) (λ h is. held_kept h (held_apart z h is) is) hs all
 
   pub fits_kept : (rows : ℕ) (v : PoolView) → cell ws r 0 ≡ 0 → written r v.writing ≡ 0 → Fits rows instance ws v → Fits rows instance new v
@@ -71,7 +71,6 @@ module _ (instance : Instance) (ws new : List ℕ) (r : ℕ) (beside : Beside ws
     instance_is = f.instance_is;
     rows_are = f.rows_are;
     counter = le_trans f.counter beside.counter;
-   
     writing = writing_kept v.writing none f.writing;
     published = helds_kept z v.published f.published;
     seen = helds_kept z v.seen f.seen;

@@ -6,20 +6,23 @@ use mathlib.Core.Option.{none, some, some-injective, some-ne-none}
 use native.Mathlib.Decide.{ℕ_discrete}
 use lib.ListN.{get_elem?}
 use Rattle.std.specs.List.{All, Contains}
+use Rattle.std.specs.List.{All, AllPairs, Contains, sum_by}
+use Rattle.std.proofs.Common.{Option, Some, IfSome}
+use Rattle.nogood_pool.specs.declared.view.RowInWriting.{RowInWriting}
 use Rattle.std.proofs.lemmas.List.Elements.{All-nil, All-head, All-tail, All-append, All-contains, All-weaker, All-contains_itself, Contains-append_left, Contains-append_right}
-use Rattle.std.proofs.lemmas.List.Sums.{sum_by_push, sum_by-append}
+use Rattle.std.proofs.lemmas.List.Sums.{sum_by-cons, sum_by_push, sum_by-append}
 use Rattle.atomic_table.specs.Table.{step, keeps, opening, Allows, Splits, Joins, Final, Seen}
 use Rattle.atomic_table.proofs.Lists.{at_set, at_snoc, at_longer, set_else}
 use Rattle.fapp_model.specs.declared.instance.Instance.{Instance}
 use Rattle.fapp_model.specs.declared.literal.Literal.{Literal}
 use Rattle.nogood.specs.declared.row.Row.{Row}
 use Rattle.nogood_pool.specs.declared.view.Content.{Content}
-use Rattle.nogood_pool.specs.declared.view.Held.{Held}
+use Rattle.nogood_pool.specs.declared.view.HeldRow.{HeldRow}
 use Rattle.nogood_pool.specs.declared.view.PoolView.{PoolView}
-use Rattle.nogood_pool.specs.Pool.{Words, IsPool, IsHeld, Fits, Live, is_spent, share_of, counter_of, times, written, once, held, word_at, literal_word, first_view, kept_half, given_half, united, spent_view}
-use Rattle.nogood_pool.specs.Steps.{Mine, Knows}
-use Rattle.nogood_pool.specs.Ends.{IsWhole, RowsAreImplied}
-use Rattle.nogood_pool.proofs.Cells.{times_live, not_below, below_most}
+use Rattle.nogood_pool.specs.Pool.{Words, IsPool, IsHeld, IsWriting, Fits, cell, Live, is_spent, share_of, counter_of, times, written, once, held_row, word_at, literal_word, first_view, kept_half, given_half, after_join, spent_view}
+use Rattle.nogood_pool.specs.Steps.{Mine, HasPart}
+use Rattle.nogood_pool.specs.Ends.{IsWhole, RowsAreImplied, RowsStay}
+use Rattle.nogood_pool.proofs.Cells.{once_same, times_live, not_below, below_most}
 use Rattle.nogood_pool.proofs.Views.{alone}
 use Rattle.seat_laws.specs.Shares.{part_of}
 use Rattle.seat_laws.proofs.Views.{same_view, set_at, live_set, live_else, part_live, shared_split, shared_join}
@@ -53,10 +56,45 @@ opens rows instance ws e = subst (λ (xs : List ℕ). IsPool rows instance (open
 
 pub implies : (rows : ℕ) (instance : Instance) (s : Words) → IsPool rows instance s → RowsAreImplied rows instance s
 implies rows instance s b = record {
-  tagged = λ row lt tagged. let o = b.owned row lt tagged in (o.3, All-contains (IsHeld instance s.words) o.1.published (held row o.3) (b.fits o.0 o.1 o.2).published o.4);
+  tagged = λ row lt tagged. let o = b.owned row lt tagged in (o.3, All-contains (IsHeld instance s.words) o.1.published (held_row row o.3) (b.fits o.0 o.1 o.2).published o.4);
   published = λ j v l. (b.fits j v l).published;
   seen = λ j v l. (b.fits j v l).seen;
 }
+
+-- a row without a tag is none of those that hold a content
+apart_row : (instance : Instance) (ws : List ℕ) (o : Option RowInWriting) (known : List HeldRow) → IfSome o (IsWriting instance ws) → All (IsHeld instance ws) known → IfSome o (λ w. All (λ h. h.row ≢ w.row) known)
+apart_row instance ws None known is all = tt
+apart_row instance ws (Some w) known is all = All-weaker (IsHeld instance ws) (λ h. h.row ≢ w.row) (λ h held_there. held_apart_from h held_there) known all
+  where
+    held_apart_from : (h : HeldRow) → IsHeld instance ws h → h.row ≢ w.row
+    held_apart_from h there e =
+        let above = there.valid.above in
+        let tag : cell ws h.row 0 ≡ h.content.tag = there.tag in
+        let none_yet : cell ws w.row 0 ≡ 0 = is.tag in
+        let same : cell ws h.row 0 ≡ cell ws w.row 0 = ap (λ (q : ℕ). cell ws q 0) e in
+        absurd (omega arith)
+
+pub stays : (rows : ℕ) (instance : Instance) (s : Words) → IsPool rows instance s → RowsStay s
+stays rows instance s b = record {
+  published = λ i v l j u k. apart_row instance s.words v.writing u.published (b.fits i v l).writing (b.fits j u k).published;
+  seen = λ i v l j u k. apart_row instance s.words v.writing u.seen (b.fits i v l).writing (b.fits j u k).seen;
+}
+
+-- rows that stand once each are distinct
+once-distinct : (hs : List HeldRow) → ((row : ℕ) → sum_by (λ h. once row h.row) hs ≤ 1) → AllPairs (λ g h. g.row ≢ h.row) hs
+once-distinct hs few i j d less small e = absurd (let two = two_terms hs i j d less small (get_or hs i d).row refl (sym e) in let most = few (get_or hs i d).row in omega arith)
+  where
+    one_term : (xs : List HeldRow) (j : ℕ) (d : HeldRow) → j < length xs → (row : ℕ) → (get_or xs j d).row ≡ row → 1 ≤ sum_by (λ h. once row h.row) xs
+    one_term [] j d small row is = absurd (omega arith)
+    one_term (x ∷ xs) zero d small row is = let o = once_same row x.row is in omega (arith, sum_by-cons (λ (h : HeldRow). once row h.row) x xs)
+    one_term (x ∷ xs) (suc j) d small row is = let o = one_term xs j d (omega arith) row is in omega (arith, sum_by-cons (λ (h : HeldRow). once row h.row) x xs)
+
+    two_terms : (xs : List HeldRow) (i j : ℕ) (d : HeldRow) → i < j → j < length xs → (row : ℕ) → (get_or xs i d).row ≡ row → (get_or xs j d).row ≡ row → 2 ≤ sum_by (λ h. once row h.row) xs
+    two_terms [] i j d less small row is js = absurd (omega arith)
+    two_terms (x ∷ xs) zero zero d less small row is js = absurd (omega arith)
+    two_terms (x ∷ xs) zero (suc j) d less small row is js = let o = once_same row x.row is in let p = one_term xs j d (omega arith) row js in omega (arith, sum_by-cons (λ (h : HeldRow). once row h.row) x xs)
+    two_terms (x ∷ xs) (suc i) zero d less small row is js = absurd (omega arith)
+    two_terms (x ∷ xs) (suc i) (suc j) d less small row is js = let o = two_terms xs i j d (omega arith) (omega arith) row is js in omega (arith, sum_by-cons (λ (h : HeldRow). once row h.row) x xs)
 
 pub splits : (rows : ℕ) (instance : Instance) (id : ℕ) (v : PoolView) → v.spent ≡ false → v.writing ≡ None → 2 ≤ v.share → Splits (IsPool rows instance) id v (kept_half v) (given_half v)
 splits rows instance id v un idle two s b at =
@@ -85,7 +123,7 @@ splits rows instance id v un idle two s b at =
           let tv = times_live q v un in let tl = times_live q left refl in let tr : times q right ≡ 0 = refl in omega arith;
       fresh = b.fresh;
       owned = λ q lt tagged. let o = b.owned q lt tagged in dite (ℕ_discrete o.0 id)
-          (λ e. let same = same_view is_spent s.views o.0 id o.1 v e o.2 l in (id, left, further id left here, o.3, subst (λ (u : PoolView). Contains u.published (held q o.3)) same o.4))
+          (λ e. let same = same_view is_spent s.views o.0 id o.1 v e o.2 l in (id, left, further id left here, o.3, subst (λ (u : PoolView). Contains u.published (held_row q o.3)) same o.4))
           (λ ne. (o.0, o.1, further o.0 o.1 (live_else is_spent s.views id left o.0 o.1 ne o.2), o.3, o.4));
       shares = shared_split is_spent share_of WHOLE_SHARE s.views id v left right b.shares l refl refl other_half half (let h : v.share - v.share / 2 + v.share / 2 ≡ v.share = omega arith in h);
     }
@@ -96,9 +134,9 @@ live_joined views id other both j u l = ⊎_elim
     (λ (t : (j ≢ other) × (get_elem? (set views id both) j ≡ some u)). live_set is_spent views id both j u (record { there = t.1; unspent = l.unspent }))
     (at_set (set views id both) other j spent_view u l.there)
 
-pub joins : (rows : ℕ) (instance : Instance) (id : ℕ) (v : PoolView) (other : ℕ) (w : PoolView) → v.spent ≡ false → w.spent ≡ false → w.writing ≡ None → Joins (IsPool rows instance) id v other w (united v w) spent_view
+pub joins : (rows : ℕ) (instance : Instance) (id : ℕ) (v : PoolView) (other : ℕ) (w : PoolView) → v.spent ≡ false → w.spent ≡ false → w.writing ≡ None → Joins (IsPool rows instance) id v other w (after_join v w) spent_view
 joins rows instance id v other w unv unw idle s b at apart at' =
-    let both : PoolView = united v w in
+    let both : PoolView = after_join v w in
     let l : Live s.views id v = live_me s id v unv at in
     let r : Live s.views other w = live_me s other w unw (sym (set_else s.views id other both apart) ∙ at') in
     let vs : List PoolView = set s.views id both in
@@ -127,18 +165,18 @@ joins rows instance id v other w unv unw idle s b at apart at' =
           (λ nor. (o.0, o.1, elsewhere o.0 o.1 ne nor o.2, o.3)));
       owners = λ q. let was = b.owners q in let first = sum_set (times q) s.views id v both at in let second = sum_set (times q) vs other w spent_view at' in
           let tv = times_live q v unv in let tw = times_live q w unw in let tb = times_live q both refl in let none_written : written q w.writing ≡ 0 = rw idle in
-          let appended = sum_by-append (λ (h : Held). once q h.row) v.published w.published in let ts : times q spent_view ≡ 0 = refl in omega arith;
+          let appended = sum_by-append (λ (h : HeldRow). once q h.row) v.published w.published in let ts : times q spent_view ≡ 0 = refl in omega arith;
       fresh = b.fresh;
       owned = λ q lt tagged. let o = b.owned q lt tagged in dite (ℕ_discrete o.0 id)
-          (λ e. let same = same_view is_spent s.views o.0 id o.1 v e o.2 l in (id, both, here, o.3, Contains-append_left v.published w.published (held q o.3) (subst (λ (u : PoolView). Contains u.published (held q o.3)) same o.4)))
+          (λ e. let same = same_view is_spent s.views o.0 id o.1 v e o.2 l in (id, both, here, o.3, Contains-append_left v.published w.published (held_row q o.3) (subst (λ (u : PoolView). Contains u.published (held_row q o.3)) same o.4)))
           (λ ne. dite (ℕ_discrete o.0 other)
-          (λ e. let same = same_view is_spent s.views o.0 other o.1 w e o.2 r in (id, both, here, o.3, Contains-append_right v.published w.published (held q o.3) (subst (λ (u : PoolView). Contains u.published (held q o.3)) same o.4)))
+          (λ e. let same = same_view is_spent s.views o.0 other o.1 w e o.2 r in (id, both, here, o.3, Contains-append_right v.published w.published (held_row q o.3) (subst (λ (u : PoolView). Contains u.published (held_row q o.3)) same o.4)))
           (λ nor. (o.0, o.1, elsewhere o.0 o.1 ne nor o.2, o.3, o.4)));
       shares = shared_join is_spent share_of WHOLE_SHARE s.views id other v w both spent_view b.shares (λ e. apart (sym e)) l r refl refl refl;
     }
 
-pub knows : (rows : ℕ) (instance : Instance) (slots id : ℕ) (me : Mine) → me.0.spent ≡ false → Allows (IsPool rows instance) slots id me 0 (λ n. n) (Knows (step slots 0 0 0 none) me)
-knows rows instance slots id me un s b _ at _ =
+pub has_part : (rows : ℕ) (instance : Instance) (slots id : ℕ) (me : Mine) → me.0.spent ≡ false → Allows (IsPool rows instance) slots id me 0 (λ n. n) (HasPart (step slots 0 0 0 none) me)
+has_part rows instance slots id me un s b _ at _ =
     let v : PoolView = me.0 in
     let l : Live s.views id v = live_me s id v un at in
     let within = one_within (part_of is_spent share_of) s.views id v at in
@@ -167,7 +205,7 @@ same_literals (x ∷ xs) (y ∷ ys) p q (suc n) a c same =
     ap (λ (z : Literal). z ∷ xs) head ∙ ap (λ (zs : List Literal). y ∷ zs) tail
 
 -- a row holds one content
-one_content : (instance : Instance) (ws : List ℕ) (h : Held) (c : Content) → IsHeld instance ws h → IsHeld instance ws (held h.row c) → held h.row c ≡ h
+one_content : (instance : Instance) (ws : List ℕ) (h : HeldRow) (c : Content) → IsHeld instance ws h → IsHeld instance ws (held_row h.row c) → held_row h.row c ≡ h
 one_content instance ws h c a d =
     let tag : c.tag ≡ h.content.tag = sym d.tag ∙ a.tag in
     let lits : c.lits ≡ h.content.lits = same_literals c.lits h.content.lits d.short.narrow a.short.narrow 8 d.short.most a.short.most (λ k lt. sym (d.lits k lt) ∙ a.lits k lt) in
@@ -188,8 +226,8 @@ closes rows instance id v words slots un all f =
           let drawn = is.drawn in
           let o = b.owned h.row (omega arith) (λ z. absurd (let t : h.content.tag ≡ 0 = sym tag ∙ z in omega arith)) in
           let same = alone rows instance s b id v l all o.0 o.1 o.2 in
-          let held_there : IsHeld instance s.words (held h.row o.3) = All-contains (IsHeld instance s.words) o.1.published (held h.row o.3) (b.fits o.0 o.1 o.2).published o.4 in
-          subst (Contains v.published) (one_content instance s.words h o.3 is held_there) (subst (λ (u : PoolView). Contains u.published (held h.row o.3)) (sym same) o.4))
+          let held_there : IsHeld instance s.words (held_row h.row o.3) = All-contains (IsHeld instance s.words) o.1.published (held_row h.row o.3) (b.fits o.0 o.1 o.2).published o.4 in
+          subst (Contains v.published) (one_content instance s.words h o.3 is held_there) (subst (λ (u : PoolView). Contains u.published (held_row h.row o.3)) (sym same) o.4))
           v.seen (All-contains_itself v.seen);
-      distinct = λ q. let t = times_live q v un in let o = one_within (times q) s.views id v l.there in let was = b.owners q in let one = below_most q (counter_of s.words) in omega arith;
+      distinct = once-distinct v.published (λ q. let t = times_live q v un in let o = one_within (times q) s.views id v l.there in let was = b.owners q in let one = below_most q (counter_of s.words) in omega arith);
     }

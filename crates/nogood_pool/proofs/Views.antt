@@ -8,9 +8,9 @@ use Rattle.std.specs.List.{Contains}
 use Rattle.fapp_model.specs.declared.instance.Instance.{Instance}
 use Rattle.nogood.specs.declared.row.Row.{Row}
 use Rattle.nogood_pool.specs.declared.view.Content.{Content}
-use Rattle.nogood_pool.specs.declared.view.Held.{Held}
+use Rattle.nogood_pool.specs.declared.view.HeldRow.{HeldRow}
 use Rattle.nogood_pool.specs.declared.view.PoolView.{PoolView}
-use Rattle.nogood_pool.specs.Pool.{Words, cell, counter_of, is_spent, share_of, times, below, held, Live, Fits, IsPool}
+use Rattle.nogood_pool.specs.Pool.{Words, cell, counter_of, is_spent, share_of, times, below, held_row, Live, Fits, IsPool}
 use Rattle.seat_laws.proofs.Sums.{sum_set}
 use Rattle.seat_laws.proofs.Views.{set_at, live_set, live_else, same_view, shared_set, alone as only}
 
@@ -21,8 +21,8 @@ pub kept : (rows : ℕ) (instance : Instance) (s : Words) (b : IsPool rows insta
     → (w.counter ≡ counter_of ws) ⊎ ((counter_of ws ≡ counter_of s.words) × (v.counter ≤ w.counter))
     → ((q : ℕ) → times q w + below q (counter_of s.words) ≡ times q v + below q (counter_of ws))
     → ((q k : ℕ) → counter_of ws ≤ q → q < rows → k < 9 → cell ws q k ≡ 0)
-    → ((q : ℕ) → q < rows → cell ws q 0 ≢ 0 → (cell s.words q 0 ≢ 0) ⊎ ((c : Content) × Contains w.published (held q c)))
-    → ((h : Held) → Contains v.published h → Contains w.published h)
+    → ((q : ℕ) → q < rows → cell ws q 0 ≢ 0 → (cell s.words q 0 ≢ 0) ⊎ ((c : Content) × Contains w.published (held_row q c)))
+    → ((h : HeldRow) → Contains v.published h → Contains w.published h)
     → IsPool rows instance (record { words = ws; homes = homes; views = set s.views id w })
 kept rows instance s b homes id v w ws l un sh len most mine others reach owners fresh owned more =
     let here : Live (set s.views id w) id w = record { there = set_at s.views id v w l.there; unspent = un } in
@@ -40,7 +40,7 @@ kept rows instance s b homes id v w ws l un sh len most mine others reach owners
       fresh = fresh;
       owned = λ q lt tagged. ⊎_elim
           (λ was. let o = b.owned q lt was in dite (ℕ_discrete o.0 id)
-          (λ e. let same : o.1 ≡ v = same_view is_spent s.views o.0 id o.1 v e o.2 l in (id, w, here, o.3, more (held q o.3) (subst (λ (u : PoolView). Contains u.published (held q o.3)) same o.4)))
+          (λ e. let same : o.1 ≡ v = same_view is_spent s.views o.0 id o.1 v e o.2 l in (id, w, here, o.3, more (held_row q o.3) (subst (λ (u : PoolView). Contains u.published (held_row q o.3)) same o.4)))
           (λ ne. (o.0, o.1, live_else is_spent s.views id w o.0 o.1 ne o.2, o.3, o.4)))
           (λ t. (id, w, here, t.0, t.1))
           (owned q lt tagged);

@@ -6,9 +6,9 @@ use Rattle.seat_laws.specs.Shares.{IsShared}
 use Rattle.atomic_table.specs.Table.{State}
 use Rattle.nogood.specs.declared.row.Row.{Row}
 use Rattle.nogood_pool.specs.declared.view.Content.{Content}
-use Rattle.nogood_pool.specs.declared.view.Held.{Held}
+use Rattle.nogood_pool.specs.declared.view.HeldRow.{HeldRow}
 use Rattle.nogood_pool.specs.declared.view.PoolView.{PoolView}
-use Rattle.nogood_pool.specs.declared.view.Writing.{Writing}
+use Rattle.nogood_pool.specs.declared.view.RowInWriting.{RowInWriting}
 use Rattle.fapp_model.specs.declared.instance.Instance.{Instance}
 use Rattle.fapp_model.specs.declared.literal.Literal.{Literal}
 use Rattle.fapp_model.specs.search.Implied.{Implied}
@@ -36,8 +36,8 @@ word_at lits k = slice_index (map literal_word lits) k
 abbrev pub content : List Literal → ℕ → Content
 content lits tag = record { lits = lits; tag = tag }
 
-abbrev pub held : ℕ → Content → Held
-held row c = record { row = row; content = c }
+abbrev pub held_row : ℕ → Content → HeldRow
+held_row row c = record { row = row; content = c }
 
 abbrev pub content_of : Row → Content
 content_of r = record { lits = take r.len r.lits; tag = r.tag.code }
@@ -56,7 +56,7 @@ pub record IsShort (lits : List Literal) : Type 0 where
   pub narrow : All (λ a. (a.path < 65536) × (a.choice < 65536)) lits
 
 -- the row holds the content
-pub record IsHeld (instance : Instance) (ws : List ℕ) (h : Held) : Type 0 where
+pub record IsHeld (instance : Instance) (ws : List ℕ) (h : HeldRow) : Type 0 where
   pub drawn : h.row < counter_of ws
   pub short : IsShort h.content.lits
   pub tag : cell ws h.row 0 ≡ h.content.tag
@@ -64,7 +64,7 @@ pub record IsHeld (instance : Instance) (ws : List ℕ) (h : Held) : Type 0 wher
   pub valid : IsRow instance h.content
 
 -- the row has no tag yet, and as many of its literals as were stored
-pub record IsWriting (instance : Instance) (ws : List ℕ) (w : Writing) : Type 0 where
+pub record IsWriting (instance : Instance) (ws : List ℕ) (w : RowInWriting) : Type 0 where
   pub drawn : w.row < counter_of ws
   pub short : IsShort w.content.lits
   pub within : w.stored ≤ length w.content.lits
@@ -90,7 +90,7 @@ once row other = cond (row == other) 1 0
 abbrev pub below : ℕ → ℕ → ℕ
 below row n = cond (nat_lt row n) 1 0
 
-abbrev pub written : ℕ → Option Writing → ℕ
+abbrev pub written : ℕ → Option RowInWriting → ℕ
 written row None = 0
 written row (Some w) = once row w.row
 
@@ -115,7 +115,7 @@ pub record IsPool (rows : ℕ) (instance : Instance) (s : Words) : Type 0 where
   pub reached : (seat : ℕ) × (v : PoolView) × Live s.views seat v × (v.counter ≡ counter_of s.words)
   pub owners : (row : ℕ) → sum_by (times row) s.views ≡ below row (counter_of s.words)
   pub fresh : (row k : ℕ) → counter_of s.words ≤ row → row < rows → k < 9 → cell s.words row k ≡ 0
-  pub owned : (row : ℕ) → row < rows → cell s.words row 0 ≢ 0 → (seat : ℕ) × (v : PoolView) × Live s.views seat v × (c : Content) × Contains v.published (held row c)
+  pub owned : (row : ℕ) → row < rows → cell s.words row 0 ≢ 0 → (seat : ℕ) × (v : PoolView) × Live s.views seat v × (c : Content) × Contains v.published (held_row row c)
   pub shares : IsShared is_spent share_of WHOLE_SHARE s.views
 
 abbrev pub first_view : ℕ → Instance → PoolView
@@ -130,5 +130,5 @@ kept_half v = record { spent = false; share = v.share - v.share / 2; instance = 
 abbrev pub given_half : PoolView → PoolView
 given_half v = record { spent = false; share = v.share / 2; instance = v.instance; rows = v.rows; counter = v.counter; writing = None; published = []; seen = v.published ++ v.seen; trail = [] }
 
-abbrev pub united : PoolView → PoolView → PoolView
-united v w = record { spent = false; share = v.share + w.share; instance = v.instance; rows = v.rows; counter = max v.counter w.counter; writing = v.writing; published = v.published ++ w.published; seen = v.seen ++ w.seen; trail = v.trail ++ w.trail }
+abbrev pub after_join : PoolView → PoolView → PoolView
+after_join v w = record { spent = false; share = v.share + w.share; instance = v.instance; rows = v.rows; counter = max v.counter w.counter; writing = v.writing; published = v.published ++ w.published; seen = v.seen ++ w.seen; trail = v.trail ++ w.trail }

@@ -1,28 +1,23 @@
 // How seats begin, are cut and put together, and end.
-ghost use Rattle.std.specs.Prelude.{◌≡◌, ℕ, ◌≤◌, IfOk};
-ghost use Rattle.fapp_model.specs.declared.instance.Instance.{Instance};
+ghost use Rattle.std.specs.Prelude.{◌≡◌, ◌≤◌, IfOk};
 ghost use Rattle.seat_laws.specs.declared.TheConstants.{WHOLE_SHARE};
-ghost use Rattle.nogood_pool.specs.Pool.{Words, IsPool, first_view, kept_half, given_half, united};
-ghost use Rattle.nogood_pool.specs.Ends.{IsWhole, RowsAreImplied};
+ghost use Rattle.nogood_pool.specs.Pool.{first_view, kept_half, given_half, after_join};
+ghost use Rattle.nogood_pool.specs.Ends.{IsWhole};
 ghost use Rattle.nogood_pool.specs.Seats.{view_of, instance_of, IsSeatOf, IsSameSeat};
 
-use crate::plays::{Halve, Know, Unite};
+use crate::plays::{Halve, Share, Unite};
 use crate::seat::{MAX_ROWS, Pool, PoolSeat};
-use seat_laws::WHOLE_SHARE;
 use crate::view::Key;
 use atomic_table::Table;
-use fapp_model::Instance;
-use fapp_model::NoMemory;
+use fapp_model::{Instance, NoMemory};
+use seat_laws::WHOLE_SHARE;
 use std::alloc::Global;
 use std::snapshot::Snapshot;
 
 impl Pool {
-    /// A pool of so many rows, and the first seat.
-    pub fn new(
-        alloc: Global,
-        rows: u32,
-        instance: &Instance,
-    ) -> Result<(Pool, PoolSeat), NoMemory>
+    /// A pool of so many rows, at most `MAX_ROWS`, for nogoods of the instance, and the first seat. All memory is taken
+    /// here: 72 bytes a row.
+    pub fn new(alloc: Global, rows: u32, instance: &Instance) -> Result<(Pool, PoolSeat), NoMemory>
         requires { rows ≤ MAX_ROWS }
         ensures { IfOk result (λ r. IsSeatOf r.0 r.1 × (view_of r.1 ≡ first_view rows instance.now) × (r.0.rows ≡ rows) × (instance_of r.0 ≡ instance.now)) }
     {
@@ -42,7 +37,7 @@ impl Pool {
         ))
     }
 
-    /// Another seat, which gets half of the share.
+    /// Another seat, which gets half of the share, rounded down, and is given the rows that the seat published or saw.
     pub fn split(&self, seat: &mut PoolSeat) -> PoolSeat
         requires own { IsSeatOf self.now seat.old }
         requires share { 2 ≤ (view_of seat.old).share }
@@ -64,7 +59,7 @@ impl Pool {
     pub fn join(&self, seat: &mut PoolSeat, other: PoolSeat)
         requires { IsSeatOf self.now seat.old × IsSeatOf self.now other }
         ensures same { IsSameSeat seat.old seat.new }
-        ensures view { view_of seat.new ≡ united (view_of seat.old) (view_of other) }
+        ensures view { view_of seat.new ≡ after_join (view_of seat.old) (view_of other) }
     {
         let PoolSeat {
             seat: joined,
@@ -73,14 +68,15 @@ impl Pool {
         } = other;
         self.table.shared.join_seat::<Unite>(&mut seat.seat, joined);
         // This load shows that the shares add up to the whole at most.
-        self.table.shared.load::<Know>(&mut seat.seat, 0);
+        self.table.shared.load::<Share>(&mut seat.seat, 0);
         seat.share += share;
         if seat.counter < counter {
             seat.counter = counter;
         }
     }
 
-    /// The end, once all seats are joined.
+    /// The end, once every other seat was joined. Each row that a seat saw stands with the same content among those
+    /// that were published, and no row was published twice.
     pub fn close(self, seat: PoolSeat)
         requires own { IsSeatOf self seat }
         requires share { (view_of seat).share ≡ WHOLE_SHARE }
@@ -95,8 +91,3 @@ impl Pool {
         table.close_with(seat).free();
     }
 }
-
-/// Whatever steps were made, each row that has a tag, was published or was seen holds a content that is implied.
-pub fn rows_are_implied()
-    ensures { (rows : ℕ) (instance : Instance) (s : Words) → IsPool rows instance s → RowsAreImplied rows instance s }
-{}

@@ -2,12 +2,13 @@
 #![tactic(auto)]
 
 mod ends;
+mod laws;
 mod plays;
 mod pool;
 mod seat;
 mod view;
 mod words;
 
-pub use ends::rows_are_implied;
+pub use laws::{rows_are_implied, rows_stay};
 pub use seat::{MAX_ROWS, Pool, PoolSeat};
-pub use view::{Content, Held, Move, PoolView, Writing};
+pub use view::{Content, HeldRow, PoolView, RowInWriting, TrailEntry};

@@ -1,7 +1,7 @@
 // What each step tells.
-use nogood::Row;
 use crate::view::PoolView;
 use atomic_table::{Join, Play, Split};
+use nogood::Row;
 
 pub struct Count;
 
@@ -30,17 +30,17 @@ impl Play<Row, PoolView> for StoreLiteral {
 pub struct StoreTag;
 
 impl Play<Row, PoolView> for StoreTag {
-    ghost use Rattle.nogood_pool.specs.Steps.{Publishes};
+    ghost use Rattle.nogood_pool.specs.Steps.{StoresTag};
 
-    ghost then = { Publishes };
+    ghost then = { StoresTag };
 }
 
 pub struct ReadTag;
 
 impl Play<Row, PoolView> for ReadTag {
-    ghost use Rattle.nogood_pool.specs.Steps.{Reads};
+    ghost use Rattle.nogood_pool.specs.Steps.{LoadsTag};
 
-    ghost then = { Reads };
+    ghost then = { LoadsTag };
 }
 
 pub struct ReadLiteral;
@@ -51,12 +51,12 @@ impl Play<Row, PoolView> for ReadLiteral {
     ghost then = { ReadsLiteral };
 }
 
-pub struct Know;
+pub struct Share;
 
-impl Play<Row, PoolView> for Know {
-    ghost use Rattle.nogood_pool.specs.Steps.{Knows};
+impl Play<Row, PoolView> for Share {
+    ghost use Rattle.nogood_pool.specs.Steps.{HasPart};
 
-    ghost then = { Knows };
+    ghost then = { HasPart };
 }
 
 pub struct Halve;
@@ -72,9 +72,9 @@ impl Split<PoolView> for Halve {
 pub struct Unite;
 
 impl Join<PoolView> for Unite {
-    ghost use Rattle.nogood_pool.specs.Pool.{united, spent_view};
+    ghost use Rattle.nogood_pool.specs.Pool.{after_join, spent_view};
 
-    ghost both = { united };
+    ghost both = { after_join };
 
     ghost spent = { spent_view };
 }

@@ -2,9 +2,9 @@
 ghost use Rattle.nogood_pool.specs.declared.seat.TheConstants.{MAX_ROWS};
 ghost use Rattle.std.specs.Prelude.{◌≡◌, ◌+◌, ◌*◌, ◌≤◌, false, [], None};
 
-use nogood::Row;
-use crate::view::{Key, PoolView, PoolRule};
+use crate::view::{Key, PoolRule, PoolView};
 use atomic_table::{Seat, Table};
+use nogood::Row;
 use std::alloc::Global;
 
 /// The most rows of a pool.

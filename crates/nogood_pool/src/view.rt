@@ -1,7 +1,7 @@
 // What a seat knows of the pool. No value of these types is made but `Key`.
-use nogood::Row;
 use atomic_table::TableRule;
 use fapp_model::{Instance, Literal};
+use nogood::Row;
 use std::collections::LinkedList;
 use std::snapshot::Snapshot;
 
@@ -12,20 +12,20 @@ pub struct Content {
 }
 
 /// A row that holds a content.
-pub struct Held {
+pub struct HeldRow {
     pub row: u64,
     pub content: Content,
 }
 
 /// A row that was drawn, the content that it will hold, and how many literals are stored.
-pub struct Writing {
+pub struct RowInWriting {
     pub row: u64,
     pub content: Content,
     pub stored: u64,
 }
 
 /// A step that is recorded.
-pub enum Move {
+pub enum TrailEntry {
     /// The counter was found to be this number.
     Counted(u64),
     /// The counter was expected to be the first number and found to be the second.
@@ -41,10 +41,10 @@ pub struct PoolView {
     pub instance: Instance,
     pub rows: u64,
     pub counter: u64,
-    pub writing: Option<Writing>,
-    pub published: LinkedList<Held>,
-    pub seen: LinkedList<Held>,
-    pub trail: LinkedList<Move>,
+    pub writing: Option<RowInWriting>,
+    pub published: LinkedList<HeldRow>,
+    pub seen: LinkedList<HeldRow>,
+    pub trail: LinkedList<TrailEntry>,
 }
 
 /// What a pool is told when it is made.

@@ -3,8 +3,8 @@ ghost use Rattle.std.specs.Prelude.{◌≡◌, ◌<◌, ◌≤◌, ℕ, List, le
 ghost use Rattle.nogood_pool.specs.Pool.{IsShort, content, content_of, literal_word, word_at};
 ghost use Rattle.fapp_model.specs.declared.literal.Literal.{Literal};
 
-use nogood::Row;
 use fapp_model::{Literal, Tag};
+use nogood::Row;
 
 // The word of a literal.
 pub(crate) fn word_of(a: Literal) -> u64
