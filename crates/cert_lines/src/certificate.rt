@@ -4,9 +4,10 @@ ghost use Rattle.cert_lines.specs.Steps.{Gives};
 ghost use Rattle.cert_lines.specs.FieldsLeft.{fields_left};
 ghost use Rattle.cert_lines.specs.LineReading.{count_line, branch_line, certificate_line};
 
+use crate::elements::{Children, Cites, Literals};
 use crate::fault::{CertCause, LineError};
 use crate::fields::{Fields, ended, field_at, is, tag_at};
-use crate::lists::{children_at, cites_at, literals_at, position_at};
+use crate::lists::{list_at, position_at};
 use crate::{Line, Rule};
 use fapp_model::Instance;
 use std::alloc::Global;
@@ -17,8 +18,8 @@ fn count_line(alloc: Global, instance: &Instance, fields: Fields) -> Result<Line
     ensures { Gives (λ x. x) result (count_line instance.now (fields_left fields.entry)) }
 {
     let (tag, rest) = tag_at(fields)?;
-    let (lits, rest) = literals_at(alloc, instance, rest)?;
-    let (cites, rest) = cites_at(alloc, rest)?;
+    let (lits, rest) = list_at(alloc, &Literals { instance }, rest)?;
+    let (cites, rest) = list_at(alloc, &Cites, rest)?;
     ended(rest)?;
     Ok(Line {
         tag,
@@ -33,9 +34,9 @@ fn branch_line(alloc: Global, instance: &Instance, fields: Fields) -> Result<Lin
     ensures { Gives (λ x. x) result (branch_line instance.now (fields_left fields.entry)) }
 {
     let (tag, rest) = tag_at(fields)?;
-    let (lits, rest) = literals_at(alloc, instance, rest)?;
+    let (lits, rest) = list_at(alloc, &Literals { instance }, rest)?;
     let (path, rest) = position_at(instance, rest)?;
-    let (children, rest) = children_at(alloc, instance, path, rest)?;
+    let (children, rest) = list_at(alloc, &Children { instance, path }, rest)?;
     ended(rest)?;
     Ok(Line {
         tag,

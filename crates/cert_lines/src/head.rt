@@ -9,9 +9,10 @@ ghost use Rattle.cert_lines.specs.LineReading.{word_at, polarization_at, misplac
 ghost use Rattle.cert_lines.specs.PlanState.{found_view};
 
 use crate::Verdict;
+use crate::elements::Literals;
 use crate::fault::{CertCause, LineError};
 use crate::fields::{Fields, ended, field_at, is, number_at, tag_at, triple_at};
-use crate::lists::literals_at;
+use crate::lists::list_at;
 use fapp_model::{Choice, Instance, LEVELS, Path, Triple, is_tag};
 use std::alloc::Global;
 
@@ -180,7 +181,7 @@ fn open_line(alloc: Global, instance: &Instance, fields: Fields) -> Result<Verdi
     let (lower, rest) = tag_at(rest)?;
     let rest = word_at(b"AT", rest)?;
     let (level, rest) = level_at(rest)?;
-    let (prefix, rest) = literals_at(alloc, instance, rest)?;
+    let (prefix, rest) = list_at(alloc, &Literals { instance }, rest)?;
     ended(rest)?;
     Ok(Verdict::Open {
         best,

@@ -3,6 +3,7 @@
 
 mod answer;
 mod certificate;
+mod elements;
 mod fault;
 mod fields;
 mod head;
