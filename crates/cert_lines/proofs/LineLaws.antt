@@ -19,7 +19,7 @@ use Rattle.cert_lines.specs.Spelling.{literal_numbers, child_numbers, list_numbe
 use Rattle.cert_lines.specs.WellFormed.{IsLiteral, IsChild, AreLiterals, AreCites, AreChildren, IsRule, IsLine}
 use Rattle.cert_lines.specs.FieldReading.{field_at, ended, tag_at}
 use Rattle.cert_lines.specs.ListReading.{position_at, literal_at, cite_at, child_at, list_at}
-use Rattle.cert_lines.specs.LineReading.{count_line, branch_line, certificate_line}
+use Rattle.cert_lines.specs.CertificateReading.{count_line, branch_line, certificate_line}
 use Rattle.cert_lines.proofs.Ascending.{increasing, ascends, few_below}
 use Rattle.cert_lines.proofs.Binds.{bind_ok, chosen, ok_is}
 use Rattle.cert_lines.proofs.FieldLaws.{Takes, split_numbers, takes_both, field_takes, ended_takes, tag_takes, tag_again}

@@ -20,7 +20,7 @@ use Rattle.cert_lines.proofs.Binds.{bind_ok, allowed_ok, ok_is}
 use Rattle.cert_lines.proofs.FieldLaws.{Takes, takes_both, number_takes, number_again}
 use Rattle.cert_lines.proofs.StepLaws.{IsStep}
 
-lt_of : (m n : ℕ) → ltb m n ≡ true → m < n
+pub lt_of : (m n : ℕ) → ltb m n ≡ true → m < n
 lt_of m n h = grind (arith, nat_tests)
 
 le_of : (m n : ℕ) → leb m n ≡ true → m ≤ n

@@ -5,8 +5,9 @@ pub mod Steps
 pub mod FieldReading
 pub mod FieldsLeft
 pub mod ListReading
-pub mod LineReading
+pub mod PlanReading
+pub mod VerdictReading
+pub mod CertificateReading
 pub mod Reading
 pub mod TextLeft
-pub mod PlanState
 pub mod Laws

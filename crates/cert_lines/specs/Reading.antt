@@ -12,7 +12,9 @@ use Rattle.cert_lines.specs.Spelling.{answer_text}
 use Rattle.cert_lines.specs.WellFormed.{IsWellFormed}
 use Rattle.cert_lines.specs.Steps.{◌>>=◌}
 use Rattle.cert_lines.specs.FieldReading.{fields_of}
-use Rattle.cert_lines.specs.LineReading.{plan_line, verdict_line, certificate_line}
+use Rattle.cert_lines.specs.PlanReading.{plan_line}
+use Rattle.cert_lines.specs.VerdictReading.{verdict_line}
+use Rattle.cert_lines.specs.CertificateReading.{certificate_line}
 
 abbrev pub is_line_feed : ℕ → Bool
 is_line_feed b = b == 10
@@ -47,14 +49,14 @@ line_by read rest = do
   Ok (found, line.1)
 
 -- what a line gave, before what the lines after it give
-abbrev pub and_then : {A S : Type 0} → Option (A × S) → (S → Result (List A × Rest) BadCert) → Rest → Result (List A × Rest) BadCert
+abbrev pub and_then : {A : Type 0} → Option A → Result (List A × Rest) BadCert → Rest → Result (List A × Rest) BadCert
 and_then None more rest = Ok ([], rest)
-and_then (Some x) more rest = more x.1 >>= λ others. Ok (x.0 ∷ others.0, others.1)
+and_then (Some x) more rest = more >>= λ others. Ok (x ∷ others.0, others.1)
 
--- the lines up to the one that ends them
-abbrev pub until : {A S : Type 0} → (S → List (List ℕ) → Result (Option (A × S)) CertCause) → S → ℕ → List (List ℕ) → Result (List A × Rest) BadCert
-until read s number [] = Err (fault number NoEnd)
-until read s number (line ∷ parts) = line_by (read s) (number, line ∷ parts) >>= λ x. and_then x.0 (λ t. until read t (number + 1) parts) x.1
+-- the lines up to the one that ends them, each read by the count of those before it
+abbrev pub until : {A : Type 0} → (ℕ → List (List ℕ) → Result (Option A) CertCause) → ℕ → ℕ → List (List ℕ) → Result (List A × Rest) BadCert
+until read place number [] = Err (fault number NoEnd)
+until read place number (line ∷ parts) = line_by (read place) (number, line ∷ parts) >>= λ x. and_then x.0 (until read (place + 1) (number + 1) parts) x.1
 
 -- no byte follows
 abbrev pub finished : Rest → Result (Unit {0}) BadCert
@@ -63,21 +65,12 @@ finished (number, [] ∷ []) = Ok tt
 finished (number, [] ∷ next ∷ parts) = Err (fault number AfterEnd)
 finished (number, (b ∷ bytes) ∷ parts) = Err (fault number AfterEnd)
 
--- what was found, and that nothing is to be remembered
-abbrev pub paired : {A : Type 0} → Option A → Option (A × Unit {0})
-paired None = None
-paired (Some x) = Some (x, tt)
-
--- a line of a certificate says nothing of those that may come after it
-abbrev pub alone : {A : Type 0} → (List (List ℕ) → Result (Option A) CertCause) → Unit {0} → List (List ℕ) → Result (Option (A × Unit {0})) CertCause
-alone read s fields = read fields >>= λ found. Ok (paired found)
-
 -- the answer that a text is, or its first fault
 unfoldable pub reading : Instance → List ℕ → Result Answer BadCert
 reading instance bytes = do
-  plan ← until (plan_line instance) instance.paths 1 (parts_of bytes)
+  plan ← until (plan_line instance) 0 1 (parts_of bytes)
   verdict ← line_by (verdict_line instance) plan.1
-  lines ← until (alone (certificate_line instance)) tt verdict.1.0 verdict.1.1
+  lines ← until (λ place. certificate_line instance) 0 verdict.1.0 verdict.1.1
   end ← finished lines.1
   Ok (record { plan = plan.0; verdict = verdict.0; lines = lines.0 })
 

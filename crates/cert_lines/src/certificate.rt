@@ -1,8 +1,10 @@
+//! The lines of a certificate.
+
 ghost use Rattle.std.specs.Prelude.{◌≡◌};
 ghost use Rattle.fapp_model.specs.Instances.{IsInstance};
 ghost use Rattle.cert_lines.specs.Steps.{Gives};
 ghost use Rattle.cert_lines.specs.FieldsLeft.{fields_left};
-ghost use Rattle.cert_lines.specs.LineReading.{count_line, branch_line, certificate_line};
+ghost use Rattle.cert_lines.specs.CertificateReading.{count_line, branch_line, certificate_line};
 
 use crate::elements::{Children, Cites, Literals};
 use crate::fault::{CertCause, LineError};
@@ -12,7 +14,7 @@ use crate::{Line, Rule};
 use fapp_model::Instance;
 use std::alloc::Global;
 
-#[tactic(auto, unfolding(crate::specs::LineReading::count_line))]
+#[tactic(auto, unfolding(crate::specs::CertificateReading::count_line))]
 fn count_line(alloc: Global, instance: &Instance, fields: Fields) -> Result<Line, LineError>
     requires { IsInstance instance.now }
     ensures { Gives (λ x. x) result (count_line instance.now (fields_left fields.entry)) }
@@ -28,7 +30,7 @@ fn count_line(alloc: Global, instance: &Instance, fields: Fields) -> Result<Line
     })
 }
 
-#[tactic(auto, unfolding(crate::specs::LineReading::branch_line))]
+#[tactic(auto, unfolding(crate::specs::CertificateReading::branch_line))]
 fn branch_line(alloc: Global, instance: &Instance, fields: Fields) -> Result<Line, LineError>
     requires { IsInstance instance.now }
     ensures { Gives (λ x. x) result (branch_line instance.now (fields_left fields.entry)) }
@@ -46,7 +48,7 @@ fn branch_line(alloc: Global, instance: &Instance, fields: Fields) -> Result<Lin
 }
 
 /// A line of a certificate. `None` is the line that ends it.
-#[tactic(auto, unfolding(crate::specs::LineReading::certificate_line))]
+#[tactic(auto, unfolding(crate::specs::CertificateReading::certificate_line))]
 pub(crate) fn certificate_line(
     alloc: Global,
     instance: &Instance,

@@ -6,11 +6,13 @@ mod certificate;
 mod elements;
 mod fault;
 mod fields;
-mod head;
 mod laws;
+mod line;
 mod lists;
+mod plan;
 mod reading;
 mod text;
+mod verdict;
 mod writing;
 
 pub use answer::{Answer, Child, Line, Rule, Verdict};

@@ -1,20 +1,19 @@
+//! The reading of a text, line by line.
+
 ghost use Rattle.std.specs.Prelude.{◌≡◌, ◌<◌, ◌≤◌, ◌+◌, ◌==◌, length, IfOk, Ok};
 ghost use Rattle.std.specs.List.{position};
 ghost use Rattle.fapp_model.specs.Instances.{IsInstance};
 ghost use Rattle.cert_lines.specs.Steps.{TextGives, TextFails};
-ghost use Rattle.cert_lines.specs.LineReading.{plan_line, verdict_line, certificate_line};
 ghost use Rattle.cert_lines.specs.FieldsLeft.{fields_left};
-ghost use Rattle.cert_lines.specs.Reading.{is_line_feed, next_line, line_by, fault, until, alone, finished, reading, IsReading};
-ghost use Rattle.cert_lines.specs.PlanState.{found_view};
+ghost use Rattle.cert_lines.specs.Reading.{is_line_feed, next_line, line_by, fault, until, finished, reading, IsReading};
 ghost use Rattle.cert_lines.specs.TextLeft.{text_left, placed_error};
 
-use crate::certificate::certificate_line;
 use crate::fault::LineError;
 use crate::fields::{Fields, fields_of};
-use crate::head::{plan_line, verdict_line};
+use crate::line::{CertificateLines, LineReader, PlanLines, VerdictLine};
 use crate::text::Text;
-use crate::{Answer, AnswerError, BadCert, CertCause, Line, Verdict};
-use fapp_model::{Choice, Instance, Items, Path};
+use crate::{Answer, AnswerError, BadCert, CertCause};
+use fapp_model::{Instance, Items};
 use std::alloc::Global;
 
 /// The answer of a network's text of at most 2^30 bytes. `Bad` is the first fault of a text that is no answer's,
@@ -67,99 +66,42 @@ fn placed(line: u32, error: LineError) -> AnswerError
     }
 }
 
-/// The choice of the first of the paths that have none yet, and the paths after it. `None` is the line that ends
-/// the plan.
+/// The next line, read by its fields, and the text after it.
 #[tactic(auto, unfolding(crate::specs::Reading::line_by))]
-fn next_choice<'a, 't>(
-    instance: &Instance,
-    paths: &'a [Path],
+fn line_by<'t, R: LineReader>(
+    alloc: Global,
+    reader: &R,
+    place: usize,
     text: Text<'t>,
-) -> Result<(Option<(Choice, &'a [Path])>, Text<'t>), AnswerError>
-    ensures gives { TextGives (λ x. (found_view x.0, text_left x.1)) result (line_by (plan_line instance.now paths.now) (text_left text.entry)) }
+) -> Result<(R::Found, Text<'t>), AnswerError>
+    requires { R.valid reader.now }
+    ensures gives { TextGives (λ x. (x.0, text_left x.1)) result (line_by (R.read reader.now place) (text_left text.entry)) }
     ensures shorter { IfOk result (λ x. length x.1.rest.now < length text.entry.rest.now) }
 {
     let (fields, after) = next_line(text)?;
-    match plan_line(instance, paths, fields) {
+    match reader.read_line(alloc, place, fields) {
         Ok(found) => Ok((found, after)),
         Err(error) => Err(placed(text.line, error)),
     }
 }
 
-#[tactic(auto, unfolding(crate::specs::Reading::line_by))]
-fn next_verdict<'t>(
+/// The lines up to the one that ends them.
+fn until<'t, T: Drop, R: LineReader<Found = Option<T>>>(
     alloc: Global,
-    instance: &Instance,
+    reader: &R,
     text: Text<'t>,
-) -> Result<(Verdict, Text<'t>), AnswerError>
-    requires { IsInstance instance.now }
-    ensures { TextGives (λ x. (x.0, text_left x.1)) result (line_by (verdict_line instance.now) (text_left text.entry)) }
+) -> Result<(Items<T>, Text<'t>), AnswerError>
+    requires { R.valid reader.now }
+    ensures { TextGives (λ x. (x.0, text_left x.1)) result (until (R.read reader.now) 0 (text_left text.entry).0 (text_left text.entry).1) }
 {
-    let (fields, after) = next_line(text)?;
-    match verdict_line(alloc, instance, fields) {
-        Ok(verdict) => Ok((verdict, after)),
-        Err(error) => Err(placed(text.line, error)),
-    }
-}
-
-/// The next certificate line. `None` is the line that ends them.
-#[tactic(auto, unfolding(crate::specs::Reading::line_by))]
-fn next_certificate<'t>(
-    alloc: Global,
-    instance: &Instance,
-    text: Text<'t>,
-) -> Result<(Option<Line>, Text<'t>), AnswerError>
-    requires { IsInstance instance.now }
-    ensures gives { TextGives (λ x. (x.0, text_left x.1)) result (line_by (certificate_line instance.now) (text_left text.entry)) }
-    ensures shorter { IfOk result (λ x. length x.1.rest.now < length text.entry.rest.now) }
-{
-    let (fields, after) = next_line(text)?;
-    match certificate_line(alloc, instance, fields) {
-        Ok(found) => Ok((found, after)),
-        Err(error) => Err(placed(text.line, error)),
-    }
-}
-
-/// The plan before the verdict.
-fn plan_of<'t>(
-    alloc: Global,
-    instance: &Instance,
-    text: Text<'t>,
-) -> Result<(Items<Choice>, Text<'t>), AnswerError>
-    ensures { TextGives (λ x. (x.0, text_left x.1)) result (until (plan_line instance.now) instance.now.paths (text_left text.entry).0 (text_left text.entry).1) }
-{
-    let mut plan = Vec::new(alloc);
-    let mut paths = instance.paths.as_slice();
+    let mut found = Vec::new(alloc);
     let mut rest = text;
     loop {
-        let (found, after) = next_choice(instance, paths, rest)?;
+        let (line, after) = line_by(alloc, reader, found.len(), rest)?;
         rest = after;
-        match found {
-            None => return Ok((Items::from_vec(plan), rest)),
-            Some((choice, others)) => {
-                plan.push(choice)?;
-                paths = others;
-            }
-        }
-    }
-}
-
-/// The certificate lines up to the one that ends them.
-fn lines_of<'t>(
-    alloc: Global,
-    instance: &Instance,
-    text: Text<'t>,
-) -> Result<(Items<Line>, Text<'t>), AnswerError>
-    requires { IsInstance instance.now }
-    ensures { TextGives (λ x. (x.0, text_left x.1)) result (until (alone (certificate_line instance.now)) tt (text_left text.entry).0 (text_left text.entry).1) }
-{
-    let mut lines = Vec::new(alloc);
-    let mut rest = text;
-    loop {
-        let (found, after) = next_certificate(alloc, instance, rest)?;
-        rest = after;
-        match found {
-            None => return Ok((Items::from_vec(lines), rest)),
-            Some(line) => lines.push(line)?,
+        match line {
+            None => return Ok((Items::from_vec(found), rest)),
+            Some(line) => found.push(line)?,
         }
     }
 }
@@ -184,9 +126,9 @@ fn answer_of(alloc: Global, instance: &Instance, bytes: &[u8]) -> Result<Answer,
         rest: bytes,
         line: 1,
     };
-    let (plan, rest) = plan_of(alloc, instance, text)?;
-    let (verdict, rest) = next_verdict(alloc, instance, rest)?;
-    let (lines, rest) = lines_of(alloc, instance, rest)?;
+    let (plan, rest) = until(alloc, &PlanLines { instance }, text)?;
+    let (verdict, rest) = line_by(alloc, &VerdictLine { instance }, 0, rest)?;
+    let (lines, rest) = until(alloc, &CertificateLines { instance }, rest)?;
     finished(rest)?;
     Ok(Answer {
         plan,

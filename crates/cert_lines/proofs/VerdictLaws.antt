@@ -1,158 +1,31 @@
--- Choices of a plan and verdicts, both ways.
-use Rattle.std.proofs.Common.{◌≡◌, ◌⊎◌, ℕ, ◌+◌, ◌≤◌, Bool, true, cond, ◌&&◌, ◌||◌, eqb, leb, List, [], ◌∷◌, ◌++◌, map, decimal, codes, ℤ, pos, negsuc, Option, Some, None, Result, Ok, Err, refl, sym, ap, subst, ◌∙◌, inl, inr, arith}
-use Rattle.std.specs.Fmt.{signed_decimal}
+-- Verdicts, both ways.
+use Rattle.std.proofs.Common.{◌≡◌, ℕ, ◌+◌, ◌≤◌, Bool, true, cond, ◌&&◌, ◌||◌, eqb, leb, List, [], ◌∷◌, ◌++◌, map, decimal, codes, Result, Ok, Err, refl, sym, ap, subst, ◌∙◌, inl, inr, arith}
 use Rattle.std.specs.Str.{bytes_eq}
-use Rattle.std.proofs.lemmas.Bool.{eqb-true}
 use Rattle.std.proofs.lemmas.Bool.Decides.{nat_tests}
-use Rattle.std.proofs.lemmas.Fmt.{decimal_digit}
 use Rattle.std.proofs.lemmas.List.{append-nil}
-use Rattle.fapp_model.specs.declared.choice.Choice.{Choice}
 use Rattle.fapp_model.specs.declared.instance.Instance.{Instance}
-use Rattle.fapp_model.specs.declared.instance.Path.{Path}
 use Rattle.fapp_model.specs.declared.level.TheConstants.{LEVELS}
 use Rattle.fapp_model.specs.declared.triple.Triple.{Triple}
-use Rattle.fapp_model.specs.Instances.{IsNumber, IsInstance}
+use Rattle.fapp_model.specs.Instances.{IsInstance}
 use Rattle.fapp_model.specs.Tags.{is_tag, has_limit}
 use Rattle.cert_lines.specs.declared.answer.Verdict.{Verdict}
 use Rattle.cert_lines.specs.declared.answer.Verdict.TheVariants.{Best, NoneFeasible, Open}
 use Rattle.cert_lines.specs.declared.fault.CertCause.{CertCause}
 use Rattle.cert_lines.specs.declared.fault.CertCause.TheVariants.{BadKind, BadNumber, BadTag}
 use Rattle.cert_lines.specs.Steps.{◌>>=◌, allowed}
-use Rattle.cert_lines.specs.Spelling.{triple_numbers, tag_numbers, list_numbers, verdict_fields, choice_fields}
-use Rattle.cert_lines.specs.WellFormed.{IsShown, IsVerdict, is_cost, is_shown}
+use Rattle.cert_lines.specs.Spelling.{triple_numbers, tag_numbers, list_numbers, verdict_fields}
+use Rattle.cert_lines.specs.WellFormed.{IsVerdict, is_cost, is_shown}
 use Rattle.cert_lines.specs.FieldReading.{field_at, ended, number_at, triple_at, tag_at}
 use Rattle.cert_lines.specs.ListReading.{literal_at, list_at}
-use Rattle.cert_lines.specs.LineReading.{word_at, polarization_at, misplaced, after_path, choice_line, plan_line, judged, best_line, level_at, open_line, verdict_line}
+use Rattle.cert_lines.specs.VerdictReading.{word_at, judged, best_line, level_at, open_line, verdict_line}
 use Rattle.cert_lines.proofs.Binds.{bind_ok, allowed_ok, chosen, both_true, ok_is}
 use Rattle.cert_lines.proofs.Codes.{IsSmall, small_tag}
 use Rattle.cert_lines.proofs.FieldLaws.{Takes, field_takes, ended_takes, number_takes, number_again, triple_takes, triple_again, tag_takes, tag_again}
 use Rattle.cert_lines.proofs.LineLaws.{word_is, literals_take, literals_again}
 use Rattle.cert_lines.proofs.ListLaws.{le_is}
 
--- ---- choices of a plan
-
-abbrev pub IsSign : ℤ → Type 0
-IsSign z = (z ≡ negsuc 0) ⊎ (z ≡ pos 1)
-
-one_text : decimal 1 ≡ codes "1"
-one_text = decimal_digit 1 (omega arith)
-
-abbrev SignTaken : List (List ℕ) → ℤ × List (List ℕ) → Type 0
-SignTaken fields x = (fields ≡ signed_decimal x.0 ∷ x.1) × IsSign x.0
-
-plus_taken : (word : List ℕ) (rest : List (List ℕ)) → word ≡ codes "1" → SignTaken (word ∷ rest) (pos 1, rest)
-plus_taken word rest e = (ap (λ (w : List ℕ). w ∷ rest) (e ∙ sym one_text), inr refl)
-
-minus_taken : (word : List ℕ) (rest : List (List ℕ)) → word ≡ codes "-1" → SignTaken (word ∷ rest) (negsuc 0, rest)
-minus_taken word rest e = (ap (λ (w : List ℕ). w ∷ rest) (e ∙ ap (λ (w : List ℕ). 45 ∷ w) (sym one_text)), inl refl)
-
-no_sign : (x : ℤ × List (List ℕ)) → ◌≡◌ {A = Result (ℤ × List (List ℕ)) CertCause} (Err BadNumber) (Ok x) → ⊥
-no_sign x e = cc
-
-polarization_takes : (fields : List (List ℕ)) (x : ℤ × List (List ℕ)) → polarization_at fields ≡ Ok x → SignTaken fields x
-unfolding polarization_at
-polarization_takes fields x e =
-    let a = bind_ok (field_at fields) (λ field. cond (bytes_eq field.0 (codes "1")) (Ok (pos 1, field.1)) (cond (bytes_eq field.0 (codes "-1")) (Ok (negsuc 0, field.1)) (Err BadNumber))) x e in
-    let plus : ℤ × List (List ℕ) = (pos 1, a.0.1) in
-    let minus : ℤ × List (List ℕ) = (negsuc 0, a.0.1) in
-    rw (field_takes fields a.0 a.1) (elim (chosen (bytes_eq a.0.0 (codes "1")) (Ok plus) (cond (bytes_eq a.0.0 (codes "-1")) (Ok minus) (Err BadNumber)) (Ok x) a.2) [
-      | inl h ↦ subst (SignTaken (a.0.0 ∷ a.0.1)) (ok_is {E = CertCause} plus x h.1) (plus_taken a.0.0 a.0.1 (word_is a.0.0 (codes "1") h.0))
-      | inr h ↦ elim (chosen (bytes_eq a.0.0 (codes "-1")) (Ok minus) (Err BadNumber) (Ok x) h.1) [
-        | inl g ↦ subst (SignTaken (a.0.0 ∷ a.0.1)) (ok_is {E = CertCause} minus x g.1) (minus_taken a.0.0 a.0.1 (word_is a.0.0 (codes "-1") g.0))
-        | inr g ↦ absurd (no_sign x g.1)
-      ]
-    ])
-
-polarization_again : (z : ℤ) (rest : List (List ℕ)) → IsSign z → polarization_at (signed_decimal z ∷ rest) ≡ Ok (z, rest)
-unfolding polarization_at
-polarization_again z rest (inl e) = rw (e, one_text) refl
-polarization_again z rest (inr e) = rw (e, one_text) refl
-
--- a path whose turn it is
-abbrev IsNext : ℕ → List Path → List Path → Type 0
-IsNext number paths others = (path : Path) × (paths ≡ path ∷ others) × (path.number ≡ number)
-
-no_path_left : (cause : CertCause) (others : List Path) → ◌≡◌ {A = Result (List Path) CertCause} (Err cause) (Ok others) → ⊥
-no_path_left cause others e = cc
-
-after_path_takes : (instance : Instance) (number : ℕ) (paths others : List Path) → after_path instance number paths ≡ Ok others → IsNext number paths others
-after_path_takes instance number [] others e = absurd (no_path_left (misplaced instance number) others e)
-after_path_takes instance number (path ∷ paths) others e =
-    elim (chosen (eqb path.number number) (Ok paths) (Err (misplaced instance number)) (Ok others) e) [
-      | inl h ↦ (path, ap (λ (ps : List Path). path ∷ ps) (ok_is {E = CertCause} paths others h.1), eqb-true _ _ h.0)
-      | inr h ↦ absurd (no_path_left (misplaced instance number) others h.1)
-    ]
-
--- fields that are those of the first path's choice
-abbrev pub IsChoiceOf : List Path → List (List ℕ) → Choice × List Path → Type 0
-IsChoiceOf paths fields x = (path : Path) × (paths ≡ path ∷ x.1) × (fields ≡ choice_fields path x.0) × IsShown x.0
-
-choice_takes : (instance : Instance) (paths : List Path) (fields : List (List ℕ)) (x : Choice × List Path) → choice_line instance paths fields ≡ Ok x → IsChoiceOf paths (codes "AL" ∷ fields) x
-unfolding choice_line
-choice_takes instance paths fields x e =
-    let a = bind_ok (number_at fields) (λ number. after_path instance number.0 paths >>= λ others. number_at number.1 >>= λ freq. polarization_at freq.1 >>= λ pol. ended pol.1 >>= λ end. Ok (record { freq = freq.0; pol = pol.0 }, others)) x e in
-    let b = bind_ok (after_path instance a.0.0 paths) (λ others. number_at a.0.1 >>= λ freq. polarization_at freq.1 >>= λ pol. ended pol.1 >>= λ end. Ok (record { freq = freq.0; pol = pol.0 }, others)) x a.2 in
-    let c = bind_ok (number_at a.0.1) (λ freq. polarization_at freq.1 >>= λ pol. ended pol.1 >>= λ end. Ok (record { freq = freq.0; pol = pol.0 }, b.0)) x b.2 in
-    let d = bind_ok (polarization_at c.0.1) (λ pol. ended pol.1 >>= λ end. Ok (record { freq = c.0.0; pol = pol.0 }, b.0)) x c.2 in
-    let f = bind_ok (ended d.0.1) (λ end. Ok (record { freq = c.0.0; pol = d.0.0 }, b.0)) x d.2 in
-    let number = number_takes fields a.0 a.1 in
-    let next = after_path_takes instance a.0.0 paths b.0 b.1 in
-    let freq = number_takes a.0.1 c.0 c.1 in
-    let sign = polarization_takes c.0.1 d.0 d.1 in
-    let end = ended_takes d.0.1 f.0 f.1 in
-    let made : Choice × List Path = (record { freq = c.0.0; pol = d.0.0 }, b.0) in
-    let last : c.0.1 ≡ signed_decimal d.0.0 ∷ [] = sign.0 ∙ ap (λ (t : List (List ℕ)). signed_decimal d.0.0 ∷ t) end in
-    let later : a.0.1 ≡ decimal c.0.0 ∷ signed_decimal d.0.0 ∷ [] = freq.0 ∙ ap (λ (t : List (List ℕ)). decimal c.0.0 ∷ t) last in
-    let text : fields ≡ decimal next.0.number ∷ decimal c.0.0 ∷ signed_decimal d.0.0 ∷ [] = number.0 ∙ ap (λ (t : List (List ℕ)). decimal a.0.0 ∷ t) later ∙ ap (λ (n : ℕ). decimal n ∷ decimal c.0.0 ∷ signed_decimal d.0.0 ∷ []) (sym next.2) in
-    subst (IsChoiceOf paths (codes "AL" ∷ fields)) (ok_is {E = CertCause} made x f.2) (next.0, next.1, ap (λ (t : List (List ℕ)). codes "AL" ∷ t) text, record { freq = freq.1; pol = sign.1 })
-
-same_number : (n : ℕ) → eqb n n ≡ true
-same_number n = grind (arith, nat_tests)
-
-choice_again : (instance : Instance) (path : Path) (others : List Path) (choice : Choice) → IsNumber path.number → IsShown choice
-    → choice_line instance (path ∷ others) (decimal path.number ∷ decimal choice.freq ∷ signed_decimal choice.pol ∷ []) ≡ Ok (choice, others)
-unfolding choice_line
-choice_again instance path others choice number shown =
-    rw (number_again path.number (decimal choice.freq ∷ signed_decimal choice.pol ∷ []) number, same_number path.number, number_again choice.freq (signed_decimal choice.pol ∷ []) shown.freq, polarization_again choice.pol [] shown.pol) refl
-
--- what a line of a plan says
-abbrev pub IsPlanned : List Path → List (List ℕ) → Option (Choice × List Path) → Type 0
-IsPlanned paths fields None = fields ≡ codes "--" ∷ []
-IsPlanned paths fields (Some x) = IsChoiceOf paths fields x
-
 no_kind : {A : Type 0} (x : A) → ◌≡◌ {A = Result A CertCause} (Err BadKind) (Ok x) → ⊥
 no_kind x e = cc
-
-pub plan_takes : (instance : Instance) (paths : List Path) (fields : List (List ℕ)) (found : Option (Choice × List Path)) → plan_line instance paths fields ≡ Ok found → IsPlanned paths fields found
-unfolding plan_line
-plan_takes instance paths fields found e =
-    let kinds : List ℕ → List (List ℕ) → Result (Option (Choice × List Path)) CertCause = λ word rest. cond (bytes_eq word (codes "AL")) (choice_line instance paths rest >>= λ x. Ok (Some x)) (Err BadKind) in
-    let a = bind_ok (field_at fields) (λ word. cond (bytes_eq word.0 (codes "--")) (ended word.1 >>= λ end. Ok None) (kinds word.0 word.1)) found e in
-    let none : Option (Choice × List Path) = None in
-    rw (field_takes fields a.0 a.1) (elim (chosen (bytes_eq a.0.0 (codes "--")) (ended a.0.1 >>= λ end. Ok None) (kinds a.0.0 a.0.1) (Ok found) a.2) [
-      | inl h ↦
-          let b = bind_ok (ended a.0.1) (λ end. Ok None) found h.1 in
-          let taken : IsPlanned paths (a.0.0 ∷ a.0.1) none = rw (word_is a.0.0 (codes "--") h.0, ended_takes a.0.1 b.0 b.1) refl in
-          subst (IsPlanned paths (a.0.0 ∷ a.0.1)) (ok_is {E = CertCause} none found b.2) taken
-      | inr h ↦ elim (chosen (bytes_eq a.0.0 (codes "AL")) (choice_line instance paths a.0.1 >>= λ x. Ok (Some x)) (Err BadKind) (Ok found) h.1) [
-        | inl g ↦
-            let b = bind_ok (choice_line instance paths a.0.1) (λ x. Ok (Some x)) found g.1 in
-            let some : Option (Choice × List Path) = Some b.0 in
-            let taken : IsPlanned paths (a.0.0 ∷ a.0.1) some = rw (word_is a.0.0 (codes "AL") g.0) (choice_takes instance paths a.0.1 b.0 b.1) in
-            subst (IsPlanned paths (a.0.0 ∷ a.0.1)) (ok_is {E = CertCause} some found b.2) taken
-        | inr g ↦ absurd (no_kind found g.1)
-      ]
-    ])
-
-pub plan_again : (instance : Instance) (path : Path) (others : List Path) (choice : Choice) → IsNumber path.number → IsShown choice → plan_line instance (path ∷ others) (choice_fields path choice) ≡ Ok (Some (choice, others))
-unfolding plan_line
-plan_again instance path others choice number shown = ap (λ (r : Result (Choice × List Path) CertCause). r >>= λ x. Ok (Some x)) (choice_again instance path others choice number shown)
-
-pub plan_ends : (instance : Instance) (paths : List Path) → plan_line instance paths (codes "--" ∷ []) ≡ Ok None
-unfolding plan_line
-plan_ends instance paths = refl
-
--- ---- verdicts
 
 word_at_takes : (word : List ℕ) (fields rest : List (List ℕ)) → word_at word fields ≡ Ok rest → fields ≡ word ∷ rest
 unfolding word_at
