@@ -9,9 +9,10 @@ use Rattle.fapp_model.specs.Assignments.{count_at}
 use Rattle.fapp_model.specs.search.Clashes.{clashes, shares_record}
 use Rattle.fapp_model.specs.Instances.{IsInstance}
 use Rattle.fapp_model.specs.search.Partials.{literal, IsLiteral}
-use Rattle.dead_laws.proofs.Anys.{passing, any-member, none-member, contains-range, sum_by-lt-member}
+use Rattle.fapp_model.proofs.Anys.{passing, any-member, none-member, sum_by-lt-member}
+use Rattle.fapp_model.proofs.Members.{in-range}
 use Rattle.dead_laws.proofs.RecordEnds.{shares-range}
-use Rattle.dead_laws.proofs.Sums.{count_by-le-members, cond-le}
+use Rattle.fapp_model.proofs.Sums.{count_by-le-members, cond-le}
 
 -- whether a choice of the path is a partner of the literal in the family
 abbrev pub partners : Instance → ℕ → (Literal → Bool) → Literal → ℕ → Bool
@@ -61,10 +62,10 @@ module _ (instance : Instance) (level : ℕ) (family : Literal → Bool) (valid 
   partner none a path member shares =
       let at_home = in_range a member in
       let other = shares-range instance valid a.path path shares in
-      let here = none-member (has_lonely_at instance level family) (range_with_len 0 (length instance.paths)) none a.path (contains-range _ _ at_home.path) in
-      let this = none-member (λ index. family (literal a.path index) && is_lonely instance level family (literal a.path index)) (range_with_len 0 (count_at instance a.path)) here a.choice (contains-range _ _ at_home.choice) in
+      let here = none-member (has_lonely_at instance level family) (range_with_len 0 (length instance.paths)) none a.path (in-range _ _ at_home.path) in
+      let this = none-member (λ index. family (literal a.path index) && is_lonely instance level family (literal a.path index)) (range_with_len 0 (count_at instance a.path)) here a.choice (in-range _ _ at_home.choice) in
       let befriended : is_lonely instance level family a ≡ false = right_false (family a) (is_lonely instance level family a) member this in
-      let there = none-member (λ path. shares_record instance a.path path && not (partners instance level family a path)) (range_with_len 0 (length instance.paths)) befriended path (contains-range _ _ other.1) in
+      let there = none-member (λ path. shares_record instance a.path path && not (partners instance level family a path)) (range_with_len 0 (length instance.paths)) befriended path (in-range _ _ other.1) in
       let some = not-false (partners instance level family a path) (right_false (shares_record instance a.path path) (not (partners instance level family a path)) shares there) in
       let found = passing (λ index. family (literal path index) && not (clashes instance level a (literal path index))) (range_with_len 0 (count_at instance path)) some in
       let parts = and_parts (family (literal path found.item)) (not (clashes instance level a (literal path found.item))) found.passes in
@@ -86,7 +87,7 @@ module _ (instance : Instance) (level : ℕ) (family : Literal → Bool) (valid 
       let kept = wide.wide other supported (literal found.item friend.index) friend.member in
       let small = (wide.in_range (literal found.item friend.index) kept).choice in
       both_ways (partners instance level family a found.item) (not-true _ parts.1)
-      (any-member (λ index. family (literal found.item index) && not (clashes instance level a (literal found.item index))) (range_with_len 0 (count_at instance found.item)) friend.index (contains-range _ _ small)
+      (any-member (λ index. family (literal found.item index) && not (clashes instance level a (literal found.item index))) (range_with_len 0 (count_at instance found.item)) friend.index (in-range _ _ small)
       (and_from _ _ kept (not_from_false _ friend.apart)))
 
   size-without : (a : Literal) → IsTrue (family a) → size instance (without family a) < size instance family
@@ -94,10 +95,10 @@ module _ (instance : Instance) (level : ℕ) (family : Literal → Bool) (valid 
       let at_home = wide.in_range a member in
       sum_by-lt-member (size_at instance (without family a)) (size_at instance family) (range_with_len 0 (length instance.paths)) a.path
       (λ k d l. count_by-le-members _ _ (range_with_len 0 (count_at instance (get_or (range_with_len 0 (length instance.paths)) k d))) (λ i e m h. (and_parts _ _ h).0))
-      (contains-range _ _ at_home.path)
+      (in-range _ _ at_home.path)
       (sum_by-lt-member (λ index. cond (without family a (literal a.path index)) 1 0) (λ index. cond (family (literal a.path index)) 1 0) (range_with_len 0 (count_at instance a.path)) a.choice
       (λ i e m. cond-le (without family a (literal a.path (get_or (range_with_len 0 (count_at instance a.path)) i e))) (family (literal a.path (get_or (range_with_len 0 (count_at instance a.path)) i e))) (λ h. (and_parts _ _ h).0))
-      (contains-range _ _ at_home.choice)
+      (in-range _ _ at_home.choice)
       (less (without family a a) (family a) (and_right (family a) (not (same_literal a a)) (not_from_true (same_literal a a) (and_from _ _ (eq-eqb a.path a.path refl) (eq-eqb a.choice a.choice refl)))) member))
     where
       less : (x y : Bool) → x ≡ false → y ≡ true → cond x 1 0 < cond y 1 0

@@ -26,8 +26,8 @@ use Rattle.fapp_model.specs.Tags.{IsTagOf, has_limit, least_tag, mode_level}
 use Rattle.fapp_model.specs.Triples.{IsBelow}
 use Rattle.fapp_model.specs.search.Weights.{pair_with}
 use Rattle.dead_laws.specs.DeadLaws.{NamesAll}
-use Rattle.dead_laws.specs.ImpliedLaws.{HasAll}
-use Rattle.dead_laws.proofs.Anys.{none-member}
+use Rattle.fapp_model.specs.search.Partials.{HasAll}
+use Rattle.fapp_model.proofs.Anys.{none-member}
 use Rattle.dead_laws.proofs.CostLaws.{within-cost}
 use Rattle.dead_laws.proofs.DeadImplied.{small-paths}
 use Rattle.dead_laws.proofs.DeadLower.{IsPairAtMost-trans, least_or_above}
@@ -36,7 +36,7 @@ use Rattle.dead_laws.proofs.Growing.{pair-grows}
 use Rattle.dead_laws.proofs.PairSums.{below_or_at_most}
 use Rattle.dead_laws.proofs.Picks.{AreDistinct, distinct-tail, names-at}
 use Rattle.dead_laws.proofs.PlanLiterals.{IsChosen, chosen-is, plan_literals, plan-distinct, plan-member, plan-names, plan-pair}
-use Rattle.dead_laws.proofs.Sums.{count_by-none}
+use Rattle.fapp_model.proofs.Sums.{count_by-none}
 use Rattle.dead_laws.proofs.TagParts.{shape_of}
 
 -- the index that a list chooses for a path

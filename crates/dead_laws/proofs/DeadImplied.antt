@@ -20,7 +20,7 @@ use Rattle.fapp_model.specs.search.Partials.{literal, names, Extends, IsLiteral,
 use Rattle.fapp_model.specs.Tags.{IsTagOf, has_limit, mode_level, top_tag}
 use Rattle.fapp_model.specs.Triples.{IsBelow}
 use Rattle.fapp_model.specs.search.Weights.{added_pair, pair_with}
-use Rattle.dead_laws.specs.DeadLaws.{RulesOut}
+use Rattle.fapp_model.specs.search.Implied.{RulesOut}
 use Rattle.dead_laws.proofs.CostLaws.{cost-within}
 use Rattle.dead_laws.proofs.DeadLower.{IsPairAtMost-trans, nothing_below}
 use Rattle.dead_laws.proofs.Growing.{pair-grows}

@@ -16,8 +16,9 @@ use Rattle.fapp_model.specs.search.Partials.{literal, names}
 use Rattle.fapp_model.specs.Tags.{IsTagOf, least_tag, mode_level}
 use Rattle.fapp_model.specs.Triples.{IsBelow}
 use Rattle.fapp_model.specs.search.Weights.{added_pair, bad_before, inside, pair_with}
-use Rattle.dead_laws.specs.ImpliedLaws.{IsAtMost}
-use Rattle.dead_laws.proofs.Anys.{positive-sum_by, range-contains}
+use Rattle.fapp_model.specs.Triples.{IsAtMost}
+use Rattle.fapp_model.proofs.Anys.{positive-sum_by}
+use Rattle.fapp_model.proofs.Members.{from-range}
 use Rattle.dead_laws.proofs.LowerLevels.{InArc_higher, added_clashes, clashes_lower, clashes_with_lower, free_higher, inside_clashes, outside_lower}
 use Rattle.dead_laws.proofs.TagParts.{TagShape, limited, plain, mode-limited, mode-plain, shape_of}
 
@@ -109,7 +110,7 @@ module _ (instance : Instance) (t u : Triple) (literals : List Literal) (valid :
             clash found.first found.second found.first_in found.second_in found.clash
         | inr none ↦
             let found = positive-sum_by (λ path. cond (names literals path) 0 (fewest path).v) (range_with_len 0 (length instance.paths)) (omega (arith, positive)) in
-            let small = range-contains (length instance.paths) found.item found.member in
+            let small = from-range (length instance.paths) found.item found.member in
             let free = open_positive (names literals found.item) (fewest found.item).v found.positive in
             no_choice_left found.item small free.0 (none_left lower found.item (fewest found.item) free.1 (each found.item small free.0))
       ]

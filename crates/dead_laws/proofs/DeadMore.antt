@@ -14,8 +14,8 @@ use Rattle.fapp_model.specs.search.Pairs.{Pair, IsPairAtMost, limit_of}
 use Rattle.fapp_model.specs.search.Partials.{literal, names, IsLiteral, IsPartial}
 use Rattle.fapp_model.specs.Tags.{has_limit, mode_level}
 use Rattle.fapp_model.specs.search.Weights.{added_pair, bad_before, bad_further, pair_with}
-use Rattle.dead_laws.specs.ImpliedLaws.{HasAll}
-use Rattle.dead_laws.proofs.Anys.{any-member, none-member, passing}
+use Rattle.fapp_model.specs.search.Partials.{HasAll}
+use Rattle.fapp_model.proofs.Anys.{any-member, none-member, passing}
 use Rattle.dead_laws.proofs.DeadImplied.{small-paths}
 use Rattle.dead_laws.proofs.DeadLower.{IsPairAtMost-trans}
 use Rattle.dead_laws.proofs.DeadTests.{arcs-of, clash-dead, dead-judged, excluded-dead, has_clash, is_stuck, least-pairs, least_pairs, stuck-dead}

@@ -19,7 +19,8 @@ use Rattle.fapp_model.specs.Triples.{IsBelow}
 use Rattle.fapp_model.specs.search.Weights.{added_pair, pair_with}
 use Rattle.dead_laws.specs.ArcLaws.{IsArcs}
 use Rattle.dead_laws.specs.DeadLaws.{AgreeOn}
-use Rattle.dead_laws.proofs.Anys.{contains-range, no-member, none-member, passing, range-contains}
+use Rattle.fapp_model.proofs.Anys.{no-member, none-member, passing}
+use Rattle.fapp_model.proofs.Members.{in-range, from-range}
 use Rattle.dead_laws.proofs.ArcTest.{InArc-from_greatest, greatest, greatest-from_InArc}
 use Rattle.dead_laws.proofs.BestChoices.{BestOf, NonePass, best, best_pair}
 use Rattle.dead_laws.proofs.DeadImplied.{small-paths}
@@ -91,10 +92,10 @@ module _ (instance : Instance) (level : ℕ) (excluded : Literal → Bool) (lite
   least-of path (inl none) some = absurd (both_ways (list_any (stays instance level excluded literals path) (range_with_len 0 (count_at instance path))) (no-member (stays instance level excluded literals path) (range_with_len 0 (count_at instance path)) none.fails) some)
   least-of path (inr found) some = record {
     index = found.item;
-    in_range = range-contains (count_at instance path) found.item found.member;
+    in_range = from-range (count_at instance path) found.item found.member;
     remains = stays-remains path found.item found.passes;
     reached = refl;
-    least = λ other small r. found.least other (contains-range (count_at instance path) other small) (remains-stays path other r);
+    least = λ other small r. found.least other (in-range (count_at instance path) other small) (remains-stays path other r);
   }
 
 -- the least pair of each path
@@ -127,9 +128,9 @@ pub stuck-dead : (excluded : Literal → Bool) (instance : Instance) (t : Triple
 stuck-dead excluded instance t literals e =
     let found = passing (is_stuck instance (mode_level t) excluded literals) (range_with_len 0 (length instance.paths)) e in
     let parts = and_parts (not (names literals found.item)) (not (list_any (stays instance (mode_level t) excluded literals found.item) (range_with_len 0 (count_at instance found.item)))) found.passes in
-    no_choice_left found.item (range-contains (length instance.paths) found.item found.member) (not-true (names literals found.item) parts.0)
+    no_choice_left found.item (from-range (length instance.paths) found.item found.member) (not-true (names literals found.item) parts.0)
     (λ index small. gone instance (mode_level t) excluded literals found.item index
-    (none-member (stays instance (mode_level t) excluded literals found.item) (range_with_len 0 (count_at instance found.item)) (not-true _ parts.1) index (contains-range (count_at instance found.item) index small)))
+    (none-member (stays instance (mode_level t) excluded literals found.item) (range_with_len 0 (count_at instance found.item)) (not-true _ parts.1) index (in-range (count_at instance found.item) index small)))
 
 -- dead or not, where a test tells what is outside
 abbrev pub Judged : (Literal → Bool) → Instance → Triple → List Literal → Type 0
@@ -141,7 +142,7 @@ module _ (instance : Instance) (t : Triple) (excluded : Literal → Bool) (liter
     choice-stays path small free =
         not-false (list_any (stays instance (mode_level t) excluded literals path) (range_with_len 0 (count_at instance path)))
         (right_false (not (names literals path)) (not (list_any (stays instance (mode_level t) excluded literals path) (range_with_len 0 (count_at instance path)))) (not_from_false (names literals path) free)
-        (none-member (is_stuck instance (mode_level t) excluded literals) (range_with_len 0 (length instance.paths)) loose path (contains-range (length instance.paths) path small)))
+        (none-member (is_stuck instance (mode_level t) excluded literals) (range_with_len 0 (length instance.paths)) loose path (in-range (length instance.paths) path small)))
       where
         right_false : (x y : Bool) → x ≡ true → (x && y) ≡ false → y ≡ false
         right_false x y e h = elim (and_cases x y h) [ inl fails ↦ absurd (both_ways x fails e) | inr holds ↦ holds ]
@@ -160,7 +161,7 @@ module _ (instance : Instance) (t : Triple) (excluded : Literal → Bool) (liter
         both_ways (list_any (stays instance (mode_level t) excluded literals path) (range_with_len 0 (count_at instance path)))
         (no-member (stays instance (mode_level t) excluded literals path) (range_with_len 0 (count_at instance path)) (λ index c. false_from_ne_true (stays instance (mode_level t) excluded literals path index) (λ e.
         let r = stays-remains instance (mode_level t) excluded literals path index e in
-        elim (each index (range-contains (count_at instance path) index c)) [
+        elim (each index (from-range (count_at instance path) index c)) [
           | inl out ↦ r.kept out
           | inr bad ↦ both_ways (clashes_with instance (mode_level t) literals (literal path index)) r.free bad
         ])))

@@ -10,10 +10,11 @@ use Rattle.fapp_model.specs.declared.record.Record.{Record}
 use Rattle.fapp_model.specs.search.Pairs.{Pair, IsPairAtMost}
 use Rattle.fapp_model.specs.search.Partials.{names}
 use Rattle.fapp_model.specs.search.Weights.{added, added_pair, bad_before, bad_further, between, inside, over_open, pair_with}
-use Rattle.dead_laws.specs.ImpliedLaws.{HasAll}
+use Rattle.fapp_model.specs.search.Partials.{HasAll}
 use Rattle.dead_laws.proofs.PairSums.{AtMost, grown-at_most, sum-at_most}
 use Rattle.dead_laws.proofs.Picks.{AreDistinct, at-names, names-at, named-sum, range-named, fewer-sum, sum_by-split}
-use Rattle.dead_laws.proofs.Sums.{All-range, sum_by-add, sum_by-le-members, sum_by-none, sum_by-same-members, sum_by-swap}
+use Rattle.fapp_model.proofs.Sums.{sum_by-add, sum_by-le-members, sum_by-none, sum_by-same-members, sum_by-swap}
+use Rattle.fapp_model.proofs.Members.{All-range}
 
 cond-outside-add : (b : Bool) (m n : ℕ) → cond b 0 (m + n) ≡ cond b 0 m + cond b 0 n
 cond-outside-add true m n = refl

@@ -12,7 +12,8 @@ use Rattle.fapp_model.specs.Levels.{levels_of}
 use Rattle.fapp_model.specs.search.Partials.{literal, Extends}
 use Rattle.fapp_model.specs.Tags.{top_tag}
 use Rattle.fapp_model.specs.Triples.{IsBelow}
-use Rattle.dead_laws.specs.ImpliedLaws.{HasAll, IsAtMost}
+use Rattle.fapp_model.specs.search.Partials.{HasAll}
+use Rattle.fapp_model.specs.Triples.{IsAtMost}
 use Rattle.dead_laws.proofs.ClearLevels.{clear-le}
 
 pub IsBelow-trans : (t u w : Triple) → IsBelow t u → IsBelow u w → IsBelow t w

@@ -12,7 +12,7 @@ use Rattle.fapp_model.specs.Instances.{IsInstance, HasNumbers}
 use Rattle.fapp_model.specs.search.Partials.{choice_of, literal}
 use Rattle.fapp_model.specs.Records.{is_bad, is_broken}
 use Rattle.fapp_model.specs.search.Weights.{added, bad_before, between, inside}
-use Rattle.dead_laws.proofs.Anys.{passing, any-member, positive-sum_by}
+use Rattle.fapp_model.proofs.Anys.{passing, any-member, positive-sum_by}
 use Rattle.dead_laws.proofs.Violations.{bad_lower, numbers_of}
 
 hard_bad_lower : (r : Record) → HasNumbers r → (m n : ℕ) → m ≤ n → (a b : Choice) → is_hard_bad n r a b ≡ true → is_hard_bad m r a b ≡ true

@@ -7,9 +7,10 @@ use Rattle.std.proofs.lemmas.List.Elements.{All-from_get_or, All-tail, All-head}
 use Rattle.std.proofs.lemmas.List.FromFn.{length-range_with_len, get_or-range_with_len}
 use Rattle.fapp_model.specs.declared.literal.Literal.{Literal}
 use Rattle.fapp_model.specs.search.Partials.{names}
-use Rattle.dead_laws.specs.ImpliedLaws.{HasAll}
-use Rattle.dead_laws.proofs.Anys.{passing, any-member, no-member, contains-range}
-use Rattle.dead_laws.proofs.Sums.{sum_by-add, sum_by-le-members, sum_by-none, sum_by-same-members}
+use Rattle.fapp_model.specs.search.Partials.{HasAll}
+use Rattle.fapp_model.proofs.Anys.{passing, any-member, no-member}
+use Rattle.fapp_model.proofs.Members.{in-range}
+use Rattle.fapp_model.proofs.Sums.{sum_by-add, sum_by-le-members, sum_by-none, sum_by-same-members}
 
 pick-at : {X : Type 0} (test : X → Bool) (g : X → ℕ) (xs : List X) (k : ℕ) (d : X) → k < length xs → test (get_or xs k d) ≡ true → ((j : ℕ) → j < length xs → j ≢ k → test (get_or xs j d) ≡ false) → sum_by (λ x. cond (test x) (g x) 0) xs ≡ g (get_or xs k d)
 pick-at test g [] k d h e others = absurd (omega arith)
@@ -85,7 +86,7 @@ range-named k n (a ∷ literals) distinct small =
     (λ i d l. cond-or (eqb a.path (get_or (range_with_len 0 n) i d)) (names literals (get_or (range_with_len 0 n) i d)) (k (get_or (range_with_len 0 n) i d))
     (λ e. subst (λ p. names literals p ≡ false) (eqb-true a.path (get_or (range_with_len 0 n) i d) e) (head-not-named a literals distinct))) in
     let sums = sum_by-add (λ p. cond (eqb a.path p) (k p) 0) (λ p. cond (names literals p) (k p) 0) (range_with_len 0 n) in
-    let first = pick (λ p. eqb a.path p) k (range_with_len 0 n) a.path (contains-range n a.path (All-head (λ (b : Literal). b.path < n) a literals small)) (eq-eqb a.path a.path refl) (range_apart n a.path) in
+    let first = pick (λ p. eqb a.path p) k (range_with_len 0 n) a.path (in-range n a.path (All-head (λ (b : Literal). b.path < n) a literals small)) (eq-eqb a.path a.path refl) (range_apart n a.path) in
     let rest = range-named k n literals (distinct-tail a literals distinct) (All-tail (λ (b : Literal). b.path < n) a literals small) in
     omega (arith, sum_by-cons (λ (b : Literal). k b.path) a literals)
 

@@ -19,11 +19,13 @@ use Rattle.fapp_model.specs.search.Pairs.{Pair}
 use Rattle.fapp_model.specs.search.Partials.{choice_of, literal, names, Extends}
 use Rattle.fapp_model.specs.Records.{first_path, second_path, is_bad}
 use Rattle.fapp_model.specs.search.Weights.{bad_before, bad_further, between, inside, over_open, pair_with}
-use Rattle.dead_laws.specs.ImpliedLaws.{HasAll}
-use Rattle.dead_laws.proofs.Anys.{contains-range, no-member}
+use Rattle.fapp_model.specs.search.Partials.{HasAll}
+use Rattle.fapp_model.proofs.Anys.{no-member}
+use Rattle.fapp_model.proofs.Members.{in-range}
 use Rattle.dead_laws.proofs.Picks.{AreDistinct, at-names, pick, range_apart}
 use Rattle.dead_laws.proofs.RecordEnds.{joins-ends}
-use Rattle.dead_laws.proofs.Sums.{All-range, none-count_by, sum_by-none, sum_by-same-members, sum_by-swap}
+use Rattle.fapp_model.proofs.Sums.{none-count_by, sum_by-none, sum_by-same-members, sum_by-swap}
+use Rattle.fapp_model.proofs.Members.{All-range}
 
 -- the literals of the first n paths of a plan
 abbrev pub plan_literals : ℕ → List ℕ → List Literal
@@ -85,8 +87,8 @@ sum_by-when false g xs = sum_by-none (λ x. 0) xs (λ k d l. refl)
 one-pair : (n : ℕ) (value : ℕ → ℕ → ℕ) (first second : ℕ) → first < n → second < n → sum_by (λ p. sum_by (λ q. cond (eqb first p && eqb second q) (value p q) 0) (range_with_len 0 n)) (range_with_len 0 n) ≡ value first second
 one-pair n value first second hf hs =
     sum_by-same-members (λ p. sum_by (λ q. cond (eqb first p && eqb second q) (value p q) 0) (range_with_len 0 n)) (λ p. cond (eqb first p) (sum_by (λ q. cond (eqb second q) (value p q) 0) (range_with_len 0 n)) 0) (range_with_len 0 n) (λ k d l. row (get_or (range_with_len 0 n) k d))
-    ∙ (pick (λ p. eqb first p) (λ p. sum_by (λ q. cond (eqb second q) (value p q) 0) (range_with_len 0 n)) (range_with_len 0 n) first (contains-range n first hf) (eq-eqb first first refl) (range_apart n first)
-    ∙ pick (λ q. eqb second q) (λ q. value first q) (range_with_len 0 n) second (contains-range n second hs) (eq-eqb second second refl) (range_apart n second))
+    ∙ (pick (λ p. eqb first p) (λ p. sum_by (λ q. cond (eqb second q) (value p q) 0) (range_with_len 0 n)) (range_with_len 0 n) first (in-range n first hf) (eq-eqb first first refl) (range_apart n first)
+    ∙ pick (λ q. eqb second q) (λ q. value first q) (range_with_len 0 n) second (in-range n second hs) (eq-eqb second second refl) (range_apart n second))
   where
     row : (p : ℕ) → sum_by (λ q. cond (eqb first p && eqb second q) (value p q) 0) (range_with_len 0 n) ≡ cond (eqb first p) (sum_by (λ q. cond (eqb second q) (value p q) 0) (range_with_len 0 n)) 0
     row p = sum_by-same-members (λ q. cond (eqb first p && eqb second q) (value p q) 0) (λ q. cond (eqb first p) (cond (eqb second q) (value p q) 0) 0) (range_with_len 0 n) (λ k d l. cond-and (eqb first p) (eqb second (get_or (range_with_len 0 n) k d)) (value p (get_or (range_with_len 0 n) k d)))

@@ -7,7 +7,7 @@ use Rattle.fapp_model.specs.declared.record.Record.{Record}
 use Rattle.fapp_model.specs.search.Clashes.{joins, shares_record}
 use Rattle.fapp_model.specs.Instances.{IsInstance, IsRecord}
 use Rattle.fapp_model.specs.Records.{first_path, second_path}
-use Rattle.dead_laws.proofs.Anys.{passing}
+use Rattle.fapp_model.proofs.Anys.{passing}
 
 pub joins-ends : (p q : ℕ) (r : Record) → joins p q r ≡ true → (first_path r ≡ p) × (second_path r ≡ q)
 joins-ends p q r h =

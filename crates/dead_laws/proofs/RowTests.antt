@@ -18,7 +18,8 @@ use Rattle.fapp_model.specs.search.Partials.{literal, IsLiteral, IsPartial}
 use Rattle.fapp_model.specs.Tags.{has_limit, least_tag, mode_level}
 use Rattle.fapp_model.specs.search.Weights.{pair_with}
 use Rattle.dead_laws.specs.DeadLaws.{AgreeOn}
-use Rattle.dead_laws.proofs.Anys.{contains-range, no-member}
+use Rattle.fapp_model.proofs.Anys.{no-member}
+use Rattle.fapp_model.proofs.Members.{in-range}
 use Rattle.dead_laws.proofs.ArcTest.{has_lonely, supported-by_test}
 use Rattle.dead_laws.proofs.DeadTests.{alive, dead_by-along, has_clash, is_stuck, least_pairs}
 
@@ -28,7 +29,7 @@ all_below n p = list_all p (range_with_len 0 n)
 
 -- what such a test says of each
 pub below-all : (n : ℕ) (p : ℕ → Bool) → all_below n p ≡ true → (m : ℕ) → m < n → p m ≡ true
-below-all n p h m small = All-contains (λ k. p k ≡ true) (range_with_len 0 n) m (AllPass-from_list_all p (range_with_len 0 n) h) (contains-range n m small)
+below-all n p h m small = All-contains (λ k. p k ≡ true) (range_with_len 0 n) m (AllPass-from_list_all p (range_with_len 0 n) h) (in-range n m small)
 
 -- the same of each three
 pub below-three : (n : ℕ) (p : ℕ → ℕ → ℕ → Bool) → all_below n (λ i. all_below n (λ j. all_below n (p i j))) ≡ true → (i j k : ℕ) → i < n → j < n → k < n → p i j k ≡ true

@@ -16,7 +16,8 @@ use Rattle.fapp_model.specs.Instances.{IsInstance, HasNumbers, AreDistances}
 use Rattle.fapp_model.specs.Levels.{levels_of}
 use Rattle.fapp_model.specs.Records.{is_bad, is_closer, distance, same_polarization}
 use Rattle.dead_laws.proofs.ClearLevels.{IsFalling}
-use Rattle.dead_laws.proofs.Sums.{none-count_by, count_by-none, All-range}
+use Rattle.fapp_model.proofs.Sums.{none-count_by, count_by-none}
+use Rattle.fapp_model.proofs.Members.{All-range}
 
 -- a later distance is none above an earlier one
 falling_at : (dist : List ℕ) → AreDistances dist → (m n : ℕ) → m ≤ n → slice_index dist n ≤ slice_index dist m

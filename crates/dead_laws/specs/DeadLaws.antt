@@ -1,20 +1,17 @@
 -- What holds of dead partial assignments.
-use Rattle.std.specs.Prelude.{◌↔◌, ◌⊎◌, not, ℕ, ◌<◌, Bool, IsTrue, List, [], ◌∷◌, length}
+use Rattle.std.specs.Prelude.{◌↔◌, ◌⊎◌, not, ℕ, ◌<◌, Bool, IsTrue, List, [], length}
 use Rattle.fapp_model.specs.declared.instance.Instance.{Instance}
 use Rattle.fapp_model.specs.declared.literal.Literal.{Literal}
 use Rattle.fapp_model.specs.declared.triple.Triple.{Triple}
 use Rattle.fapp_model.specs.search.Dead.{Dead, DeadBy}
-use Rattle.fapp_model.specs.search.Implied.{Implied}
+use Rattle.fapp_model.specs.search.Implied.{Implied, RulesOut}
 use Rattle.fapp_model.specs.Instances.{IsInstance}
 use Rattle.fapp_model.specs.Least.{IsFeasible}
 use Rattle.fapp_model.specs.search.Partials.{IsLiteral, IsPartial, names}
 use Rattle.fapp_model.specs.Tags.{IsTagOf, mode_level, top_tag}
 use Rattle.dead_laws.specs.ArcLaws.{IsArcs}
-use Rattle.dead_laws.specs.ImpliedLaws.{HasAll, IsAtMost}
-
--- each choice that stands outside is implied with the literals
-abbrev pub RulesOut : Instance → Triple → List Literal → (Literal → Type 0) → Type 0
-RulesOut instance t literals outside = (a : Literal) → IsLiteral instance a → outside a → Implied instance t (a ∷ literals)
+use Rattle.fapp_model.specs.search.Partials.{HasAll}
+use Rattle.fapp_model.specs.Triples.{IsAtMost}
 
 -- What is judged dead is implied, whatever test stands for outside, where each choice that passes it is implied with
 -- the literals.

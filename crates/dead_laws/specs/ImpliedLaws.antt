@@ -1,22 +1,14 @@
 -- What holds of implied partial assignments.
-use Rattle.std.specs.Prelude.{◌≡◌, ◌⊎◌, ℕ, ◌<◌, List, [], ◌∷◌, length, All, Contains}
+use Rattle.std.specs.Prelude.{◌≡◌, ◌⊎◌, ℕ, ◌<◌, List, [], ◌∷◌, length}
 use Rattle.fapp_model.specs.declared.instance.Instance.{Instance}
 use Rattle.fapp_model.specs.declared.literal.Literal.{Literal}
 use Rattle.fapp_model.specs.declared.triple.Triple.{Triple}
 use Rattle.fapp_model.specs.Assignments.{count_at}
 use Rattle.fapp_model.specs.search.Implied.{Implied}
 use Rattle.fapp_model.specs.Least.{IsFeasible}
-use Rattle.fapp_model.specs.search.Partials.{literal}
+use Rattle.fapp_model.specs.search.Partials.{literal, HasAll}
 use Rattle.fapp_model.specs.Tags.{top_tag}
-use Rattle.fapp_model.specs.Triples.{IsBelow}
-
--- a list has all literals of another
-abbrev pub HasAll : List Literal → List Literal → Type 0
-HasAll more literals = All (Contains more) literals
-
--- the same tag or one below
-abbrev pub IsAtMost : Triple → Triple → Type 0
-IsAtMost u t = IsBelow u t ⊎ (u ≡ t)
+use Rattle.fapp_model.specs.Triples.{IsAtMost}
 
 -- What is implied at a tag is implied at each lower one, so at the lesser of two.
 abbrev pub ImpliedAtLowerTags : Type 0

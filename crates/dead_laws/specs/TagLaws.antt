@@ -1,5 +1,5 @@
 -- What holds of tags.
-use Rattle.std.specs.Prelude.{◌≡◌, ◌↔◌, ℕ, ◌<◌, List}
+use Rattle.std.specs.Prelude.{◌↔◌, ℕ, List}
 use Rattle.fapp_model.specs.declared.instance.Instance.{Instance}
 use Rattle.fapp_model.specs.declared.triple.Triple.{Triple}
 use Rattle.fapp_model.specs.Assignments.{IsAssignment}
@@ -7,14 +7,8 @@ use Rattle.fapp_model.specs.Costs.{cost}
 use Rattle.fapp_model.specs.Instances.{IsInstance}
 use Rattle.fapp_model.specs.Least.{IsFeasible}
 use Rattle.fapp_model.specs.search.Modes.{IsWithin}
-use Rattle.fapp_model.specs.Tags.{IsTagOf, code_of, least_tag, triple_from}
+use Rattle.fapp_model.specs.Tags.{IsTagOf, least_tag}
 use Rattle.fapp_model.specs.Triples.{IsBelow}
-
--- Tags are ordered as their codes, and a code gives its tag back.
-pub record CodesFollowTags : Type 0 where
-  pub order : (instance : Instance) (t u : Triple) → IsTagOf instance t → IsTagOf instance u →
-      IsBelow t u ↔ (code_of t < code_of u)
-  pub back : (instance : Instance) (t : Triple) → IsTagOf instance t → triple_from (code_of t) ≡ t
 
 -- What an assignment costs is a tag.
 abbrev pub CostsAreTags : Type 0

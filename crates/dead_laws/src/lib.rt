@@ -21,4 +21,4 @@ pub use rows::{
     each_three_die, networks_are_valid, one_choice_lives, tied_pair_arcs, tied_pair_roots,
     unlike_sum, unlike_tags,
 };
-pub use tags::{codes_follow_tags, cost_against_mode, costs_are_tags};
+pub use tags::{cost_against_mode, costs_are_tags};

@@ -1,9 +1,4 @@
-ghost use Rattle.dead_laws.specs.TagLaws.{CodesFollowTags, CostAgainstMode, CostsAreTags};
-
-/// Tags are ordered as their codes, and a code gives its tag back.
-pub fn codes_follow_tags()
-    ensures { CodesFollowTags }
-{}
+ghost use Rattle.dead_laws.specs.TagLaws.{CostAgainstMode, CostsAreTags};
 
 /// What an assignment costs is a tag.
 pub fn costs_are_tags()

@@ -7,4 +7,6 @@ pub mod Costs
 pub mod Triples
 pub mod Least
 pub mod Tags
+pub mod InstanceTags
 pub mod search
+pub mod Laws

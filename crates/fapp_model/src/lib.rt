@@ -5,6 +5,7 @@
 mod choice;
 mod instance;
 mod items;
+mod laws;
 mod level;
 mod limits;
 mod literal;
@@ -15,12 +16,14 @@ mod triple;
 pub use choice::{Choice, choice_at, choice_count, chosen};
 pub use instance::{Instance, Path};
 pub use items::Items;
+pub use laws::{codes_follow_tags, limits_are, literals_are_partial, one_work_order};
 pub use level::{LEVELS, levels};
 pub use limits::{
-    MAX_CHOICES, MAX_DOMAIN_FREQUENCIES, MAX_DOMAIN_RECORDS, MAX_NUMBER, MAX_PATHS, MAX_RECORDS,
-    S_SPAN, V_SPAN,
+    MAX_CHOICES, MAX_DEPTH, MAX_DOMAIN_FREQUENCIES, MAX_DOMAIN_RECORDS, MAX_NUMBER, MAX_PATHS,
+    MAX_RECORDS, MAX_TEXT, S_SPAN, V_SPAN,
 };
 pub use literal::Literal;
 pub use record::Record;
+pub use std::alloc::AllocError as NoMemory;
 pub use tag::{Tag, is_tag, level_of, tag_of, triple_of};
 pub use triple::Triple;

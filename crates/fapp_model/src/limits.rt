@@ -1,13 +1,16 @@
-/// The greatest number that a network's text may have: a frequency in its unit, a path's number, a distance.
+/// The greatest number that an instance's text may have: a frequency in its unit, a path's number, a distance.
 pub const MAX_NUMBER: u32 = 1_000_000_000;
 
-/// The most paths of a network.
+/// The most bytes of a text that a call reads.
+pub const MAX_TEXT: usize = 1_073_741_824;
+
+/// The most paths of an instance.
 pub const MAX_PATHS: usize = 8_192;
 
 /// The most domain records of a text, repeated ones counted.
 pub const MAX_DOMAIN_RECORDS: usize = 1_048_576;
 
-/// The most constraint records of a network.
+/// The most constraint records of an instance.
 pub const MAX_RECORDS: usize = 1_048_576;
 
 /// The most distinct frequencies of a domain.
@@ -15,6 +18,9 @@ pub const MAX_DOMAIN_FREQUENCIES: usize = 32_768;
 
 /// The most choices of all paths together.
 pub const MAX_CHOICES: usize = 4_194_304;
+
+/// The most paths that a job's prefix names.
+pub const MAX_DEPTH: usize = 64;
 
 /// One more than the most violations that a tag can name at one level.
 pub const V_SPAN: u32 = 1 << 26;

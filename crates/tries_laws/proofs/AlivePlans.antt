@@ -11,7 +11,7 @@ use Rattle.fapp_model.specs.search.Clashes.{clashes, clashes_with, shares_record
 use Rattle.fapp_model.specs.search.Dead.{Dead, least, clash, outside_literal, no_choice_left, over_limit}
 use Rattle.fapp_model.specs.search.Partials.{literal}
 use Rattle.fapp_model.specs.Tags.{least_tag, has_limit, mode_level}
-use Rattle.tries_laws.proofs.Members.{any-some}
+use Rattle.fapp_model.proofs.Members.{any-some}
 
 -- a choice for each path, none of which is hard-bad with another
 pub record IsClear (instance : Instance) (level : ℕ) (plan : ℕ → ℕ) : Type 0 where

@@ -12,10 +12,10 @@ use Rattle.fapp_model.specs.search.Prefixes.{GoesOn, IsAlong, IsPrefix, extensio
 use Rattle.fapp_model.specs.search.Tries.{IsTries, IsTriesBy}
 use Rattle.fapp_model.specs.search.WorkOrder.{work_order}
 use Rattle.tries_laws.proofs.Lists.{from-lists_along, in-lists_along, once-lists_along}
-use Rattle.tries_laws.proofs.Members.{from-map, in-map}
-use Rattle.tries_laws.proofs.Pairs.{pairs-map, pairs-weaker}
+use Rattle.fapp_model.proofs.Members.{from-map, in-map}
+use Rattle.fapp_model.proofs.InOrder.{pairs-map, pairs-weaker}
 use Rattle.tries_laws.proofs.TriesCounts.{along-drop}
-use Rattle.tries_laws.proofs.WorkOrders.{order-length}
+use Rattle.fapp_model.proofs.WorkOrders.{order-length}
 
 pub along-append : (instance : Instance) (paths : List ℕ) (start more : List Literal) → IsAlong instance paths start → IsAlong instance (drop (length start) paths) more → IsAlong instance paths (start ++ more)
 along-append instance paths [] more h k = k

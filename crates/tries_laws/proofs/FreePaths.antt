@@ -22,7 +22,7 @@ use Rattle.tries_laws.specs.RowLaws.{IsFree}
 use Rattle.tries_laws.proofs.AlivePlans.{IsClear, IsOf, not_dead}
 use Rattle.tries_laws.proofs.JobParts.{depth-is, depth-greatest, job-is, prefixes-all}
 use Rattle.tries_laws.proofs.PrefixParts.{prefix-is_partial}
-use Rattle.tries_laws.proofs.WorkOrders.{order-is, order-length}
+use Rattle.fapp_model.proofs.WorkOrders.{order-is, order-length}
 
 any-none : (p : Record → Bool) (rs : List Record) → rs ≡ [] → list_any p rs ≡ false
 any-none p rs e = ap (list_any p) e

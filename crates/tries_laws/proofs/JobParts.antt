@@ -4,15 +4,16 @@ use Rattle.std.proofs.lemmas.Bool.{cases_Bool, leb-true, le-leb, cases_lt, both_
 use Rattle.std.proofs.lemmas.List.Elements.{Contains-get_or}
 use Rattle.std.proofs.lemmas.Nat.{div-add-mod', mod_below, div-mul-add, div_below, mod-mul-add}
 use Rattle.fapp_model.specs.declared.instance.Instance.{Instance}
+use Rattle.fapp_model.specs.declared.limits.TheConstants.{MAX_DEPTH}
 use Rattle.fapp_model.specs.declared.literal.Literal.{Literal}
-use Rattle.fapp_model.specs.search.Jobs.{IsJob, depth, greatest_to, job_count, job_level, job_number, job_prefix, most_depth, prefixes, target, ways}
+use Rattle.fapp_model.specs.search.Jobs.{IsJob, depth, greatest_to, job_count, job_level, job_number, job_prefix, prefixes, target, ways}
 use Rattle.fapp_model.specs.Levels.{levels_of}
 use Rattle.fapp_model.specs.search.Prefixes.{IsAlong, IsPrefix}
 use Rattle.fapp_model.specs.Tags.{IsTagOf, is_tag}
 use Rattle.fapp_model.specs.search.WorkOrder.{work_order}
 use Rattle.tries_laws.specs.JobLaws.{IsDepth}
 use Rattle.tries_laws.proofs.Lists.{in-choice_lists, from-choice_lists, length-choice_lists}
-use Rattle.tries_laws.proofs.WorkOrders.{order-length}
+use Rattle.fapp_model.proofs.WorkOrders.{order-length}
 
 target_tag : (levels level : ℕ) → level ≤ levels → IsTrue (is_tag levels (target level))
 target_tag levels level l = le-leb (level + 1) (levels + 1) (omega arith)
@@ -52,7 +53,7 @@ pub depth-is : (instance : Instance) (split : ℕ) → 1 ≤ split → IsDepth i
 unfolding depth
 depth-is instance split h =
     let test : ℕ → Bool = λ d. leb (ways instance (take d (work_order instance))) split in
-    let most : ℕ = min most_depth (length instance.paths) in
+    let most : ℕ = min MAX_DEPTH (length instance.paths) in
     let small = greatest-small test most in
     record {
       most = omega arith;
@@ -64,12 +65,12 @@ pub depth-greatest : (instance : Instance) (split d : ℕ) → IsDepth instance 
 unfolding depth
 depth-greatest instance split d h =
     let test : ℕ → Bool = λ e. leb (ways instance (take e (work_order instance))) split in
-    greatest-most test (min most_depth (length instance.paths)) d (let m = h.most in let p = h.paths in omega arith) (le-leb (ways instance (take d (work_order instance))) split h.fits)
+    greatest-most test (min MAX_DEPTH (length instance.paths)) d (let m = h.most in let p = h.paths in omega arith) (le-leb (ways instance (take d (work_order instance))) split h.fits)
 
 pub depth-small : (instance : Instance) (split : ℕ) → depth instance split ≤ length instance.paths
 unfolding depth
 depth-small instance split =
-    let small = greatest-small (λ d. leb (ways instance (take d (work_order instance))) split) (min most_depth (length instance.paths)) in
+    let small = greatest-small (λ d. leb (ways instance (take d (work_order instance))) split) (min MAX_DEPTH (length instance.paths)) in
     omega arith
 
 -- ---- prefixes

@@ -1,10 +1,6 @@
-pub mod Members
-pub mod Pairs
-pub mod WorkOrders
 pub mod Lists
 pub mod JobParts
 pub mod PrefixParts
-pub mod Sums
 pub mod TriesParts
 pub mod TriesCounts
 pub mod LineParts

@@ -17,7 +17,7 @@ use Rattle.dead_laws.proofs.DeadTests.{dead_or_not}
 use Rattle.tries_laws.proofs.Extensions.{along-append}
 use Rattle.tries_laws.proofs.JobParts.{job-is, prefixes-all, target-is_tag}
 use Rattle.tries_laws.proofs.PrefixParts.{prefix-is_partial}
-use Rattle.tries_laws.proofs.Sums.{range-sum-same}
+use Rattle.fapp_model.proofs.Sums.{range-sum-same}
 use Rattle.tries_laws.proofs.TriesParts.{sum_over-some, tries-one, tries-some}
 
 pub some-tries : (instance : Instance) (t : Triple) (prefix : List Literal) → IsInstance instance → IsTagOf instance t → IsPrefix instance prefix → (n : ℕ) × IsTries instance t prefix n

@@ -18,7 +18,7 @@ use Rattle.fapp_model.specs.search.Partials.{literal}
 use Rattle.fapp_model.specs.search.Prefixes.{one_more, lists_along, choice_lists}
 use Rattle.fapp_model.proofs.ChoiceLemmas.{fixed_count, free_count}
 use Rattle.tries_laws.proofs.Lists.{length-pieces, length-one_more, length-lists_along, length-choice_lists}
-use Rattle.tries_laws.proofs.Sums.{sum-same}
+use Rattle.fapp_model.proofs.Sums.{sum_by-same-members}
 
 -- ---- by place
 
@@ -74,7 +74,7 @@ length-by_length instance (path ∷ paths) =
     let unfold_one : sum_by f (range_with_len 0 (suc (length paths + 1))) ≡ 1 + sum_by f (range_with_len (0 + 1) (length paths + 1)) =
     sum_by-cons f 0 (range_with_len (0 + 1) (length paths + 1)) in
     let each : sum_by (λ k. f (k + 1)) (range_with_len 0 (length paths + 1)) ≡ sum_by (λ k. count_at instance path * g k) (range_with_len 0 (length paths + 1)) =
-    sum-same (λ k. f (k + 1)) (λ k. count_at instance path * g k) (range_with_len 0 (length paths + 1)) (λ k d l. step instance path paths (get_or (range_with_len 0 (length paths + 1)) k d)) in
+    sum_by-same-members (λ k. f (k + 1)) (λ k. count_at instance path * g k) (range_with_len 0 (length paths + 1)) (λ k d l. step instance path paths (get_or (range_with_len 0 (length paths + 1)) k d)) in
     let scale = scaled (count_at instance path) g (range_with_len 0 (length paths + 1)) in
     let shift = shifted f 0 (length paths + 1) in
     let rest : count_at instance path * length (lists_along instance paths) ≡ count_at instance path * sum_by g (range_with_len 0 (length paths + 1)) =

@@ -9,8 +9,8 @@ use Rattle.fapp_model.specs.Assignments.{count_at}
 use Rattle.fapp_model.specs.search.Jobs.{ways}
 use Rattle.fapp_model.specs.search.Partials.{literal}
 use Rattle.fapp_model.specs.search.Prefixes.{IsAlong, IsListBefore, one_more, lists_along, choice_lists}
-use Rattle.tries_laws.proofs.Members.{at_front, behind, front_or_behind, no_member, in-map, from-map, in-flat_map, from-flat_map, in-range, from-range, All-from_members}
-use Rattle.tries_laws.proofs.Pairs.{pairs-nil, pairs-cons, pairs-map, pairs-flat_map, pairs-weaker, rising}
+use Rattle.fapp_model.proofs.Members.{at_front, behind, front_or_behind, no_member, in-map, from-map, in-flat_map, from-flat_map, in-range, from-range, All-from_members}
+use Rattle.fapp_model.proofs.InOrder.{pairs-nil, pairs-cons, pairs-map, pairs-flat_map, pairs-weaker, rising}
 
 -- a literal by its parts
 by_parts : (a : Literal) (path : ℕ) → a.path ≡ path → literal path a.choice ≡ a

@@ -10,7 +10,7 @@ use Rattle.fapp_model.specs.search.Partials.{Extends, literal}
 use Rattle.fapp_model.specs.search.Prefixes.{IsAlong}
 use Rattle.fapp_model.specs.search.WorkOrder.{work_order}
 use Rattle.tries_laws.proofs.Lists.{in-choice_lists, from-choice_lists}
-use Rattle.tries_laws.proofs.WorkOrders.{order-is}
+use Rattle.fapp_model.proofs.WorkOrders.{order-is}
 
 -- what a plan chooses of some paths
 abbrev pub literals_of : List ℕ → List ℕ → List Literal

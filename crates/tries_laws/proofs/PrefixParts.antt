@@ -7,9 +7,9 @@ use Rattle.fapp_model.specs.Assignments.{count_at}
 use Rattle.fapp_model.specs.search.Partials.{IsLiteral, IsPartial}
 use Rattle.fapp_model.specs.search.Prefixes.{IsAlong, IsPrefix}
 use Rattle.fapp_model.specs.search.WorkOrder.{work_order, comes_before, degree}
-use Rattle.tries_laws.proofs.Members.{at_front, behind, front_or_behind, no_member, All-from_members}
-use Rattle.tries_laws.proofs.Pairs.{pairs-nil, pairs-cons, pairs-head, pairs-tail, pairs-weaker}
-use Rattle.tries_laws.proofs.WorkOrders.{order-is, first-asym}
+use Rattle.fapp_model.proofs.Members.{at_front, behind, front_or_behind, no_member, All-from_members}
+use Rattle.fapp_model.proofs.InOrder.{pairs-nil, pairs-cons, pairs-head, pairs-tail, pairs-weaker}
+use Rattle.fapp_model.proofs.WorkOrders.{order-is, first-asym}
 
 along-literals : (instance : Instance) (paths : List ℕ) (literals : List Literal) → All (λ p. p < length instance.paths) paths → IsAlong instance paths literals → All (IsLiteral instance) literals
 along-literals instance paths [] small h = All-nil (IsLiteral instance)

@@ -11,9 +11,9 @@ use Rattle.fapp_model.specs.Assignments.{count_at}
 use Rattle.fapp_model.specs.search.Partials.{literal}
 use Rattle.fapp_model.specs.search.Prefixes.{IsAlong}
 use Rattle.fapp_model.specs.search.Tries.{IsSumOver, IsOneAndBelow, IsTriesBy}
-use Rattle.tries_laws.proofs.Members.{at_front, behind, All-from_members, in-filter, from-filter}
-use Rattle.tries_laws.proofs.Pairs.{pairs-head, pairs-filter}
-use Rattle.tries_laws.proofs.Sums.{sum-same, sum-add, range-sum-le, range-sum-part}
+use Rattle.fapp_model.proofs.Members.{at_front, behind, All-from_members, in-filter, from-filter}
+use Rattle.fapp_model.proofs.InOrder.{pairs-head, pairs-filter}
+use Rattle.fapp_model.proofs.Sums.{sum_by-same-members, sum_by-add, range-sum-le, range-sum-part}
 
 -- ---- counting by parts
 
@@ -39,8 +39,8 @@ counted {X} p at count (x ∷ xs) h =
     let Passes : X → Type 0 = λ y. (p y ≡ true) ⊎ ((i : ℕ) × (i < count) × (at i y ≡ true)) in
     let rest = counted p at count xs (All-tail Passes x xs h) in
     let here = one_or_more p at count x (All-head Passes x xs h) in
-    let split = sum-same (λ i. count_by (at i) (x ∷ xs)) (λ i. cond (at i x) 1 0 + count_by (at i) xs) (range_with_len 0 count) (λ k d l. sum_by-cons (λ y. cond (at (get_or (range_with_len 0 count) k d) y) 1 0) x xs) in
-    let added = sum-add (λ i. cond (at i x) 1 0) (λ i. count_by (at i) xs) (range_with_len 0 count) in
+    let split = sum_by-same-members (λ i. count_by (at i) (x ∷ xs)) (λ i. cond (at i x) 1 0 + count_by (at i) xs) (range_with_len 0 count) (λ k d l. sum_by-cons (λ y. cond (at (get_or (range_with_len 0 count) k d) y) 1 0) x xs) in
+    let added = sum_by-add (λ i. cond (at i x) 1 0) (λ i. count_by (at i) xs) (range_with_len 0 count) in
     omega (arith, sum_by-cons (λ y. cond (p y) 1 0) x xs)
 
 -- ---- lists that go on from one along some paths

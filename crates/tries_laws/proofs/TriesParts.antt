@@ -9,7 +9,7 @@ use Rattle.fapp_model.specs.search.Partials.{literal}
 use Rattle.fapp_model.specs.search.Prefixes.{IsAlong, lists_along}
 use Rattle.fapp_model.specs.search.Tries.{IsSumOver, IsOneAndBelow, IsTriesBy}
 use Rattle.tries_laws.proofs.Lists.{length-lists_along}
-use Rattle.tries_laws.proofs.Sums.{range-sum-same, range-sum-most}
+use Rattle.fapp_model.proofs.Sums.{range-sum-same, range-sum-most}
 
 -- ---- at most one number
 

@@ -1,10 +1,11 @@
 -- What holds of jobs.
 use Rattle.std.specs.Prelude.{◌≡◌, ◌≢◌, ◌↔◌, ℕ, ◌+◌, ◌/◌, ◌<◌, ◌≤◌, List, [], length, take, slice_index_or, AllPairs, Contains}
 use Rattle.fapp_model.specs.declared.instance.Instance.{Instance}
+use Rattle.fapp_model.specs.declared.limits.TheConstants.{MAX_DEPTH}
 use Rattle.fapp_model.specs.declared.literal.Literal.{Literal}
 use Rattle.fapp_model.specs.Assignments.{IsAssignment}
 use Rattle.fapp_model.specs.Instances.{IsInstance}
-use Rattle.fapp_model.specs.search.Jobs.{IsJob, depth, job_count, job_level, job_number, job_prefix, most_depth, prefixes, target, ways}
+use Rattle.fapp_model.specs.search.Jobs.{IsJob, depth, job_count, job_level, job_number, job_prefix, prefixes, target, ways}
 use Rattle.fapp_model.specs.Levels.{levels_of}
 use Rattle.fapp_model.specs.search.Partials.{Extends}
 use Rattle.fapp_model.specs.search.Prefixes.{IsListBefore, IsPrefix}
@@ -17,7 +18,7 @@ TargetsAreTags = (instance : Instance) (level : ℕ) → level ≤ levels_of ins
 
 -- a number of paths, of which the first of the work order have at most so many ways to choose
 pub record IsDepth (instance : Instance) (split d : ℕ) : Type 0 where
-  pub most : d ≤ most_depth
+  pub most : d ≤ MAX_DEPTH
   pub paths : d ≤ length instance.paths
   pub fits : ways instance (take d (work_order instance)) ≤ split
 

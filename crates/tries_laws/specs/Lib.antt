@@ -1,4 +1,3 @@
-pub mod OrderLaws
 pub mod PrefixLaws
 pub mod JobLaws
 pub mod TriesLaws

@@ -1,9 +1,8 @@
-//! Laws over the definitions of the work order, of prefixes, of tries and of jobs. Each stands as the contract of a
+//! Laws over the definitions of prefixes, of tries and of jobs. Each stands as the contract of a
 //! function that does nothing; the lemmas that they rest on are in `proofs/`.
 #![tactic(auto)]
 
 mod jobs;
-mod order;
 mod prefixes;
 mod rows;
 mod tries;
@@ -12,7 +11,6 @@ pub use jobs::{
     assignments_have_prefixes, depth_is_greatest, jobs_by_number, one_most_lines, prefixes_are_all,
     targets_are_tags,
 };
-pub use order::one_work_order;
 pub use prefixes::{
     choice_lists_are_all, choice_lists_by_place, extensions_are_all, lists_along_are_all,
     lists_along_by_length, prefixes_are_partial,

@@ -1,16 +1,13 @@
 -- How the work is split into jobs: each level on each prefix of one length.
 use Rattle.std.specs.Prelude.{ℕ, zero, suc, ◌+◌, ◌-◌, ◌*◌, ◌/◌, ◌%◌, ◌≤◌, min, Bool, nat_le, if◌then◌else◌, List, [], ◌∷◌, length, take, slice_index_or, Contains}
 use Rattle.fapp_model.specs.declared.instance.Instance.{Instance}
+use Rattle.fapp_model.specs.declared.limits.TheConstants.{MAX_DEPTH}
 use Rattle.fapp_model.specs.declared.literal.Literal.{Literal}
 use Rattle.fapp_model.specs.declared.triple.Triple.{Triple}
 use Rattle.fapp_model.specs.Assignments.{count_at}
 use Rattle.fapp_model.specs.Levels.{levels_of}
 use Rattle.fapp_model.specs.search.Prefixes.{choice_lists}
 use Rattle.fapp_model.specs.search.WorkOrder.{work_order}
-
--- the most paths that a job's prefix names
-abbrev pub most_depth : ℕ
-most_depth = 64
 
 -- the product of the numbers of choices of some paths
 abbrev pub ways : Instance → List ℕ → ℕ
@@ -22,10 +19,10 @@ abbrev pub greatest_to : (ℕ → Bool) → ℕ → ℕ
 greatest_to test zero = 0
 greatest_to test (suc n) = if test (suc n) then suc n else greatest_to test n
 
--- how many paths a job's prefix names: the most, up to 64, that have together at most so many ways to choose
+-- how many paths a job's prefix names: the most, up to MAX_DEPTH, that have together at most so many ways to choose
 unfoldable pub depth : Instance → ℕ → ℕ
 depth instance split =
-    greatest_to (λ d. nat_le (ways instance (take d (work_order instance))) split) (min most_depth (length instance.paths))
+    greatest_to (λ d. nat_le (ways instance (take d (work_order instance))) split) (min MAX_DEPTH (length instance.paths))
 
 -- the prefixes of that length, as their choices' indices order them
 abbrev pub prefixes : Instance → ℕ → List (List Literal)

@@ -1,5 +1,5 @@
 -- Partial assignments: choices for some paths.
-use Rattle.std.specs.Prelude.{◌≡◌, ◌≢◌, ℕ, ◌<◌, Bool, ◌==◌, List, length, slice_index, All, AllPairs}
+use Rattle.std.specs.Prelude.{◌≡◌, ◌≢◌, ℕ, ◌<◌, Bool, ◌==◌, List, length, slice_index, All, AllPairs, Contains}
 use Rattle.std.specs.List.{list_any}
 use Rattle.fapp_model.specs.declared.choice.Choice.{Choice}
 use Rattle.fapp_model.specs.declared.instance.Instance.{Instance}
@@ -23,6 +23,15 @@ pub record IsLiteral (instance : Instance) (a : Literal) : Type 0 where
 pub record IsPartial (instance : Instance) (literals : List Literal) : Type 0 where
   pub in_range : All (IsLiteral instance) literals
   pub distinct : AllPairs (λ a b. a.path ≢ b.path) literals
+
+-- literals of an instance, strictly ascending by path
+pub record AreLiterals (instance : Instance) (literals : List Literal) : Type 0 where
+  pub in_range : All (IsLiteral instance) literals
+  pub ascending : AllPairs (λ a b. a.path < b.path) literals
+
+-- a list has all literals of another
+abbrev pub HasAll : List Literal → List Literal → Type 0
+HasAll more literals = All (Contains more) literals
 
 -- some literal is of the path
 abbrev pub names : List Literal → ℕ → Bool

@@ -5,7 +5,7 @@ use Rattle.fapp_model.specs.search.WorkOrder.{work_order}
 use Rattle.tries_laws.proofs.JobParts.{prefixes-all, prefixes-few}
 use Rattle.tries_laws.proofs.ListPlaces.{some_ways}
 use Rattle.tries_laws.proofs.Lists.{length-choice_lists, once-choice_lists, ordered-choice_lists}
-use Rattle.tries_laws.proofs.WorkOrders.{order-is}
+use Rattle.fapp_model.proofs.WorkOrders.{order-is}
 use Rattle.tries_laws.proofs.jobs.prefixes_are_all.Goals as goal
 
 pub returns : goal.returns

@@ -3,7 +3,7 @@ use Rattle.std.proofs.lemmas.List.Elements.{All-contains}
 use Rattle.fapp_model.specs.search.Dead.{Dead}
 use Rattle.fapp_model.specs.search.Prefixes.{GoesOn, IsAlong, IsPrefix}
 use Rattle.fapp_model.specs.search.WorkOrder.{work_order}
-use Rattle.tries_laws.proofs.Members.{All-from_members}
+use Rattle.fapp_model.proofs.Members.{All-from_members}
 use Rattle.tries_laws.proofs.TriesCounts.{Follows, along-drop, tries-count}
 use Rattle.tries_laws.proofs.tries.tries_count_prefixes.Goals as goal
 

@@ -4,7 +4,7 @@ use Rattle.std.proofs.lemmas.List.Elements.{All-head, All-tail, All-contains, Al
 use Rattle.std.specs.List.{range_with_len}
 use Rattle.std.proofs.lemmas.List.FromFn.{length-range_with_len, get_or-range_with_len}
 use Rattle.std.proofs.lemmas.Bool.{cases_Bool}
-use Rattle.tries_laws.proofs.Members.{front_or_behind, at_front, behind, no_member, All-from_members, from-flat_map}
+use Rattle.fapp_model.proofs.Members.{front_or_behind, at_front, behind, no_member, All-from_members, from-flat_map}
 
 module _ {X : Type 0} (R : X → X → Type 0) where
   pub pairs-nil : AllPairs R []

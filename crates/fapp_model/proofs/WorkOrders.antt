@@ -7,8 +7,8 @@ use Rattle.std.proofs.lemmas.List.FromFn.{length-range_with_len}
 use Rattle.std.proofs.lemmas.List.Elements.{All-nil, All-cons, All-head, All-tail, All-contains, All-weaker}
 use Rattle.fapp_model.specs.declared.instance.Instance.{Instance}
 use Rattle.fapp_model.specs.search.WorkOrder.{IsWorkOrder, work_order, comes_before, degree, put_in, put_all}
-use Rattle.tries_laws.proofs.Members.{at_front, behind, front_or_behind, no_member, in-range, from-range, All-from_members}
-use Rattle.tries_laws.proofs.Pairs.{pairs-nil, pairs-head, pairs-tail, pairs-cons, same_members, rising}
+use Rattle.fapp_model.proofs.Members.{at_front, behind, front_or_behind, no_member, in-range, from-range, All-from_members}
+use Rattle.fapp_model.proofs.InOrder.{pairs-nil, pairs-head, pairs-tail, pairs-cons, same_members, rising}
 
 -- the order of two numbers of records and two positions
 abbrev pub is_first : ℕ → ℕ → ℕ → ℕ → Bool

@@ -1,9 +1,10 @@
 -- Sums and counts over lists, by what holds of their members.
-use Rattle.std.proofs.Common.{◌≡◌, ℕ, ◌+◌, ◌<◌, ◌≤◌, Bool, true, false, cond, List, [], ◌∷◌, get_or, refl, sym, ap, subst, arith, sum_by, count_by, All}
+use Rattle.std.proofs.Common.{◌≡◌, ℕ, ◌+◌, ◌*◌, ◌<◌, ◌≤◌, Bool, true, false, cond, List, [], ◌∷◌, get_or, refl, sym, ap, subst, arith, sum_by, count_by, All}
 use Rattle.std.specs.List.{range_with_len}
-use Rattle.std.proofs.lemmas.List.Sums.{sum_by-cons}
+use Rattle.std.proofs.lemmas.List.Sums.{sum_by-cons, get_or-le-sum_by, sum_by-le}
 use Rattle.std.proofs.lemmas.List.Elements.{All-head, All-tail, All-cons, All-nil}
 use Rattle.std.proofs.lemmas.List.FromFn.{length-range_with_len, get_or-range_with_len}
+use Rattle.fapp_model.proofs.Members.{All-range, in-range}
 
 pub sum_by-le-members : {X : Type 0} (f g : X → ℕ) (xs : List X) → All (λ x. f x ≤ g x) xs → sum_by f xs ≤ sum_by g xs
 sum_by-le-members f g [] h = omega arith
@@ -63,14 +64,24 @@ none-count_by p xs h = λ k d l. cond-none (p (get_or xs k d)) (none-sum_by (λ 
 pub count_by-none : {X : Type 0} (p : X → Bool) (xs : List X) → All (λ x. p x ≡ false) xs → count_by p xs ≡ 0
 count_by-none p xs h = sum_by-none (λ x. cond (p x) 1 0) xs (λ k d l. ap (λ b. cond b 1 0) (h k d l))
 
--- the members of a range
-pub All-range : (P : ℕ → Type 0) (n : ℕ) → ((m : ℕ) → m < n → P m) → All P (range_with_len 0 n)
-All-range P n h = λ k d l.
-    let small : k < n = omega (arith, length-range_with_len 0 n) in
-    let at : get_or (range_with_len 0 n) k d ≡ k = omega (arith, get_or-range_with_len 0 n k d small) in
-    subst P (sym at) (h k small)
-
 pub at-range : (P : ℕ → Type 0) (n : ℕ) → All P (range_with_len 0 n) → (m : ℕ) → m < n → P m
 at-range P n h m small =
     let at : get_or (range_with_len 0 n) m 0 ≡ m = omega (arith, get_or-range_with_len 0 n m 0 small) in
     subst P at (h m 0 (omega (arith, length-range_with_len 0 n)))
+
+-- over the numbers below a count
+pub range-sum-le : (f g : ℕ → ℕ) (n : ℕ) → ((i : ℕ) → i < n → f i ≤ g i) → sum_by f (range_with_len 0 n) ≤ sum_by g (range_with_len 0 n)
+range-sum-le f g n h = sum_by-le-members f g (range_with_len 0 n) (All-range (λ i. f i ≤ g i) n h)
+
+pub range-sum-same : (f g : ℕ → ℕ) (n : ℕ) → ((i : ℕ) → i < n → f i ≡ g i) → sum_by f (range_with_len 0 n) ≡ sum_by g (range_with_len 0 n)
+range-sum-same f g n h = sum_by-same-members f g (range_with_len 0 n) (All-range (λ i. f i ≡ g i) n h)
+
+pub range-sum-most : (f : ℕ → ℕ) (n m : ℕ) → ((i : ℕ) → i < n → f i ≤ m) → sum_by f (range_with_len 0 n) ≤ n * m
+range-sum-most f n m h =
+    subst (λ l. sum_by f (range_with_len 0 n) ≤ l * m) (length-range_with_len 0 n) (sum_by-le f m (range_with_len 0 n) (All-range (λ i. f i ≤ m) n h))
+
+-- one part is within the sum
+pub range-sum-part : (f : ℕ → ℕ) (n i : ℕ) → i < n → f i ≤ sum_by f (range_with_len 0 n)
+range-sum-part f n i l =
+    let at = in-range n i l in
+    subst (λ m. f m ≤ sum_by f (range_with_len 0 n)) at.2 (get_or-le-sum_by f (range_with_len 0 n) at.0 i at.1)

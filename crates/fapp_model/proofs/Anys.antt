@@ -1,12 +1,11 @@
 -- Tests over lists and ranges, by their members.
 use Rattle.std.proofs.Common.{◌≡◌, inl, inr, ℕ, zero, suc, ◌<◌, ◌≤◌, Bool, true, false, List, [], ◌∷◌, length, get_or, refl, sym, subst, arith, sum_by, All, Contains}
-use Rattle.std.specs.List.{list_any, range_with_len}
+use Rattle.std.specs.List.{list_any}
 use Rattle.std.proofs.lemmas.Bool.{cases_lt, false_from_ne_true, both_ways}
 use Rattle.std.proofs.lemmas.List.Sums.{sum_by-cons}
 use Rattle.std.proofs.lemmas.List.Folds.{Any-from_list_any, list_any-from_Any, list_any_none}
 use Rattle.std.proofs.lemmas.List.Elements.{All-head, All-tail, Contains-get_or}
-use Rattle.std.proofs.lemmas.List.FromFn.{length-range_with_len, get_or-range_with_len}
-use Rattle.dead_laws.proofs.Sums.{sum_by-le-members}
+use Rattle.fapp_model.proofs.Sums.{sum_by-le-members}
 
 -- some member passes the test
 pub record Passing {X : Type 0} (p : X → Bool) (xs : List X) : Type 0 where
@@ -25,14 +24,6 @@ none-member p xs h x c = false_from_ne_true (p x) (λ e. both_ways (list_any p x
 
 pub no-member : {X : Type 0} (p : X → Bool) (xs : List X) → ((x : X) → Contains xs x → p x ≡ false) → list_any p xs ≡ false
 no-member p xs h = list_any_none p xs (λ k d l. h (get_or xs k d) (Contains-get_or xs k d l))
-
-pub contains-range : (n m : ℕ) → m < n → Contains (range_with_len 0 n) m
-contains-range n m h = (m, omega (arith, length-range_with_len 0 n), omega (arith, get_or-range_with_len 0 n m m h))
-
-pub range-contains : (n m : ℕ) → Contains (range_with_len 0 n) m → m < n
-range-contains n m (k, l, e) =
-    let small : k < n = omega (arith, length-range_with_len 0 n) in
-    omega (arith, get_or-range_with_len 0 n k m small)
 
 -- a sum is smaller where no term is larger and one is smaller
 sum_by-lt-at : {X : Type 0} (f g : X → ℕ) (xs : List X) (k : ℕ) (d : X) → All (λ x. f x ≤ g x) xs → k < length xs → f (get_or xs k d) < g (get_or xs k d) → sum_by f xs < sum_by g xs

@@ -1,5 +1,0 @@
-use Rattle.tries_laws.proofs.WorkOrders.{order-is, order-one, order-length}
-use Rattle.tries_laws.proofs.order.one_work_order.Goals as goal
-
-pub returns : goal.returns
-returns c = record { is = order-is; one = order-one; whole = order-length }
