@@ -5,6 +5,8 @@ use Rattle.std.specs.Char.{digit_value}
 use Rattle.std.specs.Str.Parse.{digits_value}
 use Rattle.std.proofs.lemmas.List.Sums.{AllPass-from_list_all}
 use Rattle.std.proofs.lemmas.Int.Digits.{digits_value_more}
+use Rattle.std.proofs.lemmas.Bool.{lt-leb}
+use Rattle.fapp_text.specs.declared.numeral.TheConstants.{MAX_NUMBER}
 use Rattle.fapp_text.specs.Numbers.{is_digit, bounded}
 use Rattle.fapp_text.specs.declared.numeral.NumFault.TheVariants.{TooLarge}
 
@@ -24,7 +26,7 @@ value_more digits i all lt =
     let d = digit_at digits i all lt in
     digits_value_more 10 digits i lt ∙ ap (λ n. digits_value 10 (take i digits) * 10 + n) (value_of_digit (get_or digits i 0) d.0 d.1)
 
-pub too_large : (digits : List ℕ) (n : ℕ) → n ≤ digits_value 10 digits → 1000000000 < n → bounded (digits_value 10 digits) ≡ Err TooLarge
+pub too_large : (digits : List ℕ) (n : ℕ) → n ≤ digits_value 10 digits → MAX_NUMBER < n → bounded (digits_value 10 digits) ≡ Err TooLarge
 too_large digits n h above =
-    let e : leb (digits_value 10 digits) 1000000000 ≡ false = grind arith in
+    let e : leb (digits_value 10 digits) MAX_NUMBER ≡ false = lt-leb (digits_value 10 digits) MAX_NUMBER (omega arith) in
     rw e refl

@@ -1,5 +1,5 @@
 -- The first field of a line.
-use Rattle.std.proofs.Common.{◌≡◌, ℕ, suc, ◌+◌, ◌<◌, Bool, true, false, not, cond, eqb, ltb, List, [], ◌∷◌, length, take, drop, filter, refl, sym, ap, ◌∙◌, arith}
+use Rattle.std.proofs.Common.{◌≡◌, ℕ, suc, ◌+◌, ◌<◌, Bool, true, false, not, cond, ltb, List, [], ◌∷◌, length, take, drop, filter, refl, sym, ap, ◌∙◌, arith}
 use Rattle.std.specs.List.{position_or_len, slice_split}
 use Rattle.fapp_text.specs.Fields.{is_blank, fields}
 
@@ -78,9 +78,3 @@ last_field line skipped field rest e f g h =
     let all : drop (position_or_len is_other line) line ≡ [] = nothing_left line (rw (f, e) at h) in
     let none : skipped ≡ [] = e ∙ all in
     (fields_skip line ∙ ap fields all, rw (g, none) refl)
-
-pub none_of : (n : ℕ) (empty : Bool) → empty ≡ eqb n 0 → empty ≡ true → n ≡ 0
-none_of n empty e f = grind arith
-
-pub some_of : (n : ℕ) (empty : Bool) → empty ≡ eqb n 0 → empty ≡ false → 0 < n
-some_of n empty e f = grind arith

@@ -1,6 +1,7 @@
 -- Laws of lines and fields.
 use Rattle.std.proofs.Common.{◌≡◌, ℕ, suc, ◌<◌, Bool, true, false, not, cond, ◌&&◌, eqb, ltb, List, [], ◌∷◌, ◌++◌, length, filter, flat_map, refl, ap, ◌∙◌, arith}
 use Rattle.std.specs.List.{concat, list_all, onto_first, slice_split}
+use Rattle.std.proofs.lemmas.Bool.{and_parts}
 use Rattle.fapp_text.specs.Lines.{lines}
 use Rattle.fapp_text.specs.Fields.{is_blank}
 use Rattle.fapp_text.specs.Laws.{closed, LinesJoin, LinesAreCut, FieldsJoin, FieldsAreCut}
@@ -101,15 +102,11 @@ clear_parts : (line : List ℕ) → list_all clear (parts line) ≡ true
 clear_parts [] = refl
 clear_parts (b ∷ line) = clear_step b (parts line) (is_blank b) refl (clear_parts line)
 
-and_both : (a b : Bool) → a && b ≡ true → (a ≡ true) × (b ≡ true)
-and_both true b h = (refl, h)
-and_both false b h = absurd cc
-
 kept_clear : (ps : List (List ℕ)) → list_all clear ps ≡ true → list_all (λ p. is_some_part p && clear p) (filter is_some_part ps) ≡ true
 kept_clear [] h = refl
 kept_clear ([] ∷ ps) h = kept_clear ps h
 kept_clear ((b ∷ part) ∷ ps) h =
-    let both = and_both (clear (b ∷ part)) (list_all clear ps) h in
+    let both = and_parts (clear (b ∷ part)) (list_all clear ps) h in
     let e : ltb 0 (suc (length part)) ≡ true = grind arith in
     let first : clear (b ∷ part) ≡ true = both.0 in
     rw (e, kept_clear ps both.1) (rw (e, first) refl)

@@ -3,3 +3,5 @@ pub mod FieldLemmas
 pub mod DigitLemmas
 pub mod PlaceLemmas
 pub mod LawProofs
+pub mod Steps
+pub mod SignLemmas

@@ -3,3 +3,5 @@ pub mod Fields
 pub mod Numbers
 pub mod Left
 pub mod Laws
+pub mod Reading
+pub mod Signs

@@ -23,3 +23,7 @@ bounded n = if nat_le n MAX_NUMBER then Ok n else Err TooLarge
 -- the number that a field is
 abbrev pub number_of : List ℕ → Result ℕ NumFault
 number_of field = if is_numeral field then bounded (value field) else Err NotDigits
+
+abbrev pub fault_number : NumFault → ℕ
+fault_number NotDigits = 1
+fault_number TooLarge = 2

@@ -1,6 +1,10 @@
 ghost use Rattle.std.specs.Prelude.{◌≡◌, not, take, drop};
 ghost use Rattle.std.specs.List.{position, position_or_len};
-ghost use Rattle.fapp_text.specs.Fields.{is_blank};
+ghost use Rattle.std.specs.Str.{bytes_eq};
+ghost use Rattle.fapp_text.specs.Fields.{is_blank, fields};
+ghost use Rattle.fapp_text.specs.Left.{GivesField};
+
+use std::marker::Model;
 
 /// The fields of a line, from its first on.
 #[derive(Debug, Drop)]
@@ -8,13 +12,19 @@ pub struct Fields<'a> {
     rest: &'a [u8],
 }
 
-impl<'a> Fields<'a> {
+impl<'a> Model for Fields<'a> {
+    ghost use Rattle.std.specs.Prelude.{ℕ, List};
     ghost use Rattle.fapp_text.specs.Fields.{fields};
-    ghost use Rattle.fapp_text.specs.Left.{fields_left, GivesField};
 
+    ghost Value = { List (List ℕ) };
+
+    ghost view = { λ it. fields it.rest.now };
+}
+
+impl<'a> Fields<'a> {
     /// All fields of a line.
     pub fn new(line: &'a [u8]) -> Fields<'a>
-        ensures { fields_left result ≡ fields line.now }
+        ensures { result ≡ fields line.now }
     {
         Fields { rest: line }
     }
@@ -30,6 +40,13 @@ impl<'a> Fields<'a> {
         }
         Some(field)
     }
+}
+
+/// Whether a field is a word.
+pub fn is(field: &[u8], word: &[u8]) -> bool
+    ensures { result ≡ bytes_eq field.now word.now }
+{
+    field == word
 }
 
 fn is_blank(byte: u8) -> bool

@@ -1,15 +1,18 @@
 //! Texts of lines, fields and numbers: what formats of one record a line are read and written by.
 #![tactic(auto)]
 
+mod failure;
 mod field;
 mod laws;
 mod line;
 mod numeral;
 
-pub use field::Fields;
-pub use laws::{fields_law, lines_law};
-pub use line::Lines;
-pub use numeral::{MAX_NUMBER, NoMemory, NumFault, number, push_number};
+pub use failure::{Failure, LineFault, failure_at, fault_at};
+pub use field::{Fields, is};
+pub use laws::{fields_law, limits_law, lines_law};
+pub use line::{Lines, MAX_TEXT};
+pub use numeral::{MAX_NUMBER, NumFault, number, push_number, push_signed, sign};
+pub use std::alloc::AllocError as NoMemory;
 
 #[cfg(test)]
 mod tests {
@@ -40,6 +43,26 @@ mod tests {
         assert_eq!(rt; number(b"99999999999999999999"), Err(NumFault::TooLarge));
         assert_eq!(rt; number(b"9999999999999999999x"), Err(NumFault::NotDigits));
         assert_eq!(rt; number(b""), Err(NumFault::NotDigits));
+        assert_eq!(rt; NumFault::TooLarge.number(), 2);
+    }
+
+    #[test]
+    fn reads_signs(rt: HostRuntime) {
+        assert_eq!(rt; sign(b"1"), Some(1));
+        assert_eq!(rt; sign(b"-1"), Some(-1));
+        assert_eq!(rt; sign(b"+1"), None);
+        assert!(rt; is(b"TR", b"TR"));
+    }
+
+    #[test]
+    fn prints_faults(rt: HostRuntime) -> Result<(), NoMemory> {
+        let text = failure_at(7, Failure::Bad(NumFault::TooLarge)).to_string(rt.alloc())?;
+        assert_eq!(rt; text.as_str(), "line 7: above 1000000000");
+        let text = fault_at(1, NumFault::NotDigits).to_string(rt.alloc())?;
+        assert_eq!(rt; text.as_str(), "line 1: not digits");
+        let text = Failure::<NumFault>::NoMemory.to_string(rt.alloc())?;
+        assert_eq!(rt; text.as_str(), "no memory");
+        Ok(())
     }
 
     #[test]
@@ -47,6 +70,7 @@ mod tests {
         let mut out = Vec::new(rt.alloc());
         assert_eq!(rt; push_number(&mut out, u64::MAX), Ok(()));
         assert_eq!(rt; push_number(&mut out, 0), Ok(()));
-        assert_eq!(rt; out.as_slice(), &b"184467440737095516150"[..]);
+        assert_eq!(rt; push_signed(&mut out, -128), Ok(()));
+        assert_eq!(rt; out.as_slice(), &b"184467440737095516150-128"[..]);
     }
 }

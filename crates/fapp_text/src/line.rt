@@ -1,23 +1,38 @@
-ghost use Rattle.std.specs.Prelude.{◌≡◌, ◌+◌, ◌<◌, ◌≤◌, ◌==◌, ◌∷◌, length};
+ghost use Rattle.std.specs.Prelude.{◌≡◌, ◌+◌, ◌<◌, ◌≤◌, ◌∷◌, length};
 ghost use Rattle.std.specs.List.{position};
-ghost use Rattle.fapp_text.specs.Lines.{lines};
+ghost use Rattle.fapp_text.specs.Lines.{is_line_feed, lines};
+ghost use Rattle.fapp_text.specs.Left.{LinesLeft, GivesLine};
+
+use std::marker::Model;
+
+/// The most bytes that a text of lines may have, so that each line has a number.
+pub const MAX_TEXT: usize = 1_073_741_824;
 
 /// The lines of a text, from its first on.
 #[derive(Debug, Drop)]
 pub struct Lines<'a> {
     rest: &'a [u8],
     given: u32,
-    ghost few: { given + length rest.now ≤ 1073741824 },
+}
+
+impl<'a> Model for Lines<'a> {
+    ghost use Rattle.std.specs.Prelude.{◌+◌, ◌≤◌, length};
+    ghost use Rattle.fapp_text.specs.Lines.{lines};
+    ghost use Rattle.fapp_text.specs.Left.{LinesLeft};
+    ghost use Rattle.fapp_text.specs.declared.line.TheConstants.{MAX_TEXT};
+
+    ghost Value = { LinesLeft };
+
+    ghost view = { λ it. record { number = it.given + 1; lines = lines it.rest.now } };
+
+    ghost invariant = { λ it. it.given + length it.rest.now ≤ MAX_TEXT };
 }
 
 impl<'a> Lines<'a> {
-    ghost use Rattle.fapp_text.specs.Left.{lines_left, GivesLine};
-
-    /// All lines of a text of at most 2^30 bytes.
+    /// All lines of a text of at most `MAX_TEXT` bytes.
     pub fn new(bytes: &'a [u8]) -> Lines<'a>
-        requires { length bytes.now ≤ 1073741824 }
-        ensures left { lines_left result ≡ lines bytes.now }
-        ensures given { result.given ≡ 0 }
+        requires { length bytes.now ≤ MAX_TEXT }
+        ensures { result ≡ record { number = 1; lines = lines bytes.now } }
     {
         Lines {
             rest: bytes,
@@ -54,7 +69,7 @@ fn first_line(bytes: &[u8]) -> (&[u8], &[u8])
 
 /// Where the first line feed stands.
 fn line_feed_at(bytes: &[u8]) -> Option<usize>
-    ensures { result ≡ position (λ b. b == 10) bytes.now }
+    ensures { result ≡ position is_line_feed bytes.now }
 {
     bytes.iter().position(|byte| *byte == b'\n')
 }

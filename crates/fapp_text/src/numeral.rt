@@ -1,31 +1,46 @@
 ghost use Rattle.std.specs.Prelude.{◌≡◌, ◌<◌, ◌++◌, OnOk, OnErr, decimal, length, IsTrue};
 ghost use Rattle.std.specs.List.{list_all};
-ghost use Rattle.fapp_text.specs.Numbers.{is_digit, is_numeral, value, bounded, number_of};
+ghost use Rattle.std.specs.Fmt.{signed_decimal};
+ghost use Rattle.fapp_text.specs.Numbers.{is_digit, is_numeral, value, bounded, number_of, fault_number};
+ghost use Rattle.fapp_text.specs.Signs.{sign_of};
 
+use crate::field::is;
 use itoa::Buffer;
-use std::alloc::AllocError;
+use std::alloc::AllocError as NoMemory;
+use std::error::Error;
+use std::fmt;
 
 /// The greatest number that a field may be.
 pub const MAX_NUMBER: u32 = 1_000_000_000;
-
-/// There was no memory.
-#[derive(Clone, Copy, Debug, PartialEq, Eq)]
-pub struct NoMemory;
-
-impl From<AllocError> for NoMemory {
-    fn from(_: AllocError) -> Self {
-        NoMemory
-    }
-}
 
 /// Why a field is no number.
 #[derive(Clone, Copy, Debug, PartialEq, Eq)]
 pub enum NumFault {
     /// It is empty, or has a byte that is no decimal digit.
-    NotDigits,
+    NotDigits = 1,
     /// It is digits whose value is above `MAX_NUMBER`.
-    TooLarge,
+    TooLarge = 2,
 }
+
+impl NumFault {
+    /// Its number: 1 for `NotDigits`, 2 for `TooLarge`.
+    pub fn number(self) -> u8
+        ensures { result ≡ fault_number self }
+    {
+        self as u8
+    }
+}
+
+impl fmt::Display for NumFault {
+    fn fmt<W: fmt::Write>(&self, f: &mut fmt::Formatter<W>) -> fmt::Result {
+        match self {
+            NumFault::NotDigits => write!(f, "not digits"),
+            NumFault::TooLarge => write!(f, "above {MAX_NUMBER}"),
+        }
+    }
+}
+
+impl Error for NumFault {}
 
 /// The number that a field is: decimal digits, leading zeros too.
 pub fn number(field: &[u8]) -> Result<u32, NumFault>
@@ -61,9 +76,32 @@ fn value(digits: &[u8]) -> Result<u32, NumFault>
     Ok(value as u32)
 }
 
+/// The sign that a field is: 1 for `1` and -1 for `-1`. `None` where it is another field.
+pub fn sign(field: &[u8]) -> Option<i8>
+    ensures { result ≡ sign_of field.now }
+{
+    if is(field, b"1") {
+        return Some(1);
+    }
+    if is(field, b"-1") {
+        return Some(-1);
+    }
+    None
+}
+
 /// Appends the decimal text of a number. `Err` leaves the bytes as they were.
 pub fn push_number(out: &mut Vec<u8>, n: u64) -> Result<(), NoMemory>
     ensures ok { OnOk result (out.new.items ≡ out.old.items ++ decimal n) }
+    ensures err { OnErr result (out.new.items ≡ out.old.items) }
+{
+    let mut digits = Buffer::new();
+    out.extend_from_slice(digits.format(n).as_bytes())?;
+    Ok(())
+}
+
+/// Appends the decimal text of a signed number. `Err` leaves the bytes as they were.
+pub fn push_signed(out: &mut Vec<u8>, n: i8) -> Result<(), NoMemory>
+    ensures ok { OnOk result (out.new.items ≡ out.old.items ++ signed_decimal n) }
     ensures err { OnErr result (out.new.items ≡ out.old.items) }
 {
     let mut buffer = Buffer::new();
