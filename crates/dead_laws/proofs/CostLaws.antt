@@ -12,9 +12,10 @@ use Rattle.fapp_model.specs.search.Modes.{IsWithin}
 use Rattle.fapp_model.specs.search.Pairs.{IsPairBelow, limit_of}
 use Rattle.fapp_model.specs.Tags.{IsTagOf, least_tag}
 use Rattle.fapp_model.specs.Triples.{IsBelow}
-use Rattle.dead_laws.proofs.ClearLevels.{before-clear, clear-le, counts_below, below-limit-to, below-limit-from, below-level-to, below-level-from}
-use Rattle.dead_laws.proofs.TagParts.{TagShape, limited, plain, shape_of, mode-limited, mode-plain, tag_from_limited, tag_from_plain}
-use Rattle.dead_laws.proofs.Violations.{violations-falling, violations-le, sum_under-le}
+use Rattle.fapp_model.proofs.ClearLevels.{before-clear, clear-le, counts_below, below-limit-to, below-limit-from, below-level-to, below-level-from}
+use Rattle.fapp_model.proofs.LevelNumbers.{levels-few}
+use Rattle.fapp_model.proofs.TagParts.{TagShape, limited, plain, shape_of, mode-limited, mode-plain, tag_from_limited, tag_from_plain}
+use Rattle.fapp_model.proofs.Violations.{violations-falling, violations-le, sum_under-le}
 
 small_sum : (n r s : ℕ) → n ≤ 60 → r ≤ MAX_RECORDS → s ≤ n * r → s < S_SPAN
 small_sum n r s few records h = omega (arith, mul-le-mul few records)
@@ -31,6 +32,7 @@ cost-tag instance plan v = by_level (clear_level (levels_of instance) (violation
         let last : count_below count (clear_level (levels_of instance) count) ≡ count k = ap (count_below count) e in
         let some = before-clear (levels_of instance) count k (omega (arith, e)) in
         let low = clear-le (levels_of instance) count in
+        let few = (levels-few instance).1 in
         let further = sum_under-le instance plan (clear_level (levels_of instance) count - 1) in
         tag_from_limited (levels_of instance) (cost instance plan) (omega arith) (omega arith) low (omega (arith, violations-le instance plan k, v.few_records)) (small_sum _ _ _ (omega arith) v.few_records further)
 

@@ -37,7 +37,7 @@ use Rattle.dead_laws.proofs.PairSums.{below_or_at_most}
 use Rattle.dead_laws.proofs.Picks.{AreDistinct, distinct-tail, names-at}
 use Rattle.dead_laws.proofs.PlanLiterals.{IsChosen, chosen-is, plan_literals, plan-distinct, plan-member, plan-names, plan-pair}
 use Rattle.fapp_model.proofs.Sums.{count_by-none}
-use Rattle.dead_laws.proofs.TagParts.{shape_of}
+use Rattle.fapp_model.proofs.TagParts.{shape_of}
 
 -- the index that a list chooses for a path
 abbrev pub index_in : List Literal → ℕ → ℕ
@@ -91,7 +91,7 @@ module _ (instance : Instance) (literals : List Literal) (partial : IsPartial in
     module _ (valid : IsInstance instance) (level : ℕ) (calm : has_clash instance level literals ≡ false) where
       calm-record : (r : Record) → Contains instance.records r → is_hard_bad level r (chosen instance (plan_of instance literals) (first_path r)) (chosen instance (plan_of instance literals) (second_path r)) ≡ false
       calm-record r c =
-          let ends = All-contains (IsRecord (length instance.paths)) instance.records r valid.records c in
+          let ends = All-contains (IsRecord (levels_of instance) (length instance.paths)) instance.records r valid.records c in
           let a = names-at literals (first_path r) (full (first_path r) ends.first) in
           let b = names-at literals (second_path r) (full (second_path r) ends.second) in
           let own = All-contains (IsChosen (plan_of instance literals)) literals a.0 plan-extends a.1 in

@@ -28,7 +28,7 @@ use Rattle.dead_laws.proofs.ImpliedLemmas.{none-at-top}
 use Rattle.dead_laws.proofs.PairSums.{not_both}
 use Rattle.dead_laws.proofs.PlanLiterals.{IsChosen, plan_literals, plan-apart, plan-distinct, plan-free, plan-has, plan-member, plan-names, plan-pair, plan-small}
 use Rattle.dead_laws.proofs.RecordEnds.{shares-range}
-use Rattle.dead_laws.proofs.TagParts.{tag_from_plain}
+use Rattle.fapp_model.proofs.TagParts.{tag_from_plain}
 
 pub small-paths : (instance : Instance) (literals : List Literal) → IsPartial instance literals → All (λ (a : Literal). a.path < length instance.paths) literals
 small-paths instance literals partial = λ k d l. (partial.in_range k d l).path

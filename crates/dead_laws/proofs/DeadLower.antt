@@ -20,7 +20,7 @@ use Rattle.fapp_model.specs.Triples.{IsAtMost}
 use Rattle.fapp_model.proofs.Anys.{positive-sum_by}
 use Rattle.fapp_model.proofs.Members.{from-range}
 use Rattle.dead_laws.proofs.LowerLevels.{InArc_higher, added_clashes, clashes_lower, clashes_with_lower, free_higher, inside_clashes, outside_lower}
-use Rattle.dead_laws.proofs.TagParts.{TagShape, limited, plain, mode-limited, mode-plain, shape_of}
+use Rattle.fapp_model.proofs.TagParts.{TagShape, limited, plain, mode-limited, mode-plain, shape_of}
 
 -- a triple with no violation is its level alone
 level_alone : (t : Triple) → t.v ≡ 0 → t.s ≡ 0 → t.k ≡ 0 → t ≡ least_tag

@@ -28,7 +28,7 @@ use Rattle.dead_laws.proofs.DeadLower.{IsPairAtMost-trans, least_or_above, nothi
 use Rattle.dead_laws.proofs.Growing.{pair-grows}
 use Rattle.dead_laws.proofs.PairSums.{below_or_at_most, not_both}
 use Rattle.dead_laws.proofs.Picks.{at-names}
-use Rattle.dead_laws.proofs.TagParts.{shape_of}
+use Rattle.fapp_model.proofs.TagParts.{shape_of}
 
 module _ (instance : Instance) (outside other : Literal → Type 0) (agree : AgreeOn instance outside other) where
   remains-back : (level : ℕ) (literals : List Literal) (a : Literal) → IsLiteral instance a → Remains other instance level literals a → Remains outside instance level literals a

@@ -14,7 +14,7 @@ use Rattle.fapp_model.specs.Tags.{top_tag}
 use Rattle.fapp_model.specs.Triples.{IsBelow}
 use Rattle.fapp_model.specs.search.Partials.{HasAll}
 use Rattle.fapp_model.specs.Triples.{IsAtMost}
-use Rattle.dead_laws.proofs.ClearLevels.{clear-le}
+use Rattle.fapp_model.proofs.ClearLevels.{clear-le}
 
 pub IsBelow-trans : (t u w : Triple) → IsBelow t u → IsBelow u w → IsBelow t w
 IsBelow-trans t u w (inl h) (inl g) = inl (omega arith)

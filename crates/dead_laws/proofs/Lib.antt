@@ -1,6 +1,3 @@
-pub mod TagParts
-pub mod ClearLevels
-pub mod Violations
 pub mod CostLaws
 pub mod RecordEnds
 pub mod ArcTest
@@ -16,7 +13,7 @@ pub mod DeadFull
 pub mod BestChoices
 pub mod DeadMore
 pub mod DeadTests
-pub mod NetworksValid
-pub mod RowTests
+pub mod ExamplesValid
+pub mod ExampleTests
 pub mod TiedPair
 pub mod ThreeAlike

@@ -9,28 +9,29 @@ use Rattle.fapp_model.specs.declared.record.Record.{Record}
 use Rattle.fapp_model.specs.search.Arcs.{InArc, IsSupported, OutsideArc}
 use Rattle.fapp_model.specs.search.Clashes.{joins, is_hard_bad, blocks, clashes, clashes_with}
 use Rattle.fapp_model.specs.Instances.{IsInstance, HasNumbers}
+use Rattle.fapp_model.specs.Levels.{levels_of}
 use Rattle.fapp_model.specs.search.Partials.{choice_of, literal}
 use Rattle.fapp_model.specs.Records.{is_bad, is_broken}
 use Rattle.fapp_model.specs.search.Weights.{added, bad_before, between, inside}
 use Rattle.fapp_model.proofs.Anys.{passing, any-member, positive-sum_by}
-use Rattle.dead_laws.proofs.Violations.{bad_lower, numbers_of}
+use Rattle.fapp_model.proofs.Violations.{bad_lower, numbers_of}
 
-hard_bad_lower : (r : Record) → HasNumbers r → (m n : ℕ) → m ≤ n → (a b : Choice) → is_hard_bad n r a b ≡ true → is_hard_bad m r a b ≡ true
-hard_bad_lower r d m n h a b e =
+hard_bad_lower : (levels : ℕ) (r : Record) → HasNumbers levels r → (m n : ℕ) → m ≤ n → (a b : Choice) → is_hard_bad n r a b ≡ true → is_hard_bad m r a b ≡ true
+hard_bad_lower levels r d m n h a b e =
     elim (or_cases (is_broken r a b) (is_bad n r a b) e) [
       | inl broken ↦ or_left (is_broken r a b) (is_bad m r a b) broken
-      | inr bad ↦ or_right (is_broken r a b) (is_bad m r a b) (bad_lower r d m n h a b bad)
+      | inr bad ↦ or_right (is_broken r a b) (is_bad m r a b) (bad_lower levels r d m n h a b bad)
     ]
 
-pub numbers_at : (instance : Instance) → IsInstance instance → (r : Record) → Contains instance.records r → HasNumbers r
-numbers_at instance v r c = All-contains HasNumbers instance.records r (numbers_of instance v) c
+pub numbers_at : (instance : Instance) → IsInstance instance → (r : Record) → Contains instance.records r → HasNumbers (levels_of instance) r
+numbers_at instance v r c = All-contains (HasNumbers (levels_of instance)) instance.records r (numbers_of instance v) c
 
 blocks_lower : (instance : Instance) → IsInstance instance → (m n : ℕ) → m ≤ n → (a b : Literal) → blocks instance n a b ≡ true → blocks instance m a b ≡ true
 blocks_lower instance v m n h a b e =
     let found = passing (λ r. joins a.path b.path r && is_hard_bad n r (choice_of instance a) (choice_of instance b)) instance.records e in
     let parts = and_parts (joins a.path b.path found.item) (is_hard_bad n found.item (choice_of instance a) (choice_of instance b)) found.passes in
     any-member (λ r. joins a.path b.path r && is_hard_bad m r (choice_of instance a) (choice_of instance b)) instance.records found.item found.member
-    (and_from _ _ parts.0 (hard_bad_lower found.item (numbers_at instance v found.item found.member) m n h (choice_of instance a) (choice_of instance b) parts.1))
+    (and_from _ _ parts.0 (hard_bad_lower (levels_of instance) found.item (numbers_at instance v found.item found.member) m n h (choice_of instance a) (choice_of instance b) parts.1))
 
 pub clashes_lower : (instance : Instance) → IsInstance instance → (m n : ℕ) → m ≤ n → (a b : Literal) → clashes instance n a b ≡ true → clashes instance m a b ≡ true
 clashes_lower instance v m n h a b e =
@@ -75,7 +76,7 @@ between_blocks instance v m n h a b some =
     let bad = cond-positive (is_bad (n - 1) found.item (choice_of instance a) (choice_of instance b)) 1 joined.1 in
     any-member (λ r. joins a.path b.path r && is_hard_bad m r (choice_of instance a) (choice_of instance b)) instance.records found.item found.member
     (and_from _ _ joined.0 (or_right (is_broken found.item (choice_of instance a) (choice_of instance b)) (is_bad m found.item (choice_of instance a) (choice_of instance b))
-    (bad_lower found.item (numbers_at instance v found.item found.member) m (n - 1) h (choice_of instance a) (choice_of instance b) bad.0)))
+    (bad_lower (levels_of instance) found.item (numbers_at instance v found.item found.member) m (n - 1) h (choice_of instance a) (choice_of instance b) bad.0)))
 
 pub added_clashes : (instance : Instance) → IsInstance instance → (m n : ℕ) → m ≤ n - 1 → (literals : List Literal) (a : Literal) → 0 < added instance (bad_before n) literals a → clashes_with instance m literals a ≡ true
 added_clashes instance v m n h literals a some =

@@ -11,11 +11,11 @@ use Rattle.fapp_model.specs.search.Pairs.{Pair, IsPairAtMost, IsPairBelow, limit
 use Rattle.fapp_model.specs.search.Partials.{literal, names, IsLiteral, IsPartial}
 use Rattle.fapp_model.specs.Tags.{least_tag, mode_level}
 use Rattle.fapp_model.specs.search.Weights.{added_pair, pair_with}
-use Rattle.dead_laws.specs.Networks.{three_alike}
-use Rattle.dead_laws.specs.RowLaws.{EachThreeDie, OneChoiceLives, UnlikeSum, UnlikeTags, eleven_levels, tag, three_choices, unlike}
+use Rattle.dead_laws.specs.ExampleInstances.{three_alike}
+use Rattle.dead_laws.specs.ExampleLaws.{EachThreeDie, OneChoiceLives, UnlikeSum, UnlikeTags, eleven_levels, tag, three_choices, unlike}
 use Rattle.dead_laws.proofs.DeadTests.{clash-dead, has_clash, least-pairs, least_pairs}
-use Rattle.dead_laws.proofs.NetworksValid.{three-valid}
-use Rattle.dead_laws.proofs.RowTests.{all_below, below-all, below-three, each-inside, lives, no-literals, one-more}
+use Rattle.dead_laws.proofs.ExamplesValid.{three-valid}
+use Rattle.dead_laws.proofs.ExampleTests.{all_below, below-all, below-three, each-inside, lives, no-literals, one-more}
 
 at-three : (path index : ℕ) → path < 3 → index < 2 → IsLiteral three_alike (literal path index)
 unfolding three_alike

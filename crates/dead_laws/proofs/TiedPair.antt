@@ -5,10 +5,10 @@ use Rattle.fapp_model.specs.declared.literal.Literal.{Literal}
 use Rattle.fapp_model.specs.search.Arcs.{InArc, OutsideArc}
 use Rattle.fapp_model.specs.Assignments.{count_at}
 use Rattle.fapp_model.specs.search.Partials.{literal, IsLiteral}
-use Rattle.dead_laws.specs.Networks.{tied_pair}
+use Rattle.dead_laws.specs.ExampleInstances.{tied_pair}
 use Rattle.dead_laws.proofs.ArcTest.{same_literal, without}
-use Rattle.dead_laws.proofs.NetworksValid.{tied-valid}
-use Rattle.dead_laws.proofs.RowTests.{each-literal, each_choice, inside-by, outside-below}
+use Rattle.dead_laws.proofs.ExamplesValid.{tied-valid}
+use Rattle.dead_laws.proofs.ExampleTests.{each-literal, each_choice, inside-by, outside-below}
 
 pub first-outside : (level : ℕ) → level ≤ 10 → OutsideArc tied_pair level (literal 0 0)
 unfolding tied_pair

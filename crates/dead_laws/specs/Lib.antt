@@ -2,5 +2,5 @@ pub mod TagLaws
 pub mod ArcLaws
 pub mod ImpliedLaws
 pub mod DeadLaws
-pub mod Networks
-pub mod RowLaws
+pub mod ExampleInstances
+pub mod ExampleLaws

@@ -1,7 +1,6 @@
 //! What a plan costs.
 #![tactic(auto)]
 
-mod counts;
 mod laws;
 mod plan;
 

@@ -2,8 +2,7 @@ ghost use Rattle.fapp_model.specs.Instances.{IsInstance};
 ghost use Rattle.fapp_model.specs.Assignments.{IsAssignment};
 ghost use Rattle.fapp_cost.specs.PlanCost.{IsCostOf};
 
-use crate::counts::{add_violations, triple_of_counts};
-use fapp_model::{Instance, Triple, chosen};
+use fapp_model::{Instance, MAX_LEVELS, Triple, add_violations, chosen, levels, triple_of_counts};
 
 /// The cost of a plan, which has one choice index for each path. `None` where it breaks an imperative record.
 pub fn cost(instance: &Instance, plan: &[u16]) -> Option<Triple>
@@ -11,14 +10,15 @@ pub fn cost(instance: &Instance, plan: &[u16]) -> Option<Triple>
     requires plan { IsAssignment instance.now plan.now }
     ensures { IsCostOf instance.now plan.now result }
 {
-    let mut counts = [0u32; 11];
+    let levels = levels(instance);
+    let mut counts = [0; MAX_LEVELS as usize];
     for record in instance.records.as_slice() {
         let first = chosen(instance, plan, record.first_path());
         let second = chosen(instance, plan, record.second_path());
         if record.is_broken(first, second) {
             return None;
         }
-        add_violations(&mut counts, record, first, second);
+        add_violations(&mut counts, levels, record, first, second);
     }
-    Some(triple_of_counts(&counts))
+    Some(triple_of_counts(&counts, levels))
 }

@@ -4,3 +4,8 @@ pub mod InOrder
 pub mod Sums
 pub mod Anys
 pub mod WorkOrders
+pub mod LevelNumbers
+pub mod TagParts
+pub mod ClearLevels
+pub mod Violations
+pub mod CostParts

@@ -3,7 +3,7 @@ use Rattle.std.specs.Prelude.{ℕ, ◌+◌, ◌-◌, ◌*◌, ◌/◌, ◌%◌, 
 use Rattle.fapp_model.specs.declared.instance.Instance.{Instance}
 use Rattle.fapp_model.specs.declared.triple.Triple.{Triple}
 use Rattle.fapp_model.specs.declared.limits.TheConstants.{V_SPAN, S_SPAN}
-use Rattle.fapp_model.specs.declared.level.TheConstants.{LEVELS}
+use Rattle.fapp_model.specs.declared.level.TheConstants.{MAX_LEVELS}
 use Rattle.fapp_model.specs.Levels.{levels_of}
 
 -- a triple as one number
@@ -24,9 +24,9 @@ is_tag levels t = if has_limit t
     then (nat_lt 0 t.k && nat_le t.k levels) && (nat_lt t.v V_SPAN && nat_lt t.s S_SPAN)
     else (t.s == 0) && nat_le t.k (levels + 1)
 
--- the code of a tag
+-- the code of a tag, of an instance with as many levels as there may be
 abbrev pub is_code : ℕ → Bool
-is_code code = is_tag LEVELS (triple_from code)
+is_code code = is_tag MAX_LEVELS (triple_from code)
 
 -- a tag of an instance
 abbrev pub IsTagOf : Instance → Triple → Type 0

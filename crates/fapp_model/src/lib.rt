@@ -3,6 +3,7 @@
 #![tactic(auto)]
 
 mod choice;
+mod counts;
 mod instance;
 mod items;
 mod laws;
@@ -14,10 +15,11 @@ mod tag;
 mod triple;
 
 pub use choice::{Choice, choice_at, choice_count, chosen};
+pub use counts::{ViolationCounts, add_violations, triple_of_counts};
 pub use instance::{Instance, Path};
 pub use items::Items;
 pub use laws::{codes_follow_tags, limits_are, literals_are_partial, one_work_order};
-pub use level::{LEVELS, levels};
+pub use level::{LEVELS, MAX_LEVELS, levels};
 pub use limits::{
     MAX_CHOICES, MAX_DEPTH, MAX_DOMAIN_FREQUENCIES, MAX_DOMAIN_RECORDS, MAX_NUMBER, MAX_PATHS,
     MAX_RECORDS, MAX_TEXT, S_SPAN, V_SPAN,

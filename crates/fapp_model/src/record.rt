@@ -2,20 +2,37 @@ ghost use Rattle.std.specs.Prelude.{◌≡◌, ◌≤◌};
 ghost use Rattle.std.specs.Ordering.{int_eq};
 ghost use Rattle.fapp_model.specs.Records.{first_path, second_path, is_broken, is_bad, is_closer};
 
-use crate::Choice;
+use crate::{Choice, MAX_LEVELS};
 
 /// A constraint between two different paths, by their positions `i` and `j`. Frequencies and distances are in
 /// the unit of the network's text.
 #[derive(Debug, Drop)]
 pub enum Record {
     /// Imperative: the distance of the frequencies is `n`, or is not `n`.
-    Freq { i: u16, j: u16, equal: bool, n: u32 },
+    Freq {
+        i: u16,
+        j: u16,
+        equal: bool,
+        n: u32,
+    },
     /// Imperative: the polarizations are equal, or are not.
-    Pol { i: u16, j: u16, equal: bool },
+    Pol {
+        i: u16,
+        j: u16,
+        equal: bool,
+    },
     /// Compatibility: the least distance at each level where the polarizations are equal. It doesn't rise.
-    Same { i: u16, j: u16, dist: [u32; 11] },
+    Same {
+        i: u16,
+        j: u16,
+        dist: [u32; MAX_LEVELS as usize],
+    },
     /// Compatibility: the least distance at each level where the polarizations differ. It doesn't rise.
-    Other { i: u16, j: u16, dist: [u32; 11] },
+    Other {
+        i: u16,
+        j: u16,
+        dist: [u32; MAX_LEVELS as usize],
+    },
 }
 
 impl Record {

@@ -1,7 +1,7 @@
 ghost use Rattle.std.specs.Prelude.{◌≡◌, ◌<◌, IsTrue};
 ghost use Rattle.fapp_model.specs.Tags.{code_of, is_code, is_tag, mode_level, triple_from};
 
-use crate::{LEVELS, S_SPAN, Triple, V_SPAN};
+use crate::{MAX_LEVELS, S_SPAN, Triple, V_SPAN};
 
 /// The cost that assignments are judged against, as one number: (k, v, s) has the code
 /// `(k * V_SPAN + v) * S_SPAN + s`, so codes are ordered as their triples are.
@@ -11,21 +11,21 @@ pub struct Tag {
     ghost of_tag: { IsTrue (is_code code) },
 }
 
-/// Whether a triple is a tag: a level of 1 to `LEVELS` with v of at least 1, or (k, 0, 0) with k at most
-/// `LEVELS + 1`. Its v and s are below `V_SPAN` and `S_SPAN`.
+/// Whether a triple is a tag: a level of 1 to `MAX_LEVELS` with v of at least 1, or (k, 0, 0) with k at most
+/// `MAX_LEVELS + 1`. Its v and s are below `V_SPAN` and `S_SPAN`.
 pub fn is_tag(t: Triple) -> bool
-    ensures { result ≡ is_tag LEVELS t }
+    ensures { result ≡ is_tag MAX_LEVELS t }
 {
     if t.v > 0 {
-        t.k > 0 && t.k <= LEVELS && t.v < V_SPAN && t.s < S_SPAN
+        t.k > 0 && t.k <= MAX_LEVELS && t.v < V_SPAN && t.s < S_SPAN
     } else {
-        t.s == 0 && t.k <= LEVELS + 1
+        t.s == 0 && t.k <= MAX_LEVELS + 1
     }
 }
 
 /// The tag of a triple.
 pub fn tag_of(t: Triple) -> Tag
-    requires { IsTrue (is_tag LEVELS t) }
+    requires { IsTrue (is_tag MAX_LEVELS t) }
     ensures code { result.code ≡ code_of t }
     ensures triple { triple_from result.code ≡ t }
 {

@@ -18,7 +18,7 @@ use Rattle.fapp_model.specs.Tags.{has_limit, least_tag, mode_level}
 use Rattle.fapp_model.specs.search.Tries.{IsTries, IsTriesBy}
 use Rattle.fapp_model.specs.search.WorkOrder.{work_order}
 use Rattle.tries_laws.specs.JobLaws.{IsDepth}
-use Rattle.tries_laws.specs.RowLaws.{IsFree}
+use Rattle.tries_laws.specs.ExampleLaws.{IsFree}
 use Rattle.tries_laws.proofs.AlivePlans.{IsClear, IsOf, not_dead}
 use Rattle.tries_laws.proofs.JobParts.{depth-is, depth-greatest, job-is, prefixes-all}
 use Rattle.tries_laws.proofs.PrefixParts.{prefix-is_partial}

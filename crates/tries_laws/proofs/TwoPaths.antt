@@ -12,7 +12,7 @@ use Rattle.fapp_model.specs.search.Partials.{literal}
 use Rattle.fapp_model.specs.Tags.{mode_level}
 use Rattle.fapp_model.specs.search.Tries.{IsTries, IsTriesBy}
 use Rattle.fapp_model.specs.search.WorkOrder.{work_order}
-use Rattle.tries_laws.specs.Networks.{two_paths}
+use Rattle.tries_laws.specs.ExampleInstances.{two_paths}
 use Rattle.tries_laws.proofs.AlivePlans.{IsClear, IsOf, not_dead}
 
 -- the second choice of path 0, and the one of path 1

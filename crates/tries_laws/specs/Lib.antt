@@ -2,5 +2,5 @@ pub mod PrefixLaws
 pub mod JobLaws
 pub mod TriesLaws
 pub mod LineLaws
-pub mod Networks
-pub mod RowLaws
+pub mod ExampleInstances
+pub mod ExampleLaws

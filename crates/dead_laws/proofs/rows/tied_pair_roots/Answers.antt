@@ -1,5 +1,0 @@
-use Rattle.dead_laws.proofs.TiedPair.{none-outside, some-inside}
-use Rattle.dead_laws.proofs.rows.tied_pair_roots.Goals as goal
-
-pub returns : goal.returns
-returns c = record { none = none-outside; some = some-inside }

@@ -1,5 +1,0 @@
-use Rattle.dead_laws.proofs.ThreeAlike.{unlike-tags}
-use Rattle.dead_laws.proofs.rows.unlike_tags.Goals as goal
-
-pub returns : goal.returns
-returns c = unlike-tags
