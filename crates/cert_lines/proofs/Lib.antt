@@ -6,7 +6,6 @@ pub mod TagReading
 pub mod Loop
 pub mod Until
 pub mod Parts
-pub mod Binds
 pub mod NumberLaws
 pub mod FieldLaws
 pub mod Ascending

@@ -1,10 +1,10 @@
 -- Lines of a plan, both ways.
-use Rattle.std.proofs.Common.{◌≡◌, ◌⊎◌, ℕ, ◌+◌, ◌<◌, true, cond, eqb, ltb, List, [], ◌∷◌, length, drop, decimal, codes, ℤ, pos, negsuc, Option, Some, None, Result, Ok, Err, refl, sym, ap, subst, ◌∙◌, inl, inr, arith, length-drop}
+use Rattle.std.proofs.Common.{◌≡◌, ℕ, ◌+◌, ◌<◌, true, cond, eqb, ltb, List, [], ◌∷◌, length, drop, decimal, codes, ℤ, Option, Some, None, Result, Ok, Err, refl, sym, ap, subst, ◌∙◌, inl, inr, arith, length-drop}
 use Rattle.std.specs.Fmt.{signed_decimal}
+use Rattle.std.specs.Option.{ok_or}
 use Rattle.std.specs.Str.{bytes_eq}
-use Rattle.std.proofs.lemmas.Bool.{eqb-true}
+use Rattle.std.proofs.lemmas.Bool.{and_parts, eqb-true, ltb-true, lt-ltb}
 use Rattle.std.proofs.lemmas.Bool.Decides.{nat_tests}
-use Rattle.std.proofs.lemmas.Fmt.{decimal_digit}
 use Rattle.std.proofs.lemmas.List.{drop_more}
 use Rattle.fapp_model.specs.declared.choice.Choice.{Choice}
 use Rattle.fapp_model.specs.declared.instance.Instance.{Instance}
@@ -13,52 +13,35 @@ use Rattle.fapp_model.specs.Assignments.{path_at, no_path}
 use Rattle.fapp_model.specs.Instances.{IsNumber}
 use Rattle.cert_lines.specs.declared.fault.CertCause.{CertCause}
 use Rattle.cert_lines.specs.declared.fault.CertCause.TheVariants.{BadKind, BadNumber}
-use Rattle.cert_lines.specs.Steps.{◌>>=◌, allowed}
+use Rattle.fapp_text.specs.Reading.{◌>>=◌, allowed}
 use Rattle.cert_lines.specs.Spelling.{choice_fields}
 use Rattle.cert_lines.specs.WellFormed.{IsShown}
 use Rattle.cert_lines.specs.FieldReading.{field_at, ended, number_at}
 use Rattle.cert_lines.specs.PlanReading.{polarization_at, misplaced, is_turn, choice_line, plan_line}
-use Rattle.cert_lines.proofs.Binds.{bind_ok, allowed_ok, chosen, both_true, ok_is}
+use Rattle.fapp_text.proofs.Steps.{bind_ok, allowed_ok, chosen, ok_is}
 use Rattle.cert_lines.proofs.FieldLaws.{field_takes, ended_takes, number_takes, number_again}
-use Rattle.cert_lines.proofs.LineLaws.{word_is}
-use Rattle.cert_lines.proofs.ListLaws.{lt_of, lt_is}
-
-abbrev pub IsSign : ℤ → Type 0
-IsSign z = (z ≡ negsuc 0) ⊎ (z ≡ pos 1)
-
-one_text : decimal 1 ≡ codes "1"
-one_text = decimal_digit 1 (omega arith)
+use Rattle.fapp_text.specs.Signs.{IsSign, sign_of}
+use Rattle.fapp_text.proofs.SignLemmas.{is_word, sign_taken, sign_again}
 
 abbrev SignTaken : List (List ℕ) → ℤ × List (List ℕ) → Type 0
 SignTaken fields x = (fields ≡ signed_decimal x.0 ∷ x.1) × IsSign x.0
 
-plus_taken : (word : List ℕ) (rest : List (List ℕ)) → word ≡ codes "1" → SignTaken (word ∷ rest) (pos 1, rest)
-plus_taken word rest e = (ap (λ (w : List ℕ). w ∷ rest) (e ∙ sym one_text), inr refl)
-
-minus_taken : (word : List ℕ) (rest : List (List ℕ)) → word ≡ codes "-1" → SignTaken (word ∷ rest) (negsuc 0, rest)
-minus_taken word rest e = (ap (λ (w : List ℕ). w ∷ rest) (e ∙ ap (λ (w : List ℕ). 45 ∷ w) (sym one_text)), inl refl)
-
-no_sign : (x : ℤ × List (List ℕ)) → ◌≡◌ {A = Result (ℤ × List (List ℕ)) CertCause} (Err BadNumber) (Ok x) → ⊥
-no_sign x e = cc
+ok_or_ok : (found : Option ℤ) (z : ℤ) → ok_or found BadNumber ≡ Ok z → found ≡ Some z
+ok_or_ok None z e = absurd cc
+ok_or_ok (Some y) z e = ap (λ (x : ℤ). Some x) (ok_is {E = CertCause} y z e)
 
 polarization_takes : (fields : List (List ℕ)) (x : ℤ × List (List ℕ)) → polarization_at fields ≡ Ok x → SignTaken fields x
 unfolding polarization_at
 polarization_takes fields x e =
-    let a = bind_ok (field_at fields) (λ field. cond (bytes_eq field.0 (codes "1")) (Ok (pos 1, field.1)) (cond (bytes_eq field.0 (codes "-1")) (Ok (negsuc 0, field.1)) (Err BadNumber))) x e in
-    let plus : ℤ × List (List ℕ) = (pos 1, a.0.1) in
-    let minus : ℤ × List (List ℕ) = (negsuc 0, a.0.1) in
-    rw (field_takes fields a.0 a.1) (elim (chosen (bytes_eq a.0.0 (codes "1")) (Ok plus) (cond (bytes_eq a.0.0 (codes "-1")) (Ok minus) (Err BadNumber)) (Ok x) a.2) [
-      | inl h ↦ subst (SignTaken (a.0.0 ∷ a.0.1)) (ok_is {E = CertCause} plus x h.1) (plus_taken a.0.0 a.0.1 (word_is a.0.0 (codes "1") h.0))
-      | inr h ↦ elim (chosen (bytes_eq a.0.0 (codes "-1")) (Ok minus) (Err BadNumber) (Ok x) h.1) [
-        | inl g ↦ subst (SignTaken (a.0.0 ∷ a.0.1)) (ok_is {E = CertCause} minus x g.1) (minus_taken a.0.0 a.0.1 (word_is a.0.0 (codes "-1") g.0))
-        | inr g ↦ absurd (no_sign x g.1)
-      ]
-    ])
+    let a = bind_ok (field_at fields) (λ field. ok_or (sign_of field.0) BadNumber >>= λ pol. Ok (pol, field.1)) x e in
+    let b = bind_ok (ok_or (sign_of a.0.0) BadNumber) (λ pol. Ok (pol, a.0.1)) x a.2 in
+    let sign = sign_taken a.0.0 b.0 (ok_or_ok (sign_of a.0.0) b.0 b.1) in
+    let made : ℤ × List (List ℕ) = (b.0, a.0.1) in
+    subst (SignTaken fields) (ok_is {E = CertCause} made x b.2) (field_takes fields a.0 a.1 ∙ ap (λ (field : List ℕ). field ∷ a.0.1) sign.0, sign.1)
 
 polarization_again : (z : ℤ) (rest : List (List ℕ)) → IsSign z → polarization_at (signed_decimal z ∷ rest) ≡ Ok (z, rest)
 unfolding polarization_at
-polarization_again z rest (inl e) = rw (e, one_text) refl
-polarization_again z rest (inr e) = rw (e, one_text) refl
+polarization_again z rest h = ap (λ (found : Option ℤ). ok_or found BadNumber >>= λ pol. Ok (pol, rest)) (sign_again z h)
 
 -- a path whose turn it is
 abbrev IsNext : Instance → ℕ → ℕ → Type 0
@@ -66,8 +49,8 @@ IsNext instance place number = (path : Path) × (drop place instance.paths ≡ p
 
 turn_takes : (instance : Instance) (place number : ℕ) → is_turn instance place number ≡ true → IsNext instance place number
 turn_takes instance place number e =
-    let h = both_true (ltb place (length instance.paths)) (eqb (path_at instance place).number number) e in
-    (path_at instance place, drop_more instance.paths place no_path (lt_of place (length instance.paths) h.0), eqb-true _ _ h.1)
+    let h = and_parts (ltb place (length instance.paths)) (eqb (path_at instance place).number number) e in
+    (path_at instance place, drop_more instance.paths place no_path (ltb-true place (length instance.paths) h.0), eqb-true _ _ h.1)
 
 same_number : (n : ℕ) → eqb n n ≡ true
 same_number n = grind (arith, nat_tests)
@@ -79,7 +62,7 @@ turn_again instance place path others e =
     let cut : path_at instance place ∷ drop (place + 1) instance.paths ≡ path ∷ others = sym (drop_more instance.paths place no_path some) ∙ e in
     let same : path_at instance place ≡ path = cc in
     let number : eqb (path_at instance place).number path.number ≡ true = rw same (same_number path.number) in
-    (rw (lt_is place (length instance.paths) some, number) refl, cc)
+    (rw (lt-ltb place (length instance.paths) some, number) refl, cc)
 
 -- fields that are those of a path's choice
 abbrev pub IsChoiceOf : Instance → ℕ → List (List ℕ) → Choice → Type 0
@@ -129,13 +112,13 @@ plan_takes instance place fields found e =
     rw (field_takes fields a.0 a.1) (elim (chosen (bytes_eq a.0.0 (codes "--")) (ended a.0.1 >>= λ end. Ok None) (kinds a.0.0 a.0.1) (Ok found) a.2) [
       | inl h ↦
           let b = bind_ok (ended a.0.1) (λ end. Ok None) found h.1 in
-          let taken : IsPlanned instance place (a.0.0 ∷ a.0.1) none = rw (word_is a.0.0 (codes "--") h.0, ended_takes a.0.1 b.0 b.1) refl in
+          let taken : IsPlanned instance place (a.0.0 ∷ a.0.1) none = rw (is_word a.0.0 (codes "--") h.0, ended_takes a.0.1 b.0 b.1) refl in
           subst (IsPlanned instance place (a.0.0 ∷ a.0.1)) (ok_is {E = CertCause} none found b.2) taken
       | inr h ↦ elim (chosen (bytes_eq a.0.0 (codes "AL")) (choice_line instance place a.0.1 >>= λ x. Ok (Some x)) (Err BadKind) (Ok found) h.1) [
         | inl g ↦
             let b = bind_ok (choice_line instance place a.0.1) (λ x. Ok (Some x)) found g.1 in
             let some : Option Choice = Some b.0 in
-            let taken : IsPlanned instance place (a.0.0 ∷ a.0.1) some = rw (word_is a.0.0 (codes "AL") g.0) (choice_takes instance place a.0.1 b.0 b.1) in
+            let taken : IsPlanned instance place (a.0.0 ∷ a.0.1) some = rw (is_word a.0.0 (codes "AL") g.0) (choice_takes instance place a.0.1 b.0 b.1) in
             subst (IsPlanned instance place (a.0.0 ∷ a.0.1)) (ok_is {E = CertCause} some found b.2) taken
         | inr g ↦ absurd (no_kind found g.1)
       ]

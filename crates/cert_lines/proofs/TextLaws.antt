@@ -1,7 +1,8 @@
 -- A text that was read is that of its answer.
-use Rattle.std.proofs.Common.{◌≡◌, ℕ, ◌+◌, ◌≤◌, List, [], ◌∷◌, ◌++◌, length, map, drop, codes, Option, Some, None, Result, Ok, Err, refl, sym, ap, subst, ◌∙◌, append_assoc, arith}
+use Rattle.std.proofs.Common.{◌≡◌, ℕ, ◌+◌, ◌≤◌, List, [], ◌∷◌, ◌++◌, length, map, drop, codes, Option, Some, None, Result, Ok, refl, sym, ap, subst, ◌∙◌, append_assoc, arith}
 use Rattle.std.specs.List.{flat_map, join_with_byte, AllByRecursion}
 use Rattle.std.proofs.lemmas.List.{append-nil}
+use Rattle.std.proofs.lemmas.List.Elements.{All-from_recursion}
 use Rattle.std.proofs.lemmas.List.Concat.{flat_map-append}
 use Rattle.std.proofs.lemmas.List.Splits.{join_with_byte-slice_split}
 use Rattle.fapp_model.specs.declared.choice.Choice.{Choice}
@@ -10,17 +11,16 @@ use Rattle.fapp_model.specs.declared.instance.Path.{Path}
 use Rattle.fapp_model.specs.Instances.{IsInstance}
 use Rattle.cert_lines.specs.declared.answer.Answer.{Answer}
 use Rattle.cert_lines.specs.declared.answer.Line.{Line}
-use Rattle.cert_lines.specs.declared.fault.BadCert.{BadCert}
 use Rattle.cert_lines.specs.declared.fault.CertCause.{CertCause}
-use Rattle.cert_lines.specs.Steps.{◌>>=◌}
+use Rattle.fapp_text.specs.Reading.{◌>>=◌, at_line}
 use Rattle.cert_lines.specs.Spelling.{line_text, choice_fields, certificate_fields, verdict_fields, plan_lines, lines_text, answer_text}
 use Rattle.cert_lines.specs.WellFormed.{IsShown, IsLine, IsWellFormed}
 use Rattle.cert_lines.specs.FieldReading.{fields_of}
 use Rattle.cert_lines.specs.PlanReading.{plan_line}
 use Rattle.cert_lines.specs.VerdictReading.{verdict_line}
 use Rattle.cert_lines.specs.CertificateReading.{certificate_line}
-use Rattle.cert_lines.specs.Reading.{Rest, parts_of, next_line, placed, line_by, and_then, until, finished, reading}
-use Rattle.cert_lines.proofs.Binds.{bind_ok, ok_is}
+use Rattle.cert_lines.specs.Reading.{TextFault, Rest, parts_of, next_line, line_by, and_then, until, finished, reading}
+use Rattle.fapp_text.proofs.Steps.{bind_ok, at_line_ok, ok_is}
 use Rattle.cert_lines.proofs.PlanLaws.{plan_takes}
 use Rattle.cert_lines.proofs.VerdictLaws.{verdict_takes}
 use Rattle.cert_lines.proofs.LineLaws.{certificate_takes}
@@ -32,10 +32,6 @@ joined fields = join_with_byte 32 fields
 line_is : (line : List ℕ) (fields : List (List ℕ)) → fields_of line ≡ fields → line ≡ joined fields
 line_is line fields e = sym (join_with_byte-slice_split 32 line) ∙ ap joined e
 
-placed_ok : {A : Type 0} (line : ℕ) (r : Result A CertCause) (x : A) → placed line r ≡ Ok x → r ≡ Ok x
-placed_ok line (Ok y) x e = cc
-placed_ok line (Err cause) x e = absurd cc
-
 -- the line that was taken from a rest
 abbrev IsTaken : Rest → List (List ℕ) × Rest → Type 0
 IsTaken rest x = (line : List ℕ) × (rest.1 ≡ line ∷ x.1.1) × (fields_of line ≡ x.0)
@@ -46,7 +42,7 @@ next_takes (number, []) x e = absurd cc
 next_takes (number, last ∷ []) x e = absurd cc
 next_takes (number, line ∷ next ∷ parts) x e =
     let made : List (List ℕ) × Rest = (fields_of line, (number + 1, next ∷ parts)) in
-    subst (IsTaken (number, line ∷ next ∷ parts)) (ok_is {E = BadCert} made x e) (line, refl, refl)
+    subst (IsTaken (number, line ∷ next ∷ parts)) (ok_is {E = TextFault} made x e) (line, refl, refl)
 
 abbrev IsReadBy : {A : Type 0} → (List (List ℕ) → Result A CertCause) → Rest → A × Rest → Type 0
 IsReadBy read rest x = (line : List ℕ) × (rest.1 ≡ line ∷ x.1.1) × (read (fields_of line) ≡ Ok x.0)
@@ -54,11 +50,11 @@ IsReadBy read rest x = (line : List ℕ) × (rest.1 ≡ line ∷ x.1.1) × (read
 line_takes : {A : Type 0} (read : List (List ℕ) → Result A CertCause) (rest : Rest) (x : A × Rest) → line_by read rest ≡ Ok x → IsReadBy read rest x
 unfolding line_by
 line_takes {A} read rest x e =
-    let a = bind_ok (next_line rest) (λ line. placed rest.0 (read line.0) >>= λ found. Ok (found, line.1)) x e in
-    let b = bind_ok (placed rest.0 (read a.0.0)) (λ found. Ok (found, a.0.1)) x a.2 in
+    let a = bind_ok (next_line rest) (λ line. at_line rest.0 (read line.0) >>= λ found. Ok (found, line.1)) x e in
+    let b = bind_ok (at_line rest.0 (read a.0.0)) (λ found. Ok (found, a.0.1)) x a.2 in
     let t = next_takes rest a.0 a.1 in
     let made : A × Rest = (b.0, a.0.1) in
-    subst (IsReadBy read rest) (ok_is {E = BadCert} made x b.2) (t.0, t.1, ap read t.2 ∙ placed_ok rest.0 (read a.0.0) b.0 b.1)
+    subst (IsReadBy read rest) (ok_is {E = TextFault} made x b.2) (t.0, t.1, ap read t.2 ∙ at_line_ok rest.0 (read a.0.0) b.0 b.1)
 
 -- what lines say, whatever reads them: Q relates a place and items to the fields of the lines
 pub record IsSaid {A : Type 0} (read : ℕ → List (List ℕ) → Result (Option A) CertCause) (Q : ℕ → List A → List (List (List ℕ)) → Type 0) : Type 0 where
@@ -76,13 +72,13 @@ line_said : {A : Type 0} (read : ℕ → List (List ℕ) → Result (Option A) C
 line_said {A} read Q law place number parts line after None x same h later e =
     let made : List A × Rest = ([], after) in
     let text : line ∷ parts ≡ joined (fields_of line) ∷ after.1 = ap (λ (l : List ℕ). l ∷ parts) (line_is line (fields_of line) refl) ∙ ap (λ (p : List (List ℕ)). joined (fields_of line) ∷ p) (sym same) in
-    subst (AreSaid Q place (line ∷ parts)) (ok_is {E = BadCert} made x e) (fields_of line ∷ [], law.end place (fields_of line) h, text)
+    subst (AreSaid Q place (line ∷ parts)) (ok_is {E = TextFault} made x e) (fields_of line ∷ [], law.end place (fields_of line) h, text)
 line_said {A} read Q law place number parts line after (Some found) x same h later e =
     let b = bind_ok (until read (place + 1) (number + 1) parts) (λ others. Ok (found ∷ others.0, others.1)) x e in
     let rest = later b.0 b.1 in
     let made : List A × Rest = (found ∷ b.0.0, b.0.1) in
     let text : line ∷ parts ≡ joined (fields_of line) ∷ (map joined rest.0 ++ b.0.1.1) = ap (λ (l : List ℕ). l ∷ parts) (line_is line (fields_of line) refl) ∙ ap (λ (p : List (List ℕ)). joined (fields_of line) ∷ p) rest.2 in
-    subst (AreSaid Q place (line ∷ parts)) (ok_is {E = BadCert} made x b.2) (fields_of line ∷ rest.0, law.more place (fields_of line) found b.0.0 rest.0 h rest.1, text)
+    subst (AreSaid Q place (line ∷ parts)) (ok_is {E = TextFault} made x b.2) (fields_of line ∷ rest.0, law.more place (fields_of line) found b.0.0 rest.0 h rest.1, text)
 
 tail_of : List (List ℕ) → List (List ℕ)
 tail_of [] = []
@@ -202,4 +198,4 @@ reading_takes instance valid bytes answer e =
     let parts : parts_of bytes ≡ map joined all ++ [] ∷ [] = plan.2 ∙ ap (λ (r : List (List ℕ)). map joined plan.0 ++ r) middle ∙ sym (map_both plan.0 (verdict_fields b.0.0 ∷ lines.0) ([] ∷ [])) in
     let same : all ≡ lines_of instance.paths made = ap (λ (ls : List (List (List ℕ))). ls ++ (verdict_fields b.0.0 ∷ lines.0)) plan.1.0 ∙ ap (λ (ls : List (List (List ℕ))). (plan_lines instance.paths a.0.0 ++ (codes "--" ∷ []) ∷ []) ++ (verdict_fields b.0.0 ∷ ls)) lines.1.0 in
     let text : bytes ≡ answer_text instance made = sym (join_with_byte-slice_split 10 bytes) ∙ ap (join_with_byte 10) parts ∙ joined_text all ∙ ap (flat_map line_text) same ∙ text_is instance made in
-    subst (λ (x : Answer). IsWellFormed instance x × (bytes ≡ answer_text instance x)) (ok_is {E = BadCert} made answer d.2) (record { plan = plan.1.1; choices = plan.1.2; verdict = verdict.1; lines = lines.1.1 }, text)
+    subst (λ (x : Answer). IsWellFormed instance x × (bytes ≡ answer_text instance x)) (ok_is {E = TextFault} made answer d.2) (record { plan = plan.1.1; choices = All-from_recursion IsShown a.0.0 plan.1.2; verdict = verdict.1; lines = All-from_recursion (IsLine instance) c.0.0 lines.1.1 }, text)

@@ -1,14 +1,15 @@
 -- How answers and texts belong together.
 use Rattle.std.specs.Prelude.{◌≡◌, ◌⊎◌, ℕ, ◌+◌, List, ◌∷◌, ◌++◌, length, codes, Some, None, Result, Ok, Err}
+use Rattle.fapp_text.specs.declared.failure.Failure.{Failure}
+use Rattle.fapp_text.specs.declared.failure.Failure.TheVariants.{NoMemory}
+use Rattle.fapp_text.specs.Reading.{fault}
 use Rattle.fapp_model.specs.declared.instance.Instance.{Instance}
 use Rattle.fapp_model.specs.Instances.{IsInstance}
 use Rattle.cert_lines.specs.declared.answer.Answer.{Answer}
-use Rattle.cert_lines.specs.declared.fault.AnswerError.{AnswerError}
-use Rattle.cert_lines.specs.declared.fault.AnswerError.TheVariants.{NoMemory}
 use Rattle.cert_lines.specs.declared.fault.CertCause.TheVariants.{AfterEnd}
 use Rattle.cert_lines.specs.Spelling.{head_text, lines_text, answer_text}
 use Rattle.cert_lines.specs.WellFormed.{IsWellFormed}
-use Rattle.cert_lines.specs.Reading.{fault, first_fault, IsReading}
+use Rattle.cert_lines.specs.Reading.{TextFault, first_fault, IsReading}
 
 -- the number of the line after END: before it stand a line for each choice, `--`, the verdict, the certificate's lines and END
 abbrev pub line_after : Answer → ℕ
@@ -36,4 +37,4 @@ InParts = (instance : Instance) (answer : Answer) → answer_text instance answe
 
 -- what was written is read as the same answer, unless memory runs out
 abbrev pub ReadsBack : Type 0
-ReadsBack = (instance : Instance) → IsInstance instance → (answer : Answer) → IsWellFormed instance answer → (result : Result Answer AnswerError) → IsReading instance (answer_text instance answer) result → (result ≡ Ok answer) ⊎ (result ≡ Err NoMemory)
+ReadsBack = (instance : Instance) → IsInstance instance → (answer : Answer) → IsWellFormed instance answer → (result : Result Answer (Failure TextFault)) → IsReading instance (answer_text instance answer) result → (result ≡ Ok answer) ⊎ (result ≡ Err NoMemory)

@@ -1,7 +1,7 @@
+pub mod Causes
 pub mod Spelling
 pub mod WellFormed
 pub mod Spaced
-pub mod Steps
 pub mod FieldReading
 pub mod FieldsLeft
 pub mod ListReading

@@ -1,19 +1,22 @@
 -- The lines of a plan, by their fields.
-use Rattle.std.specs.Prelude.{ℕ, ◌==◌, ◌&&◌, Bool, nat_lt, List, length, ℤ, pos, negsuc, codes, Option, Some, None, Result, Ok, Err, if◌then◌else◌}
+use Rattle.std.specs.Prelude.{ℕ, ◌==◌, ◌&&◌, Bool, nat_lt, List, length, ℤ, codes, Option, Some, None, Result, Ok, Err, if◌then◌else◌}
 use Rattle.std.specs.List.{list_any}
+use Rattle.std.specs.Option.{ok_or}
 use Rattle.std.specs.Str.{bytes_eq}
+use Rattle.fapp_text.specs.Reading.{◌>>=◌, allowed}
+use Rattle.fapp_text.specs.Signs.{sign_of}
 use Rattle.fapp_model.specs.declared.choice.Choice.{Choice}
 use Rattle.fapp_model.specs.declared.instance.Instance.{Instance}
 use Rattle.fapp_model.specs.Assignments.{path_at}
 use Rattle.cert_lines.specs.declared.fault.CertCause.{CertCause}
 use Rattle.cert_lines.specs.declared.fault.CertCause.TheVariants.{BadKind, BadNumber, BadOrder, UnknownPath}
-use Rattle.cert_lines.specs.Steps.{◌>>=◌, allowed}
 use Rattle.cert_lines.specs.FieldReading.{field_at, ended, number_at}
 
 unfoldable pub polarization_at : List (List ℕ) → Result (ℤ × List (List ℕ)) CertCause
 polarization_at fields = do
   field ← field_at fields
-  if bytes_eq field.0 (codes "1") then Ok (pos 1, field.1) else if bytes_eq field.0 (codes "-1") then Ok (negsuc 0, field.1) else Err BadNumber
+  pol ← ok_or (sign_of field.0) BadNumber
+  Ok (pol, field.1)
 
 -- what a number in another path's place is
 abbrev pub misplaced : Instance → ℕ → CertCause

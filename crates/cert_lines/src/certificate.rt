@@ -2,16 +2,17 @@
 
 ghost use Rattle.std.specs.Prelude.{◌≡◌};
 ghost use Rattle.fapp_model.specs.Instances.{IsInstance};
-ghost use Rattle.cert_lines.specs.Steps.{Gives};
+ghost use Rattle.fapp_text.specs.Reading.{Gives};
 ghost use Rattle.cert_lines.specs.FieldsLeft.{fields_left};
 ghost use Rattle.cert_lines.specs.CertificateReading.{count_line, branch_line, certificate_line};
 
 use crate::elements::{Children, Cites, Literals};
 use crate::fault::{CertCause, LineError};
-use crate::fields::{Fields, ended, field_at, is, tag_at};
+use crate::fields::{Fields, ended, field_at, tag_at};
 use crate::lists::{list_at, position_at};
 use crate::{Line, Rule};
 use fapp_model::Instance;
+use fapp_text::is;
 use std::alloc::Global;
 
 #[tactic(auto, unfolding(crate::specs::CertificateReading::count_line))]
@@ -19,7 +20,7 @@ fn count_line(alloc: Global, instance: &Instance, fields: Fields) -> Result<Line
     requires { IsInstance instance.now }
     ensures { Gives (λ x. x) result (count_line instance.now (fields_left fields.entry)) }
 {
-    let (tag, rest) = tag_at(fields)?;
+    let (tag, rest) = tag_at(instance, fields)?;
     let (lits, rest) = list_at(alloc, &Literals { instance }, rest)?;
     let (cites, rest) = list_at(alloc, &Cites, rest)?;
     ended(rest)?;
@@ -35,7 +36,7 @@ fn branch_line(alloc: Global, instance: &Instance, fields: Fields) -> Result<Lin
     requires { IsInstance instance.now }
     ensures { Gives (λ x. x) result (branch_line instance.now (fields_left fields.entry)) }
 {
-    let (tag, rest) = tag_at(fields)?;
+    let (tag, rest) = tag_at(instance, fields)?;
     let (lits, rest) = list_at(alloc, &Literals { instance }, rest)?;
     let (path, rest) = position_at(instance, rest)?;
     let (children, rest) = list_at(alloc, &Children { instance, path }, rest)?;
@@ -70,5 +71,5 @@ pub(crate) fn certificate_line(
         let line = branch_line(alloc, instance, rest)?;
         return Ok(Some(line));
     }
-    Err(LineError::Cause(CertCause::BadKind))
+    Err(LineError::Bad(CertCause::BadKind))
 }

@@ -3,7 +3,7 @@
 ghost use Rattle.std.specs.Prelude.{◌<◌, length, Result};
 ghost use Rattle.fapp_model.specs.Instances.{IsInstance};
 ghost use Rattle.cert_lines.specs.declared.fault.CertCause.{CertCause as Cause};
-ghost use Rattle.cert_lines.specs.Steps.{Gives};
+ghost use Rattle.fapp_text.specs.Reading.{Gives};
 ghost use Rattle.cert_lines.specs.FieldsLeft.{fields_left};
 ghost use Rattle.cert_lines.specs.ListReading.{State, literal_at, cite_at, child_at};
 
@@ -52,7 +52,7 @@ impl<'i> ElementReader for Literals<'i> {
     ) -> Result<(Literal, u64, Fields<'a>), LineError> {
         let (path, rest) = position_at(self.instance, fields)?;
         if u64::from(path) < low {
-            return Err(LineError::Cause(CertCause::BadOrder));
+            return Err(LineError::Bad(CertCause::BadOrder));
         }
         let (choice, rest) = index_at(self.instance, path, rest)?;
         Ok((Literal { path, choice }, u64::from(path) + 1, rest))
@@ -77,7 +77,7 @@ impl ElementReader for Cites {
     ) -> Result<(u32, u64, Fields<'a>), LineError> {
         let (cite, rest) = number_at(fields)?;
         if u64::from(cite) < low {
-            return Err(LineError::Cause(CertCause::BadOrder));
+            return Err(LineError::Bad(CertCause::BadOrder));
         }
         Ok((cite, u64::from(cite) + 1, rest))
     }
@@ -105,7 +105,7 @@ impl<'i> ElementReader for Children<'i> {
     ) -> Result<(Child, u64, Fields<'a>), LineError> {
         let (choice, rest) = index_at(self.instance, self.path, fields)?;
         if u64::from(choice) < low {
-            return Err(LineError::Cause(CertCause::BadOrder));
+            return Err(LineError::Bad(CertCause::BadOrder));
         }
         let (cite, rest) = number_at(rest)?;
         Ok((Child { choice, cite }, u64::from(choice) + 1, rest))

@@ -1,6 +1,8 @@
+//! Lists in the midst of a line: how many elements there are, and each one.
+
 ghost use Rattle.std.specs.Prelude.{◌≡◌, ◌<◌, length, IfOk};
 ghost use Rattle.fapp_model.specs.Instances.{IsInstance};
-ghost use Rattle.cert_lines.specs.Steps.{Gives};
+ghost use Rattle.fapp_text.specs.Reading.{Gives};
 ghost use Rattle.cert_lines.specs.FieldsLeft.{fields_left};
 ghost use Rattle.cert_lines.specs.ListReading.{position_at, index_at, counted, list_at};
 
@@ -21,7 +23,7 @@ pub(crate) fn position_at<'a>(
 {
     let (path, rest) = number_at(fields)?;
     if path as usize >= instance.paths.len() {
-        return Err(LineError::Cause(CertCause::UnknownPath));
+        return Err(LineError::Bad(CertCause::UnknownPath));
     }
     Ok((path as u16, rest))
 }
@@ -39,7 +41,7 @@ pub(crate) fn index_at<'a>(
     let (choice, rest) = number_at(fields)?;
     let count = choice_count(&instance.paths.as_slice()[path as usize]);
     if choice >= count {
-        return Err(LineError::Cause(CertCause::UnknownChoice));
+        return Err(LineError::Bad(CertCause::UnknownChoice));
     }
     Ok((choice as u16, rest))
 }

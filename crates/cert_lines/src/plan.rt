@@ -2,26 +2,24 @@
 
 ghost use Rattle.std.specs.Prelude.{◌≡◌, ◌==◌};
 ghost use Rattle.std.specs.List.{list_any};
-ghost use Rattle.cert_lines.specs.Steps.{Gives};
+ghost use Rattle.fapp_text.specs.Reading.{Gives};
 ghost use Rattle.cert_lines.specs.FieldsLeft.{fields_left};
 ghost use Rattle.cert_lines.specs.PlanReading.{polarization_at, misplaced, is_turn, choice_line, plan_line};
 
 use crate::fault::{CertCause, LineError};
-use crate::fields::{Fields, ended, field_at, is, number_at};
+use crate::fields::{Fields, ended, field_at, number_at};
 use fapp_model::{Choice, Instance, Path};
+use fapp_text::{is, sign};
 
 #[tactic(auto, unfolding(crate::specs::PlanReading::polarization_at))]
 fn polarization_at<'a>(fields: Fields<'a>) -> Result<(i8, Fields<'a>), LineError>
     ensures { Gives (λ x. (x.0, fields_left x.1)) result (polarization_at (fields_left fields.entry)) }
 {
     let (field, rest) = field_at(fields)?;
-    if is(field, b"1") {
-        return Ok((1, rest));
+    match sign(field) {
+        Some(pol) => Ok((pol, rest)),
+        None => Err(LineError::Bad(CertCause::BadNumber)),
     }
-    if is(field, b"-1") {
-        return Ok((-1, rest));
-    }
-    Err(LineError::Cause(CertCause::BadNumber))
 }
 
 /// What a number in another path's place is.
@@ -55,7 +53,7 @@ fn choice_line(instance: &Instance, place: usize, fields: Fields) -> Result<Choi
 {
     let (number, rest) = number_at(fields)?;
     if !is_turn(instance, place, number) {
-        return Err(LineError::Cause(misplaced(instance, number)));
+        return Err(LineError::Bad(misplaced(instance, number)));
     }
     let (freq, rest) = number_at(rest)?;
     let (pol, rest) = polarization_at(rest)?;
@@ -81,5 +79,5 @@ pub(crate) fn plan_line(
         let choice = choice_line(instance, place, rest)?;
         return Ok(Some(choice));
     }
-    Err(LineError::Cause(CertCause::BadKind))
+    Err(LineError::Bad(CertCause::BadKind))
 }

@@ -3,24 +3,25 @@
 ghost use Rattle.std.specs.Prelude.{◌≡◌, ◌<◌, ◌≤◌, ◌+◌, ◌==◌, length, IfOk, Ok};
 ghost use Rattle.std.specs.List.{position};
 ghost use Rattle.fapp_model.specs.Instances.{IsInstance};
-ghost use Rattle.cert_lines.specs.Steps.{TextGives, TextFails};
+ghost use Rattle.fapp_text.specs.Lines.{is_line_feed};
+ghost use Rattle.fapp_text.specs.Reading.{Gives};
 ghost use Rattle.cert_lines.specs.FieldsLeft.{fields_left};
-ghost use Rattle.cert_lines.specs.Reading.{is_line_feed, next_line, line_by, fault, until, finished, reading, IsReading};
-ghost use Rattle.cert_lines.specs.TextLeft.{text_left, placed_error};
+ghost use Rattle.cert_lines.specs.Reading.{next_line, line_by, until, finished, reading, IsReading};
+ghost use Rattle.cert_lines.specs.TextLeft.{text_left};
 
-use crate::fault::LineError;
 use crate::fields::{Fields, fields_of};
 use crate::line::{CertificateLines, LineReader, PlanLines, VerdictLine};
 use crate::text::Text;
-use crate::{Answer, AnswerError, BadCert, CertCause};
+use crate::{Answer, AnswerError, CertCause};
 use fapp_model::{Instance, Items};
+use fapp_text::{MAX_TEXT, failure_at, fault_at};
 use std::alloc::Global;
 
-/// The answer of a network's text of at most 2^30 bytes. `Bad` is the first fault of a text that is no answer's,
+/// The answer that a text of at most `MAX_TEXT` bytes is. `Bad` is the first fault of a text that is no answer's,
 /// and `NoMemory` comes where room could not be had.
 pub fn read_answer(alloc: Global, instance: &Instance, bytes: &[u8]) -> Result<Answer, AnswerError>
     requires instance { IsInstance instance.now }
-    requires size { length bytes.now ≤ 1073741824 }
+    requires size { length bytes.now ≤ MAX_TEXT }
     ensures { IsReading instance.now bytes.now result }
 {
     answer_of(alloc, instance, bytes)
@@ -28,7 +29,7 @@ pub fn read_answer(alloc: Global, instance: &Instance, bytes: &[u8]) -> Result<A
 
 /// The fields of the next line, and the text after it.
 fn next_line<'a>(text: Text<'a>) -> Result<(Fields<'a>, Text<'a>), AnswerError>
-    ensures gives { TextGives (λ x. (fields_left x.0, text_left x.1)) result (next_line (text_left text.entry)) }
+    ensures gives { Gives (λ x. (fields_left x.0, text_left x.1)) result (next_line (text_left text.entry)) }
     ensures shorter { IfOk result (λ x. length x.1.rest.now < length text.entry.rest.now) }
 {
     let bytes = text.rest;
@@ -40,7 +41,7 @@ fn next_line<'a>(text: Text<'a>) -> Result<(Fields<'a>, Text<'a>), AnswerError>
                 line: text.line + 1,
             },
         )),
-        None => Err(fault(text.line, CertCause::NoEnd)),
+        None => Err(fault_at(text.line, CertCause::NoEnd)),
     }
 }
 
@@ -48,22 +49,6 @@ fn line_feed_at(bytes: &[u8]) -> Option<usize>
     ensures { result ≡ position is_line_feed bytes.now }
 {
     bytes.iter().position(|byte| *byte == b'\n')
-}
-
-fn fault(line: u32, cause: CertCause) -> AnswerError
-    ensures { result ≡ AnswerError.Bad (fault line cause) }
-{
-    AnswerError::Bad(BadCert { line, cause })
-}
-
-/// What went wrong at a line.
-fn placed(line: u32, error: LineError) -> AnswerError
-    ensures { result ≡ placed_error line error }
-{
-    match error {
-        LineError::Cause(cause) => fault(line, cause),
-        LineError::NoMemory => AnswerError::NoMemory,
-    }
 }
 
 /// The next line, read by its fields, and the text after it.
@@ -75,13 +60,13 @@ fn line_by<'t, R: LineReader>(
     text: Text<'t>,
 ) -> Result<(R::Found, Text<'t>), AnswerError>
     requires { R.valid reader.now }
-    ensures gives { TextGives (λ x. (x.0, text_left x.1)) result (line_by (R.read reader.now place) (text_left text.entry)) }
+    ensures gives { Gives (λ x. (x.0, text_left x.1)) result (line_by (R.read reader.now place) (text_left text.entry)) }
     ensures shorter { IfOk result (λ x. length x.1.rest.now < length text.entry.rest.now) }
 {
     let (fields, after) = next_line(text)?;
     match reader.read_line(alloc, place, fields) {
         Ok(found) => Ok((found, after)),
-        Err(error) => Err(placed(text.line, error)),
+        Err(error) => Err(failure_at(text.line, error)),
     }
 }
 
@@ -92,7 +77,7 @@ fn until<'t, T: Drop, R: LineReader<Found = Option<T>>>(
     text: Text<'t>,
 ) -> Result<(Items<T>, Text<'t>), AnswerError>
     requires { R.valid reader.now }
-    ensures { TextGives (λ x. (x.0, text_left x.1)) result (until (R.read reader.now) 0 (text_left text.entry).0 (text_left text.entry).1) }
+    ensures { Gives (λ x. (x.0, text_left x.1)) result (until (R.read reader.now) 0 (text_left text.entry).0 (text_left text.entry).1) }
 {
     let mut found = Vec::new(alloc);
     let mut rest = text;
@@ -108,10 +93,10 @@ fn until<'t, T: Drop, R: LineReader<Found = Option<T>>>(
 
 /// No byte may follow.
 fn finished(text: Text) -> Result<(), AnswerError>
-    ensures { TextGives (λ x. x) result (finished (text_left text.entry)) }
+    ensures { Gives (λ x. x) result (finished (text_left text.entry)) }
 {
     if !text.rest.is_empty() {
-        return Err(fault(text.line, CertCause::AfterEnd));
+        return Err(fault_at(text.line, CertCause::AfterEnd));
     }
     Ok(())
 }
@@ -119,8 +104,8 @@ fn finished(text: Text) -> Result<(), AnswerError>
 #[tactic(auto, unfolding(crate::specs::Reading::reading))]
 fn answer_of(alloc: Global, instance: &Instance, bytes: &[u8]) -> Result<Answer, AnswerError>
     requires instance { IsInstance instance.now }
-    requires size { length bytes.now ≤ 1073741824 }
-    ensures { TextGives (λ x. x) result (reading instance.now bytes.now) }
+    requires size { length bytes.now ≤ MAX_TEXT }
+    ensures { Gives (λ x. x) result (reading instance.now bytes.now) }
 {
     let text = Text {
         rest: bytes,

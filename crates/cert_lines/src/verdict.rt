@@ -1,19 +1,20 @@
 //! The line of a verdict.
 
-ghost use Rattle.std.specs.Prelude.{◌≡◌, Bool};
+ghost use Rattle.std.specs.Prelude.{◌≡◌, ◌≤◌, Bool};
 ghost use Rattle.fapp_model.specs.declared.triple.Triple.{Triple as Numbers};
 ghost use Rattle.fapp_model.specs.Instances.{IsInstance};
 ghost use Rattle.cert_lines.specs.WellFormed.{is_cost, is_shown};
-ghost use Rattle.cert_lines.specs.Steps.{Gives};
+ghost use Rattle.fapp_text.specs.Reading.{Gives};
 ghost use Rattle.cert_lines.specs.FieldsLeft.{fields_left};
 ghost use Rattle.cert_lines.specs.VerdictReading.{word_at, judged, best_line, level_at, open_line, verdict_line};
 
 use crate::Verdict;
 use crate::elements::Literals;
 use crate::fault::{CertCause, LineError};
-use crate::fields::{Fields, ended, field_at, is, number_at, tag_at, triple_at};
+use crate::fields::{Fields, ended, field_at, number_at, tag_at, triple_at};
 use crate::lists::list_at;
-use fapp_model::{Instance, LEVELS, Triple, is_tag};
+use fapp_model::{Instance, MAX_LEVELS, Triple, is_tag, levels};
+use fapp_text::is;
 use std::alloc::Global;
 
 #[tactic(auto, unfolding(crate::specs::VerdictReading::word_at))]
@@ -22,23 +23,25 @@ fn word_at<'a>(word: &[u8], fields: Fields<'a>) -> Result<Fields<'a>, LineError>
 {
     let (field, rest) = field_at(fields)?;
     if !is(field, word) {
-        return Err(LineError::Cause(CertCause::BadKind));
+        return Err(LineError::Bad(CertCause::BadKind));
     }
     Ok(rest)
 }
 
 /// Whether a triple is what a plan can cost.
-fn is_cost(t: Triple) -> bool
-    ensures { result ≡ is_cost t }
+fn is_cost(levels: u32, t: Triple) -> bool
+    requires { levels ≤ MAX_LEVELS }
+    ensures { result ≡ is_cost levels t }
 {
-    is_tag(t) && (t.v > 0 || t.k == 0)
+    is_tag(levels, t) && (t.v > 0 || t.k == 0)
 }
 
 /// Whether a triple is what a plan can cost, or says that none is shown.
-fn is_shown(t: Triple) -> bool
-    ensures { result ≡ is_shown t }
+fn is_shown(levels: u32, t: Triple) -> bool
+    requires { levels ≤ MAX_LEVELS }
+    ensures { result ≡ is_shown levels t }
 {
-    is_tag(t) && (t.v > 0 || t.k == 0 || t.k == LEVELS + 1)
+    is_tag(levels, t) && (t.v > 0 || t.k == 0 || t.k == levels + 1)
 }
 
 /// Three numbers that pass a test.
@@ -52,27 +55,29 @@ fn judged<'a, F: Fn(Triple) -> bool>(
 {
     let (t, rest) = triple_at(fields)?;
     if !test(t) {
-        return Err(LineError::Cause(CertCause::BadTag));
+        return Err(LineError::Bad(CertCause::BadTag));
     }
     Ok((t, rest))
 }
 
+/// A level of the instance, or the one at which nothing is violated.
 #[tactic(auto, unfolding(crate::specs::VerdictReading::level_at))]
-fn level_at<'a>(fields: Fields<'a>) -> Result<(u32, Fields<'a>), LineError>
-    ensures { Gives (λ x. (x.0, fields_left x.1)) result (level_at (fields_left fields.entry)) }
+fn level_at<'a>(instance: &Instance, fields: Fields<'a>) -> Result<(u32, Fields<'a>), LineError>
+    ensures { Gives (λ x. (x.0, fields_left x.1)) result (level_at instance.now (fields_left fields.entry)) }
 {
     let (level, rest) = number_at(fields)?;
-    if level > LEVELS {
-        return Err(LineError::Cause(CertCause::BadNumber));
+    if level > levels(instance) {
+        return Err(LineError::Bad(CertCause::BadNumber));
     }
     Ok((level, rest))
 }
 
 #[tactic(auto, unfolding(crate::specs::VerdictReading::best_line))]
-fn best_line(fields: Fields) -> Result<Verdict, LineError>
-    ensures { Gives (λ x. x) result (best_line (fields_left fields.entry)) }
+fn best_line(instance: &Instance, fields: Fields) -> Result<Verdict, LineError>
+    ensures { Gives (λ x. x) result (best_line instance.now (fields_left fields.entry)) }
 {
-    let (t, rest) = judged(fields, is_cost)?;
+    let levels = levels(instance);
+    let (t, rest) = judged(fields, |t| is_cost(levels, t))?;
     ended(rest)?;
     Ok(Verdict::Best(t))
 }
@@ -82,11 +87,12 @@ fn open_line(alloc: Global, instance: &Instance, fields: Fields) -> Result<Verdi
     requires { IsInstance instance.now }
     ensures { Gives (λ x. x) result (open_line instance.now (fields_left fields.entry)) }
 {
-    let (best, rest) = judged(fields, is_shown)?;
+    let levels = levels(instance);
+    let (best, rest) = judged(fields, |t| is_shown(levels, t))?;
     let rest = word_at(b"LOWER", rest)?;
-    let (lower, rest) = tag_at(rest)?;
+    let (lower, rest) = tag_at(instance, rest)?;
     let rest = word_at(b"AT", rest)?;
-    let (level, rest) = level_at(rest)?;
+    let (level, rest) = level_at(instance, rest)?;
     let (prefix, rest) = list_at(alloc, &Literals { instance }, rest)?;
     ended(rest)?;
     Ok(Verdict::Open {
@@ -108,7 +114,7 @@ pub(crate) fn verdict_line(
 {
     let (word, rest) = field_at(fields)?;
     if is(word, b"BEST") {
-        return best_line(rest);
+        return best_line(instance, rest);
     }
     if is(word, b"NONE") {
         ended(rest)?;
@@ -117,5 +123,5 @@ pub(crate) fn verdict_line(
     if is(word, b"OPEN") {
         return open_line(alloc, instance, rest);
     }
-    Err(LineError::Cause(CertCause::BadKind))
+    Err(LineError::Bad(CertCause::BadKind))
 }

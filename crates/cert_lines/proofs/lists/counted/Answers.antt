@@ -1,6 +1,6 @@
 use Rattle.std.proofs.lemmas.Result.{err_from_is_err_and}
 use Rattle.cert_lines.specs.FieldsLeft.{fields_left}
-use Rattle.cert_lines.specs.Steps.{many}
+use Rattle.cert_lines.specs.ListReading.{many}
 use Rattle.cert_lines.proofs.Loop.{goes_on, ends}
 use Rattle.cert_lines.proofs.lists.counted.Goals as goal
 

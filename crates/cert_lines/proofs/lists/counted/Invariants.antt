@@ -1,6 +1,6 @@
 use Rattle.std.proofs.Common.{◌≡◌, ◌-◌}
 use Rattle.cert_lines.specs.FieldsLeft.{fields_left}
-use Rattle.cert_lines.specs.Steps.{many}
+use Rattle.cert_lines.specs.ListReading.{many}
 use Rattle.cert_lines.proofs.Loop.{with_front}
 use Rattle.cert_lines.proofs.lists.counted.Given as goal
 
