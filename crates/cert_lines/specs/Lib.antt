@@ -11,3 +11,5 @@ pub mod CertificateReading
 pub mod Reading
 pub mod TextLeft
 pub mod Laws
+pub mod Rejects
+pub mod acceptance
