@@ -1,7 +1,7 @@
 -- What is dead is implied.
-use Rattle.std.proofs.Common.{◌≡◌, ℕ, ◌<◌, Bool, false, ◌&&◌, List, [], length, refl, subst, inl, inr, arith, All, Contains, IsTrue, ltb, eqb, slice_index}
+use Rattle.std.proofs.Common.{◌≡◌, ◌⊎◌, ℕ, ◌<◌, Bool, false, ◌&&◌, List, length, refl, subst, inl, inr, arith, All, Contains, IsTrue, ltb, eqb, slice_index}
 use Rattle.std.proofs.lemmas.Bool.{and_parts, and_from, both_ways, ltb-true, lt-ltb, eqb-true, eq-eqb}
-use Rattle.std.proofs.lemmas.List.Elements.{All-contains, All-cons, All-head, All-nil}
+use Rattle.std.proofs.lemmas.List.Elements.{All-contains, All-cons, All-head}
 use Rattle.fapp_model.specs.declared.instance.Instance.{Instance}
 use Rattle.fapp_model.specs.declared.literal.Literal.{Literal}
 use Rattle.fapp_model.specs.declared.triple.Triple.{Triple}
@@ -115,11 +115,14 @@ dead-implied instance t literals valid tag partial dead = dead_by-implied (Outsi
 top-tag : (instance : Instance) → IsTagOf instance (top_tag instance)
 top-tag instance = tag_from_plain (levels_of instance) (top_tag instance) refl refl (omega arith)
 
-none-partial : (instance : Instance) → IsPartial instance []
-none-partial instance = record {
-  in_range = All-nil (IsLiteral instance);
-  distinct = λ i j d less small. absurd (omega arith);
-}
+pub none-feasible : (instance : Instance) (plan : List ℕ) (literals : List Literal) → IsInstance instance → IsPartial instance literals → Dead instance (top_tag instance) literals → IsFeasible instance plan → Extends plan literals → ⊥
+none-feasible instance plan literals valid partial dead = none-at-top instance plan literals (dead-implied instance (top_tag instance) literals valid (top-tag instance) partial dead)
 
-pub none-feasible : (instance : Instance) (plan : List ℕ) → IsInstance instance → Dead instance (top_tag instance) [] → IsFeasible instance plan → ⊥
-none-feasible instance plan valid dead = none-at-top instance plan (dead-implied instance (top_tag instance) [] valid (top-tag instance) (none-partial instance) dead)
+-- by the arcs and a test of more choices
+pub dead-by-arcs-and-test : (excluded : Literal → Bool) (instance : Instance) (t : Triple) (literals : List Literal) → IsInstance instance → IsTagOf instance t → IsPartial instance literals → RulesOut instance t literals (λ a. IsTrue (excluded a)) → DeadBy (λ a. OutsideArc instance (mode_level t) a ⊎ IsTrue (excluded a)) instance t literals → Implied instance t literals
+dead-by-arcs-and-test excluded instance t literals valid tag partial out dead =
+    dead_by-implied (λ a. OutsideArc instance (mode_level t) a ⊎ IsTrue (excluded a)) instance t literals valid tag partial either dead
+  where
+    either : RulesOut instance t literals (λ a. OutsideArc instance (mode_level t) a ⊎ IsTrue (excluded a))
+    either a at_home (inl gone) = arcs-rule-out instance t literals valid tag a at_home gone
+    either a at_home (inr passed) = out a at_home passed

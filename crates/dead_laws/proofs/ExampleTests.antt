@@ -1,4 +1,4 @@
--- Arcs and dead partial assignments of small networks by tests that are computed.
+-- Arcs and dead partial assignments of small instances by tests that are computed.
 use Rattle.std.proofs.Common.{◌≡◌, ◌≢◌, ℕ, ◌<◌, Bool, true, false, ◌&&◌, ltb, List, [], ◌∷◌, length, All, IsTrue, refl, sym, arith}
 use Rattle.std.specs.List.{list_all, list_any, range_with_len}
 use Rattle.std.proofs.lemmas.Bool.{and_parts, and_from, both_ways, lt-ltb, ltb-true, true≢false}

@@ -1,6 +1,6 @@
 -- Implied partial assignments: other tags, more literals, all choices of a path.
-use Rattle.std.proofs.Common.{◌≡◌, ◌⊎◌, ℕ, ◌<◌, List, [], ◌∷◌, length, get_or, refl, subst, inl, inr, arith, slice_index}
-use Rattle.std.proofs.lemmas.List.Elements.{All-contains, All-cons, All-nil}
+use Rattle.std.proofs.Common.{◌≡◌, ◌⊎◌, ℕ, ◌<◌, List, ◌∷◌, length, get_or, refl, subst, inl, inr, arith, slice_index}
+use Rattle.std.proofs.lemmas.List.Elements.{All-contains, All-cons}
 use Rattle.fapp_model.specs.declared.instance.Instance.{Instance}
 use Rattle.fapp_model.specs.declared.literal.Literal.{Literal}
 use Rattle.fapp_model.specs.declared.triple.Triple.{Triple}
@@ -44,7 +44,7 @@ Implied-branch instance t literals path small h = λ plan feasible extends.
     h (slice_index plan path) (feasible.assignment.in_range path small) plan feasible
     (All-cons (λ a. slice_index plan a.path ≡ a.choice) (literal path (slice_index plan path)) literals refl extends)
 
-pub none-at-top : (instance : Instance) (plan : List ℕ) → Implied instance (top_tag instance) [] → IsFeasible instance plan → ⊥
+pub none-at-top : (instance : Instance) (plan : List ℕ) (literals : List Literal) → Implied instance (top_tag instance) literals → IsFeasible instance plan → Extends plan literals → ⊥
 unfolding cost_by
-none-at-top instance plan h feasible =
-    h plan feasible (All-nil (λ a. slice_index plan a.path ≡ a.choice)) (inl (omega (arith, clear-le (levels_of instance) (violations instance plan))))
+none-at-top instance plan literals h feasible extends =
+    h plan feasible extends (inl (omega (arith, clear-le (levels_of instance) (violations instance plan))))

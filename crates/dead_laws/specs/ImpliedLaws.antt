@@ -1,12 +1,12 @@
 -- What holds of implied partial assignments.
-use Rattle.std.specs.Prelude.{◌≡◌, ◌⊎◌, ℕ, ◌<◌, List, [], ◌∷◌, length}
+use Rattle.std.specs.Prelude.{◌≡◌, ◌⊎◌, ℕ, ◌<◌, List, ◌∷◌, length}
 use Rattle.fapp_model.specs.declared.instance.Instance.{Instance}
 use Rattle.fapp_model.specs.declared.literal.Literal.{Literal}
 use Rattle.fapp_model.specs.declared.triple.Triple.{Triple}
 use Rattle.fapp_model.specs.Assignments.{count_at}
 use Rattle.fapp_model.specs.search.Implied.{Implied}
 use Rattle.fapp_model.specs.Least.{IsFeasible}
-use Rattle.fapp_model.specs.search.Partials.{literal, HasAll}
+use Rattle.fapp_model.specs.search.Partials.{literal, Extends, HasAll}
 use Rattle.fapp_model.specs.Tags.{top_tag}
 use Rattle.fapp_model.specs.Triples.{IsAtMost}
 
@@ -31,6 +31,7 @@ ImpliedByBranch = (instance : Instance) (t : Triple) (literals : List Literal) (
     ((index : ℕ) → index < count_at instance path → Implied instance t (literal path index ∷ literals)) →
     Implied instance t literals
 
--- Where the empty list is implied at the top tag, no assignment meets the imperative records.
+-- Where literals are implied at the top tag, no assignment that has them meets the imperative records.
 abbrev pub NoneAtTop : Type 0
-NoneAtTop = (instance : Instance) (plan : List ℕ) → Implied instance (top_tag instance) [] → IsFeasible instance plan → ⊥
+NoneAtTop = (instance : Instance) (plan : List ℕ) (literals : List Literal) → Implied instance (top_tag instance) literals →
+    IsFeasible instance plan → Extends plan literals → ⊥

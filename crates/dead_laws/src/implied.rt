@@ -20,7 +20,7 @@ pub fn implied_by_branch()
     ensures { ImpliedByBranch }
 {}
 
-/// Where the empty list is implied at the top tag, no assignment meets the imperative records.
+/// Where literals are implied at the top tag, no assignment that has them meets the imperative records.
 pub fn none_at_top()
     ensures { NoneAtTop }
 {}

@@ -1,4 +1,4 @@
-//! The network that is planned, and what its plans are worth: paths, records, choices, costs.
+//! The instance that is planned, a radio network with its constraint records, and what its plans are worth: paths, records, choices, costs.
 //! The definitions that contracts of every crate cite stand in `specs/`.
 #![tactic(auto)]
 

@@ -5,7 +5,7 @@ ghost use Rattle.fapp_model.specs.Records.{first_path, second_path, is_broken, i
 use crate::{Choice, MAX_LEVELS};
 
 /// A constraint between two different paths, by their positions `i` and `j`. Frequencies and distances are in
-/// the unit of the network's text.
+/// the unit of the instance's text.
 #[derive(Debug, Drop)]
 pub enum Record {
     /// Imperative: the distance of the frequencies is `n`, or is not `n`.

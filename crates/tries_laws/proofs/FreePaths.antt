@@ -1,4 +1,4 @@
--- Networks without records, of which each path has one choice: they are tried path by path.
+-- Instances without records, of which each path has one choice: they are tried path by path.
 use Rattle.std.proofs.Common.{◌≡◌, ℕ, ◌+◌, ◌-◌, ◌*◌, ◌<◌, Bool, false, List, [], ◌∷◌, ◌++◌, length, take, drop, All, sum_by, refl, sym, ap, ◌∙◌, subst, inr, arith, zero-add}
 use Rattle.std.specs.List.{range_with_len, list_any}
 use Rattle.std.proofs.lemmas.List.{length-drop}

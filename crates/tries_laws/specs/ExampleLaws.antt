@@ -11,8 +11,8 @@ use Rattle.fapp_model.specs.search.WorkOrder.{work_order}
 use Rattle.dead_laws.specs.ExampleInstances.{three_alike}
 use Rattle.tries_laws.specs.ExampleInstances.{one_path, small_example, two_paths}
 
-abbrev pub SmallNetworkOrder : Type 0
-SmallNetworkOrder = work_order small_example ≡ 0 ∷ 2 ∷ 1 ∷ 3 ∷ []
+abbrev pub SmallExampleOrder : Type 0
+SmallExampleOrder = work_order small_example ≡ 0 ∷ 2 ∷ 1 ∷ 3 ∷ []
 
 -- one path has one prefix, on which each level is a job
 pub record OnePathJobs : Type 0 where
@@ -35,7 +35,7 @@ pub record TwoPathsTries : Type 0 where
   pub level : job_level two_paths 11 ≡ 0
   pub tries : IsTries two_paths (target 0) [] 3
 
--- networks without records, of which each path has one choice
+-- instances without records, of which each path has one choice
 pub record IsFree (instance : Instance) : Type 0 where
   pub records : instance.records ≡ []
   pub one : (path : ℕ) → path < length instance.paths → count_at instance path ≡ 1
@@ -45,7 +45,7 @@ abbrev pub FreeTries : Type 0
 FreeTries = (instance : Instance) (level : ℕ) (prefix : List Literal) → IsFree instance → IsPrefix instance prefix →
     IsTries instance (target level) prefix (length instance.paths - length prefix + 1)
 
--- The most paths that a network has take 8,129 tries in each job.
+-- The most paths that an instance has take 8,129 tries in each job.
 abbrev pub MostPathsTries : Type 0
 MostPathsTries = (instance : Instance) (id : ℕ) → IsFree instance → length instance.paths ≡ 8192 → id < job_count instance 64 →
     IsTries instance (target (job_level instance id)) (job_prefix instance 64 id) 8129

@@ -1,8 +1,8 @@
-ghost use Rattle.tries_laws.specs.ExampleLaws.{FreeTries, MostPathsTries, OnePathJobs, SmallNetworkOrder, ThreeAlikeJobs, TwoPathsTries};
+ghost use Rattle.tries_laws.specs.ExampleLaws.{FreeTries, MostPathsTries, OnePathJobs, SmallExampleOrder, ThreeAlikeJobs, TwoPathsTries};
 
 /// The work order of four paths.
 pub fn small_example_order()
-    ensures { SmallNetworkOrder }
+    ensures { SmallExampleOrder }
 {}
 
 /// The jobs of one path with one choice.

@@ -2,4 +2,4 @@ use Rattle.dead_laws.proofs.ImpliedLemmas.{none-at-top}
 use Rattle.dead_laws.proofs.implied.none_at_top.Goals as goal
 
 pub returns : goal.returns
-returns c = λ instance plan. none-at-top instance plan
+returns c = none-at-top
