@@ -24,3 +24,6 @@ pub use fapp_model::NoMemory;
 pub use marks::Marks;
 pub use plan::judge_plan;
 pub use root::judge_root;
+
+#[cfg(test)]
+mod tests;
