@@ -83,6 +83,24 @@ module _ (scene : Scene) (literals : List Literal) where
               or_false true = refl
               or_false false = refl
 
+      -- a tag without a limit asks for nothing more
+      pub by-stuck : list_any (excluded_by scene literals) literals ≡ false → has_limit tag ≡ false → any_stuck ≡ dead
+      by-stuck kept none = sym (after-clash ∙ (ap (λ b. b || (any_stuck || over_by)) kept
+          ∙ (ap (λ b. any_stuck || (b && is_pair_at_most (limit_of tag) (pair_with instance scene.level literals (least_by scene literals)))) none ∙ or_false any_stuck)))
+        where
+          or_false : (b : Bool) → (b || false) ≡ b
+          or_false true = refl
+          or_false false = refl
+
+-- some path is stuck, by the marked ones and by those without a mark
+pub stuck-near : (scene : Scene) (literals : List Literal) (near : List Bool) → near_stuck scene literals near ≡ true → true ≡ list_any (stuck_by scene literals) (range_with_len 0 (length scene.instance.now.paths))
+stuck-near scene literals near h =
+    sym (sym (any-split (near_at near) (stuck_by scene literals) (range_with_len 0 (length scene.instance.now.paths))) ∙ ap (λ b. b || far_stuck scene literals near) h)
+
+pub stuck-far : (scene : Scene) (literals : List Literal) (near : List Bool) → near_stuck scene literals near ≡ false → far_stuck scene literals near ≡ list_any (stuck_by scene literals) (range_with_len 0 (length scene.instance.now.paths))
+stuck-far scene literals near h =
+    sym (sym (any-split (near_at near) (stuck_by scene literals) (range_with_len 0 (length scene.instance.now.paths))) ∙ ap (λ b. b || far_stuck scene literals near) h)
+
 abbrev pair : ℕ → ℕ → Pair
 pair v s = record { v = v; s = s }
 

@@ -5,6 +5,7 @@ pub mod Ties
 pub mod Far
 pub mod NearPaths
 pub mod Deciding
+pub mod Spent
 pub mod Firsts
 pub mod LineParts
 pub mod TableLemmas

@@ -14,6 +14,7 @@ use crate::between::{clashes_with, row};
 use crate::exclusion::{Scene, is_excluded};
 use crate::least::{least, names, ties_of};
 use crate::near::near_paths;
+use crate::stuck::any_stuck;
 use crate::weight::Weight;
 use fapp_model::{Instance, Literal, NoMemory, choice_count, triple_of};
 use std::alloc::Global;
@@ -166,7 +167,7 @@ fn is_far_stuck(scene: Scene, literals: &[Literal], near: &[bool], path: u16) ->
     all_excluded(scene, literals, path)
 }
 
-fn far_stuck(scene: Scene, literals: &[Literal], near: &[bool]) -> bool
+pub(crate) fn far_stuck(scene: Scene, literals: &[Literal], near: &[bool]) -> bool
     requires scene { IsScene scene }
     requires near { IsNear scene.instance.now literals.now near.now }
     ensures { result ≡ far_stuck scene.entry literals.now near.now }
@@ -215,6 +216,9 @@ pub(crate) fn is_dead(alloc: Global, scene: Scene, literals: &[Literal]) -> Resu
         return Ok(true);
     }
     let near = near_paths(alloc, scene, literals)?;
+    if triple_of(scene.tag).v == 0 {
+        return any_stuck(alloc, scene, literals, near.as_slice());
+    }
     let Some(more) = weigh(alloc, scene, literals, near.as_slice())? else {
         return Ok(true);
     };

@@ -82,7 +82,7 @@ fn lesser(found: Option<Weight>, other: Weight) -> Weight
 }
 
 /// Whether a choice is not excluded and has no hard-bad record between it and the literals.
-fn remains(scene: Scene, ties: &[u32], literals: &[Literal], a: Literal) -> bool
+pub(crate) fn remains(scene: Scene, ties: &[u32], literals: &[Literal], a: Literal) -> bool
     requires scene { IsScene scene }
     requires literals { All (IsLiteral scene.instance.now) literals.now }
     requires literal { IsLiteral scene.instance.now a }

@@ -14,6 +14,7 @@ mod near;
 mod ones;
 mod plan;
 mod root;
+mod stuck;
 mod tables;
 mod weight;
 
