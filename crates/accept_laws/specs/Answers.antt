@@ -31,7 +31,8 @@ AcceptsByParts = (instance : Instance) (answer : Answer) → Accepts instance an
 -- a shown plan is that of these choice indices, which meet the imperative records and cost so much
 pub record Shows (instance : Instance) (shown : List Choice) (cost_shown : Triple) (plan : List ℕ) : Type 0 where
   pub whole : length shown ≡ length instance.paths
-  pub chosen : (position : ℕ) → position < length instance.paths → chosen instance plan position ≡ shown_at shown position
+  pub chosen : (position : ℕ) → position < length instance.paths →
+      chosen instance plan position ≡ shown_at shown position
   pub feasible : IsFeasible instance plan
   pub cost : cost instance plan ≡ cost_shown
 
@@ -42,7 +43,8 @@ abbrev pub IsRight : Instance → List Choice → Verdict → Type 0
 IsRight instance shown (Best t) = (plan : List ℕ) × Shows instance shown t plan × Least instance plan
 IsRight instance shown NoneFeasible = (plan : List ℕ) → IsFeasible instance plan → ⊥
 IsRight instance shown (Open best lower level prefix) =
-    Implied instance (triple_from lower.code) [] × (best ≢ top_tag instance → (plan : List ℕ) × Shows instance shown best plan)
+    Implied instance (triple_from lower.code) []
+    × (best ≢ top_tag instance → (plan : List ℕ) × Shows instance shown best plan)
 
 -- An accepted answer is right.
 abbrev pub AcceptanceIsProof : Type 0

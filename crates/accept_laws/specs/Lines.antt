@@ -20,8 +20,9 @@ JudgedIsDead = (excluded : Literal → Bool) (instance : Instance) (t : Triple) 
 
 -- At a tag above (0, 0, 0) the test judges dead what is dead by the cases.
 abbrev pub DeadIsJudged : Type 0
-DeadIsJudged = (excluded : Literal → Bool) (instance : Instance) (t : Triple) (literals : List Literal) → IsPartial instance literals →
-    (t ≡ least_tag → ⊥) → DeadBy (λ a. IsTrue (excluded a)) instance t literals → IsTrue (judged_dead excluded instance t literals)
+DeadIsJudged = (excluded : Literal → Bool) (instance : Instance) (t : Triple) (literals : List Literal) →
+    IsPartial instance literals → (t ≡ least_tag → ⊥) →
+    DeadBy (λ a. IsTrue (excluded a)) instance t literals → IsTrue (judged_dead excluded instance t literals)
 
 -- what a line says
 abbrev pub IsImplied : Instance → Line → Type 0

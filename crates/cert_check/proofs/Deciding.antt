@@ -113,9 +113,9 @@ pub whole-pair : (scene : Scene) (literals : List Literal) (own more : Weight) �
     pair (own.v + more.v) (own.s + more.s) ≡ pair_with scene.instance.now scene.level literals (least_by scene literals)
 whole-pair scene literals own more a b c d = pair_same own.v own.s more.v more.s _ _ _ _ a b c d
 
-pub own-none : (network : Instance) (level : ℕ) (literals : List Literal) (o : Option Weight) → IsOwn network level literals o → ((w : Weight) → o ≡ Some w → ⊥) → has_clash network level literals ≡ true
-own-none network level literals None h not_some = h
-own-none network level literals (Some w) h not_some = absurd (not_some w refl)
+pub own-none : (given : Instance) (level : ℕ) (literals : List Literal) (o : Option Weight) → IsOwn given level literals o → ((w : Weight) → o ≡ Some w → ⊥) → has_clash given level literals ≡ true
+own-none given level literals None h not_some = h
+own-none given level literals (Some w) h not_some = absurd (not_some w refl)
 
 pub weighed-none : (scene : Scene) (literals : List Literal) (near : List Bool) (o : Option Weight) → IsWeighed scene literals near o → ((w : Weight) → o ≡ Some w → ⊥) → near_stuck scene literals near ≡ true
 weighed-none scene literals near None h not_some = h

@@ -31,7 +31,7 @@ mode-small t = by_shape (shape MAX_LEVELS (triple_from t.code) t.of_tag)
     by_shape (limited some low high v s) = omega (arith, mode-limited (triple_from t.code) some)
     by_shape (plain none nothing high) = omega (arith, mode-plain (triple_from t.code) none)
 
--- a line's literals are of the network, and no more than its paths
+-- a line's literals are of the instance, and no more than its paths
 pub line-literals : (instance : Instance) (literals : List Literal) → AreLiterals instance literals → All (IsLiteral instance) literals
 line-literals instance literals h = h.in_range
 

@@ -1,4 +1,4 @@
--- What the index of an answer and its network holds.
+-- What the index of an answer and its instance holds.
 use Rattle.std.specs.Prelude.{◌≡◌, ℕ, ◌<◌, ◌≤◌, Bool, ◌&&◌, nat_lt, nat_le, List, [], length, filter, slice_index_or, All}
 use Rattle.std.specs.List.{list_any, range_with_len}
 use Rattle.fapp_model.specs.declared.instance.Instance.{Instance}

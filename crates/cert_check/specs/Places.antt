@@ -1,4 +1,4 @@
--- What some of a network's records say, by their positions.
+-- What some of an instance's records say, by their positions.
 use Rattle.std.specs.Prelude.{ℕ, ◌+◌, ◌<◌, Bool, false, ◌&&◌, ◌||◌, ◌==◌, List, length, sum_by, filter, slice_index_or, All, if◌then◌else◌}
 use Rattle.std.specs.List.{list_any, range_with_len}
 use Rattle.fapp_model.specs.declared.choice.Choice.{Choice}

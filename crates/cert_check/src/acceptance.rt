@@ -1,3 +1,5 @@
+//! The calls of the checker: a whole answer, and each part of it.
+
 ghost use Rattle.std.specs.Prelude.{◌≡◌, ◌<◌, ◌≤◌, ◌-◌, ◌+◌, length, IfOk};
 ghost use Rattle.std.specs.Option.{option_map};
 ghost use Rattle.fapp_model.specs.Instances.{IsInstance};

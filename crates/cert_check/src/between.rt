@@ -1,3 +1,5 @@
+//! What records between literals say and add, by the positions of the records.
+
 ghost use Rattle.std.specs.Prelude.{◌≡◌, ◌<◌, ◌≤◌, ◌*◌, ◌^◌, length, All, if◌then◌else◌};
 ghost use Rattle.fapp_model.specs.search.Clashes.{joins, is_hard_bad};
 ghost use Rattle.fapp_model.specs.Instances.{IsInstance};
@@ -6,7 +8,7 @@ ghost use Rattle.fapp_model.specs.search.Weights.{bad_before, bad_further};
 ghost use Rattle.cert_check.specs.Places.{ArePlaces, blocks_at, between_at, clashes_with_at, added_at, row_at};
 
 use crate::weight::Weight;
-use fapp_model::{Choice, Instance, Literal, MAX_LEVELS, Record, choice_at};
+use fapp_model::{Choice, Instance, Literal, MAX_LEVELS, MAX_RECORDS, Record, choice_at};
 
 /// The choice of a literal.
 fn choice_of(instance: &Instance, a: Literal) -> Choice
@@ -69,8 +71,10 @@ fn weight_of(
     second: Choice,
 ) -> Weight
     requires { level ≤ MAX_LEVELS }
-    ensures v { result.v ≡ (if joins paths.0 paths.1 constraint.now then bad_before level constraint.now first second else 0) }
-    ensures s { result.s ≡ (if joins paths.0 paths.1 constraint.now then bad_further level constraint.now first second else 0) }
+    ensures v { let named = joins paths.0 paths.1 constraint.now in
+        result.v ≡ (if named then bad_before level constraint.now first second else 0) }
+    ensures s { let named = joins paths.0 paths.1 constraint.now in
+        result.s ≡ (if named then bad_further level constraint.now first second else 0) }
     ensures small_v { result.v ≤ 1 }
     ensures small_s { result.s ≤ MAX_LEVELS }
 {
@@ -108,7 +112,7 @@ fn blocks(instance: &Instance, places: &[u32], level: u32, a: Literal, b: Litera
 fn between(instance: &Instance, places: &[u32], level: u32, a: Literal, b: Literal) -> Weight
     requires instance { IsInstance instance.now }
     requires places { ArePlaces instance.now places.now }
-    requires few { length places.now ≤ 2 ^ 20 }
+    requires few { length places.now ≤ MAX_RECORDS }
     requires level { level ≤ MAX_LEVELS }
     requires first { IsLiteral instance.now a }
     requires second { IsLiteral instance.now b }
@@ -162,7 +166,7 @@ pub(crate) fn added(
 ) -> Weight
     requires instance { IsInstance instance.now }
     requires places { ArePlaces instance.now places.now }
-    requires few { length places.now ≤ 2 ^ 20 }
+    requires few { length places.now ≤ MAX_RECORDS }
     requires level { level ≤ MAX_LEVELS }
     requires literals { All (IsLiteral instance.now) literals.now }
     requires few_literals { length literals.now ≤ 2 ^ 14 }
@@ -192,7 +196,7 @@ pub(crate) fn row(
 ) -> Weight
     requires instance { IsInstance instance.now }
     requires places { ArePlaces instance.now places.now }
-    requires few { length places.now ≤ 2 ^ 20 }
+    requires few { length places.now ≤ MAX_RECORDS }
     requires level { level ≤ MAX_LEVELS }
     requires literals { All (IsLiteral instance.now) literals.now }
     requires few_literals { length literals.now ≤ 2 ^ 14 }

@@ -1,3 +1,5 @@
+//! Whether cites name earlier lines that say enough.
+
 ghost use Rattle.std.specs.Prelude.{◌≡◌, ◌<◌, ◌≤◌, ◌∷◌, length, not, if◌then◌else◌};
 ghost use Rattle.fapp_model.specs.search.Partials.{literal};
 ghost use Rattle.cert_lines.specs.acceptance.Contained.{has_all, has_all_but_one};

@@ -1,3 +1,5 @@
+//! Which choices earlier lines exclude.
+
 ghost use Rattle.std.specs.Prelude.{◌≡◌, ◌<◌, ◌≤◌, ◌∷◌, length, take, All};
 ghost use Rattle.fapp_model.specs.search.Partials.{IsLiteral};
 ghost use Rattle.cert_lines.specs.acceptance.Contained.{is_same, has, has_all};
@@ -86,7 +88,7 @@ fn is_cited(earlier: &[Line], cites: &[u32], literals: &[Literal], a: Literal) -
     false
 }
 
-/// What a line is judged by: its network, the index, the lines, of which the first n count, its tag and cites.
+/// What a line is judged by: its instance, the index, the lines, of which the first n count, its tag and cites.
 #[derive(Clone, Copy)]
 pub(crate) struct Scene<'a> {
     pub(crate) instance: &'a Instance,

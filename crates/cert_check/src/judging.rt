@@ -1,14 +1,14 @@
-ghost use Rattle.std.specs.Prelude.{◌≡◌, ◌<◌, ◌≤◌, ◌+◌, ◌^◌, ◌∷◌, length, take, option_map, IfOk, IfSome, All, not, ◌&&◌};
-ghost use Rattle.std.specs.List.{list_any, list_all, range_with_len};
-ghost use Rattle.fapp_model.specs.search.Partials.{literal, IsLiteral};
+//! Whether literals are judged dead: a record between them is hard-bad, one of them is excluded, a further path has no
+//! choice left, or they weigh too much.
+
+ghost use Rattle.std.specs.Prelude.{◌≡◌, ◌<◌, ◌≤◌, ◌^◌, length, IfOk, All, not, ◌&&◌};
+ghost use Rattle.std.specs.List.{list_any};
+ghost use Rattle.fapp_model.specs.search.Partials.{IsLiteral};
 ghost use Rattle.fapp_model.specs.Assignments.{count_at};
 ghost use Rattle.fapp_model.specs.Instances.{IsInstance};
-ghost use Rattle.fapp_model.specs.Tags.{mode_level, triple_from, has_limit};
-ghost use Rattle.fapp_model.specs.search.Pairs.{limit_of};
-ghost use Rattle.cert_lines.specs.acceptance.Judged.{judged_dead, is_pair_at_most};
-ghost use Rattle.cert_check.specs.Scenes.{IsScene, excluded_by};
-ghost use Rattle.cert_check.specs.Weighed.{IsRow, IsOwn, IsNear, IsStep, IsWeighed, near_at, far_stuck, stuck_by};
-ghost use Rattle.cert_check.specs.Weights.{pair_of};
+ghost use Rattle.fapp_model.specs.Tags.{mode_level, triple_from};
+ghost use Rattle.cert_check.specs.Scenes.{IsScene, all_excluded, dead_by, excluded_by};
+ghost use Rattle.cert_check.specs.Weighed.{IsRow, IsOwn, IsNear, IsStep, IsWeighed, near_at, far_stuck, over_by, stuck_by};
 
 use crate::between::{clashes_with, row};
 use crate::exclusion::{Scene, is_excluded};
@@ -127,7 +127,7 @@ fn weigh(
 fn all_excluded(scene: Scene, literals: &[Literal], path: u16) -> bool
     requires scene { IsScene scene }
     requires path { path < length scene.instance.now.paths }
-    ensures { result ≡ list_all (λ index. excluded_by scene.entry literals.now (literal path index)) (range_with_len 0 (count_at scene.entry.instance.now path)) }
+    ensures { result ≡ all_excluded scene.entry literals.now path }
 {
     let count = count_of(scene.instance, path);
     for index in 0..count {
@@ -184,7 +184,7 @@ pub(crate) fn far_stuck(scene: Scene, literals: &[Literal], near: &[bool]) -> bo
 fn is_over(scene: Scene, own: Weight, more: Weight) -> bool
     requires own { (own.v ≤ 2 ^ 52) × (own.s ≤ 2 ^ 52) }
     requires more { (more.v ≤ 2 ^ 52) × (more.s ≤ 2 ^ 52) }
-    ensures { result ≡ (has_limit (triple_from scene.entry.tag.code) && is_pair_at_most (limit_of (triple_from scene.entry.tag.code)) (record { v = own.v + more.v; s = own.s + more.s })) }
+    ensures { result ≡ over_by scene.entry own more }
 {
     let limit = triple_of(scene.tag);
     if limit.v == 0 {
@@ -207,7 +207,7 @@ pub(crate) fn is_dead(alloc: Global, scene: Scene, literals: &[Literal]) -> Resu
     requires level { scene.level ≡ mode_level (triple_from scene.tag.code) }
     requires literals { All (IsLiteral scene.instance.now) literals.now }
     requires few { length literals.now ≤ 2 ^ 14 }
-    ensures { IfOk result (λ dead. dead ≡ judged_dead (excluded_by scene.entry literals.now) scene.entry.instance.now (triple_from scene.entry.tag.code) literals.now) }
+    ensures { IfOk result (λ dead. dead ≡ dead_by scene.entry literals.now) }
 {
     let Some(own) = own_weight(alloc, scene, literals)? else {
         return Ok(true);

@@ -1,11 +1,13 @@
+//! The least that a further path adds.
+
 ghost use Rattle.std.specs.Prelude.{◌≡◌, ◌<◌, ◌≤◌, ◌^◌, ◌∷◌, length, take, option_map, IfOk, IfSome, All};
 ghost use Rattle.fapp_model.specs.search.Clashes.{clashes_with};
 ghost use Rattle.fapp_model.specs.search.Partials.{literal, names, IsLiteral};
 ghost use Rattle.fapp_model.specs.search.Weights.{added_pair};
 ghost use Rattle.cert_lines.specs.acceptance.Excluded.{is_excluded};
-ghost use Rattle.cert_lines.specs.acceptance.Judged.{least_pair, lesser, remains, with_choice};
+ghost use Rattle.cert_lines.specs.acceptance.Judged.{lesser};
 ghost use Rattle.cert_check.specs.Places.{reaches, places_of, ties_of, record_at};
-ghost use Rattle.cert_check.specs.Scenes.{IsScene, excluded_by};
+ghost use Rattle.cert_check.specs.Scenes.{IsScene, choice_by, pair_by, remains_by};
 ghost use Rattle.cert_check.specs.Weights.{pair_of};
 
 use crate::between::{added, clashes_with};
@@ -87,7 +89,7 @@ pub(crate) fn remains(scene: Scene, ties: &[u32], literals: &[Literal], a: Liter
     requires literals { All (IsLiteral scene.instance.now) literals.now }
     requires literal { IsLiteral scene.instance.now a }
     requires ties { ties.now ≡ ties_of scene.instance.now literals.now a.path }
-    ensures { result ≡ remains (excluded_by scene.entry literals.now) scene.entry.instance.now scene.entry.level literals.now a }
+    ensures { result ≡ remains_by scene.entry literals.now a }
 {
     !is_excluded(scene, literals, a)
         && !clashes_with(scene.instance, ties, scene.level, literals, a)
@@ -120,7 +122,7 @@ fn with_choice(
     requires ties { ties.now ≡ ties_of scene.instance.now literals.now a.path }
     requires small { IfSome found (λ w. (w.v ≤ 2 ^ 39) × (w.s ≤ 2 ^ 39)) }
     ensures small { IfSome result (λ w. (w.v ≤ 2 ^ 39) × (w.s ≤ 2 ^ 39)) }
-    ensures pair { option_map pair_of result ≡ with_choice (excluded_by scene.entry literals.now) scene.entry.instance.now scene.entry.level literals.now a.path (option_map pair_of found) a.choice }
+    ensures pair { option_map pair_of result ≡ choice_by scene.entry literals.now a.path (option_map pair_of found) a.choice }
 {
     if remains(scene, ties, literals, a) {
         Some(lesser(found, added_to(scene, ties, literals, a)))
@@ -140,7 +142,7 @@ pub(crate) fn least(
     requires literals { All (IsLiteral scene.instance.now) literals.now }
     requires few { length literals.now ≤ 2 ^ 14 }
     requires path { path < length scene.instance.now.paths }
-    ensures pair { IfOk result (λ found. option_map pair_of found ≡ least_pair (excluded_by scene.entry literals.now) scene.entry.instance.now scene.entry.level literals.now path) }
+    ensures pair { IfOk result (λ found. option_map pair_of found ≡ pair_by scene.entry literals.now path) }
     ensures small { IfOk result (λ found. IfSome found (λ w. (w.v ≤ 2 ^ 39) × (w.s ≤ 2 ^ 39))) }
 {
     let ties = ties_of(alloc, scene, literals, path)?;

@@ -1,14 +1,16 @@
+//! The first fault of a certificate line.
+
 ghost use Rattle.std.specs.Prelude.{◌≡◌, ◌<◌, ◌≤◌, ◌==◌, ◌^◌, [], ◌∷◌, length, take, IfOk, All};
-ghost use Rattle.std.specs.List.{list_any, list_all, range_with_len};
+ghost use Rattle.std.specs.List.{list_any};
 ghost use Rattle.fapp_model.specs.Assignments.{count_at};
 ghost use Rattle.fapp_model.specs.Instances.{IsInstance};
 ghost use Rattle.fapp_model.specs.search.Partials.{IsLiteral};
 ghost use Rattle.fapp_model.specs.Tags.{mode_level, triple_from};
 ghost use Rattle.cert_lines.specs.WellFormed.{IsLine};
-ghost use Rattle.cert_lines.specs.acceptance.LineFaults.{cause_unless, is_settled, is_dead, count_fault, branch_fault, rule_fault, line_fault};
+ghost use Rattle.cert_lines.specs.acceptance.LineFaults.{cause_unless, line_fault};
 ghost use Rattle.cert_lines.specs.declared.reject.RejectCause.TheVariants.{NotDead};
 ghost use Rattle.cert_check.specs.Marked.{IsMarks, AreEarlier, line_on};
-ghost use Rattle.cert_check.specs.Scenes.{IsScene};
+ghost use Rattle.cert_check.specs.Scenes.{IsScene, all_settled, fault_by, settled_by};
 
 use crate::cites::{children_fault, cites_fault};
 use crate::exclusion::Scene;
@@ -57,7 +59,7 @@ fn is_settled(
     requires path { path < length scene.instance.now.paths }
     requires index { index < count_at scene.instance.now path }
     requires index_fits { index < 2 ^ 16 }
-    ensures { IfOk result (λ settled. settled ≡ is_settled scene.entry.instance.now (take scene.entry.n scene.entry.lines.now) scene.entry.tag literals.now path children.now index) }
+    ensures { IfOk result (λ settled. settled ≡ settled_by scene.entry literals.now path children.now index) }
 {
     if is_listed(children, index) {
         return Ok(true);
@@ -83,7 +85,7 @@ fn all_settled(
     requires literals { All (IsLiteral scene.instance.now) literals.now }
     requires few { length literals.now < 2 ^ 14 }
     requires path { path < length scene.instance.now.paths }
-    ensures { IfOk result (λ settled. settled ≡ list_all (is_settled scene.entry.instance.now (take scene.entry.n scene.entry.lines.now) scene.entry.tag literals.now path children.now) (range_with_len 0 (count_at scene.entry.instance.now path))) }
+    ensures { IfOk result (λ settled. settled ≡ all_settled scene.entry literals.now path children.now) }
 {
     let count = count_of(scene.instance, path);
     for index in 0..count {
@@ -105,7 +107,7 @@ fn count_fault(
     requires level { scene.level ≡ mode_level (triple_from scene.tag.code) }
     requires literals { All (IsLiteral scene.instance.now) literals.now }
     requires few { length literals.now < 2 ^ 14 }
-    ensures { IfOk result (λ fault. fault ≡ count_fault scene.entry.instance.now (take scene.entry.n scene.entry.lines.now) scene.entry.tag literals.now cites.now) }
+    ensures { IfOk result (λ fault. fault ≡ fault_by scene.entry literals.now (Rule.Count cites.now)) }
 {
     if let Some(cause) = cites_fault(&scene.lines[..scene.n], scene.tag, literals, cites) {
         return Ok(Some(cause));
@@ -147,7 +149,7 @@ fn branch_fault(
     requires literals { All (IsLiteral scene.instance.now) literals.now }
     requires few { length literals.now < 2 ^ 14 }
     requires path { path < length scene.instance.now.paths }
-    ensures { IfOk result (λ fault. fault ≡ branch_fault scene.entry.instance.now (take scene.entry.n scene.entry.lines.now) scene.entry.tag literals.now path children.now) }
+    ensures { IfOk result (λ fault. fault ≡ fault_by scene.entry literals.now (Rule.Branch path children.now)) }
 {
     if names(literals, path) {
         return Ok(Some(RejectCause::WrongPath));
@@ -166,7 +168,7 @@ fn rule_fault(alloc: Global, scene: Scene, line: &Line) -> Result<Option<RejectC
     requires level { scene.level ≡ mode_level (triple_from scene.tag.code) }
     requires cites { scene.cites.now ≡ [] }
     requires line { IsLine scene.instance.now line.now }
-    ensures { IfOk result (λ fault. fault ≡ rule_fault scene.entry.instance.now (take scene.entry.n scene.entry.lines.now) scene.entry.tag line.now.lits line.now.rule) }
+    ensures { IfOk result (λ fault. fault ≡ fault_by scene.entry line.now.lits line.now.rule) }
 {
     let literals = line.lits.as_slice();
     match &line.rule {

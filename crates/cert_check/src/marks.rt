@@ -1,3 +1,5 @@
+//! The index of an answer and its instance.
+
 ghost use Rattle.std.specs.Prelude.{◌≤◌, length, IfOk};
 ghost use Rattle.fapp_model.specs.Instances.{IsInstance};
 ghost use Rattle.cert_lines.specs.WellFormed.{IsWellFormed};
@@ -9,7 +11,7 @@ use cert_lines::Answer;
 use fapp_model::{Instance, Items, MAX_NUMBER, NoMemory};
 use std::alloc::Global;
 
-/// An index of an answer's lines and of its network's records.
+/// An index of an answer's lines and of its instance's records.
 #[derive(Debug, Drop)]
 pub struct Marks {
     /// By path and choice, the positions of the lines that have this literal alone.
@@ -19,7 +21,7 @@ pub struct Marks {
 }
 
 impl Marks {
-    /// The index of an answer and its network.
+    /// The index of an answer and its instance.
     pub fn new(alloc: Global, instance: &Instance, answer: &Answer) -> Result<Marks, NoMemory>
         requires instance { IsInstance instance.now }
         requires answer { IsWellFormed instance.now answer.now }

@@ -1,3 +1,5 @@
+//! The lines of one literal, by path and choice.
+
 ghost use Rattle.std.specs.Prelude.{◌≡◌, ◌<◌, ◌^◌, length, IfOk, OnOk, All};
 ghost use Rattle.fapp_model.specs.Instances.{IsInstance};
 ghost use Rattle.cert_lines.specs.WellFormed.{IsLine};

@@ -1,3 +1,5 @@
+//! The fault of a root.
+
 ghost use Rattle.std.specs.Prelude.{◌≡◌, IsTrue};
 ghost use Rattle.std.specs.Option.{option_map};
 ghost use Rattle.fapp_model.specs.Tags.{is_tag};

@@ -1,11 +1,9 @@
 //! Whether a path has no choice left. Where a tag has no limit, nothing more is asked of the further paths.
 
-ghost use Rattle.std.specs.Prelude.{◌≡◌, ◌<◌, ◌≤◌, ◌^◌, length, is_none, IfOk, All, ◌&&◌};
-ghost use Rattle.std.specs.List.{list_any, range_with_len};
+ghost use Rattle.std.specs.Prelude.{◌≡◌, ◌<◌, length, is_none, IfOk, All, ◌&&◌};
 ghost use Rattle.fapp_model.specs.search.Partials.{IsLiteral};
-ghost use Rattle.cert_lines.specs.acceptance.Judged.{least_pair};
-ghost use Rattle.cert_check.specs.Scenes.{IsScene, excluded_by};
-ghost use Rattle.cert_check.specs.Weighed.{IsNear, near_at, near_stuck, stuck_by};
+ghost use Rattle.cert_check.specs.Scenes.{IsScene, pair_by};
+ghost use Rattle.cert_check.specs.Weighed.{IsNear, any_stuck, near_at, near_stuck, stuck_by};
 
 use crate::exclusion::Scene;
 use crate::judging::{count_of, far_stuck};
@@ -18,7 +16,7 @@ fn is_spent(alloc: Global, scene: Scene, literals: &[Literal], path: u16) -> Res
     requires scene { IsScene scene }
     requires literals { All (IsLiteral scene.instance.now) literals.now }
     requires path { path < length scene.instance.now.paths }
-    ensures { IfOk result (λ spent. spent ≡ is_none (least_pair (excluded_by scene.entry literals.now) scene.entry.instance.now scene.entry.level literals.now path)) }
+    ensures { IfOk result (λ spent. spent ≡ is_none (pair_by scene.entry literals.now path)) }
 {
     let ties = ties_of(alloc, scene, literals, path)?;
     let count = count_of(scene.instance, path);
@@ -86,7 +84,7 @@ pub(crate) fn any_stuck(
     requires scene { IsScene scene }
     requires literals { All (IsLiteral scene.instance.now) literals.now }
     requires near { IsNear scene.instance.now literals.now near.now }
-    ensures { IfOk result (λ stuck. stuck ≡ list_any (stuck_by scene.entry literals.now) (range_with_len 0 (length scene.entry.instance.now.paths))) }
+    ensures { IfOk result (λ stuck. stuck ≡ any_stuck scene.entry literals.now) }
 {
     if near_stuck(alloc, scene, literals, near)? {
         return Ok(true);

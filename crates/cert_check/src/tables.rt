@@ -1,3 +1,5 @@
+//! Rows of numbers.
+
 ghost use Rattle.std.specs.Prelude.{◌≢◌, ◌<◌, length, IfOk, OnOk};
 ghost use Rattle.fapp_model.specs.Instances.{IsInstance};
 ghost use Rattle.cert_check.specs.Tables.{IsPushed, IsAdded, AreEmpty, ArePlacesOf};

@@ -1,3 +1,5 @@
+//! What records add to a cost.
+
 ghost use Rattle.std.specs.Prelude.{◌≡◌, ◌+◌};
 ghost use Rattle.cert_lines.specs.acceptance.Judged.{is_pair_at_most};
 ghost use Rattle.cert_check.specs.Weights.{pair_of};

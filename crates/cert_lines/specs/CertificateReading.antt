@@ -31,4 +31,6 @@ branch_line instance fields = do
 unfoldable pub certificate_line : Instance → List (List ℕ) → Result (Option Line) CertCause
 certificate_line instance fields = do
   word ← field_at fields
-  if bytes_eq word.0 (codes "END") then (ended word.1 >>= λ end. Ok None) else if bytes_eq word.0 (codes "C") then (count_line instance word.1 >>= λ line. Ok (Some line)) else if bytes_eq word.0 (codes "B") then (branch_line instance word.1 >>= λ line. Ok (Some line)) else Err BadKind
+  if bytes_eq word.0 (codes "END") then (ended word.1 >>= λ end. Ok None)
+      else if bytes_eq word.0 (codes "C") then (count_line instance word.1 >>= λ line. Ok (Some line))
+      else if bytes_eq word.0 (codes "B") then (branch_line instance word.1 >>= λ line. Ok (Some line)) else Err BadKind

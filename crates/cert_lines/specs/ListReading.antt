@@ -46,7 +46,8 @@ child_at instance path state = do
   Ok (record { choice = choice.0; cite = cite.0 }, (choice.0 + 1, cite.1))
 
 -- so many steps, one after another
-abbrev pub many : {A : Type 0} → (State → Result (A × State) CertCause) → ℕ → State → Result (List A × State) CertCause
+abbrev pub many : {A : Type 0} → (State → Result (A × State) CertCause) → ℕ → State →
+    Result (List A × State) CertCause
 many step zero s = Ok ([], s)
 many step (suc n) s = do
   first ← step s
@@ -54,11 +55,13 @@ many step (suc n) s = do
   Ok (first.0 ∷ others.0, others.1)
 
 -- so many elements, from left to right
-abbrev pub counted : {A : Type 0} → (State → Result (A × State) CertCause) → ℕ → List (List ℕ) → Result (List A × List (List ℕ)) CertCause
+abbrev pub counted : {A : Type 0} → (State → Result (A × State) CertCause) → ℕ → List (List ℕ) →
+    Result (List A × List (List ℕ)) CertCause
 counted step count fields = many step count (0, fields) >>= λ items. Ok (items.0, items.1.1)
 
 -- how many there are, and each one
-unfoldable pub list_at : {A : Type 0} → (State → Result (A × State) CertCause) → List (List ℕ) → Result (List A × List (List ℕ)) CertCause
+unfoldable pub list_at : {A : Type 0} → (State → Result (A × State) CertCause) → List (List ℕ) →
+    Result (List A × List (List ℕ)) CertCause
 list_at step fields = do
   count ← number_at fields
   counted step count.0 count.1

@@ -40,4 +40,5 @@ choice_line instance place fields = do
 unfoldable pub plan_line : Instance → ℕ → List (List ℕ) → Result (Option Choice) CertCause
 plan_line instance place fields = do
   word ← field_at fields
-  if bytes_eq word.0 (codes "--") then (ended word.1 >>= λ end. Ok None) else if bytes_eq word.0 (codes "AL") then (choice_line instance place word.1 >>= λ choice. Ok (Some choice)) else Err BadKind
+  if bytes_eq word.0 (codes "--") then (ended word.1 >>= λ end. Ok None)
+      else if bytes_eq word.0 (codes "AL") then (choice_line instance place word.1 >>= λ choice. Ok (Some choice)) else Err BadKind

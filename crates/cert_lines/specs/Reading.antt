@@ -43,14 +43,17 @@ line_by read rest = do
   Ok (found, line.1)
 
 -- what a line gave, before what the lines after it give
-abbrev pub and_then : {A : Type 0} → Option A → Result (List A × Rest) TextFault → Rest → Result (List A × Rest) TextFault
+abbrev pub and_then : {A : Type 0} → Option A → Result (List A × Rest) TextFault → Rest →
+    Result (List A × Rest) TextFault
 and_then None more rest = Ok ([], rest)
 and_then (Some x) more rest = more >>= λ others. Ok (x ∷ others.0, others.1)
 
 -- the lines up to the one that ends them, each read by the count of those before it
-abbrev pub until : {A : Type 0} → (ℕ → List (List ℕ) → Result (Option A) CertCause) → ℕ → ℕ → List (List ℕ) → Result (List A × Rest) TextFault
+abbrev pub until : {A : Type 0} → (ℕ → List (List ℕ) → Result (Option A) CertCause) → ℕ → ℕ → List (List ℕ) →
+    Result (List A × Rest) TextFault
 until read place number [] = Err (fault number NoEnd)
-until read place number (line ∷ parts) = line_by (read place) (number, line ∷ parts) >>= λ x. and_then x.0 (until read (place + 1) (number + 1) parts) x.1
+until read place number (line ∷ parts) = line_by (read place) (number, line ∷ parts) >>=
+    λ x. and_then x.0 (until read (place + 1) (number + 1) parts) x.1
 
 -- no byte follows
 abbrev pub finished : Rest → Result (Unit {0}) TextFault

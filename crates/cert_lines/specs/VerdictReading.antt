@@ -50,4 +50,6 @@ open_line instance fields = do
 unfoldable pub verdict_line : Instance → List (List ℕ) → Result Verdict CertCause
 verdict_line instance fields = do
   word ← field_at fields
-  if bytes_eq word.0 (codes "BEST") then best_line instance word.1 else if bytes_eq word.0 (codes "NONE") then (ended word.1 >>= λ end. Ok NoneFeasible) else if bytes_eq word.0 (codes "OPEN") then open_line instance word.1 else Err BadKind
+  if bytes_eq word.0 (codes "BEST") then best_line instance word.1
+      else if bytes_eq word.0 (codes "NONE") then (ended word.1 >>= λ end. Ok NoneFeasible)
+      else if bytes_eq word.0 (codes "OPEN") then open_line instance word.1 else Err BadKind

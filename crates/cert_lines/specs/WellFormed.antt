@@ -60,7 +60,8 @@ abbrev pub IsVerdict : Instance → Verdict → Type 0
 IsVerdict instance (Best t) = IsTrue (is_cost (levels_of instance) t)
 IsVerdict instance NoneFeasible = Unit {0}
 IsVerdict instance (Open best lower level prefix) =
-    IsTrue (is_shown (levels_of instance) best) × IsTagFor instance lower × (level ≤ levels_of instance) × AreLiterals instance prefix
+    IsTrue (is_shown (levels_of instance) best) × IsTagFor instance lower × (level ≤ levels_of instance)
+    × AreLiterals instance prefix
 
 pub record IsWellFormed (instance : Instance) (answer : Answer) : Type 0 where
   pub plan : length answer.plan ≤ length instance.paths

@@ -77,7 +77,8 @@ fn until<'t, T: Drop, R: LineReader<Found = Option<T>>>(
     text: Text<'t>,
 ) -> Result<(Items<T>, Text<'t>), AnswerError>
     requires { R.valid reader.now }
-    ensures { Gives (λ x. (x.0, text_left x.1)) result (until (R.read reader.now) 0 (text_left text.entry).0 (text_left text.entry).1) }
+    ensures { let rest = text_left text.entry in
+        Gives (λ x. (x.0, text_left x.1)) result (until (R.read reader.now) 0 rest.0 rest.1) }
 {
     let mut found = Vec::new(alloc);
     let mut rest = text;

@@ -51,7 +51,8 @@ fn judged<'a, F: Fn(Triple) -> bool>(
     test: F,
 ) -> Result<(Triple, Fields<'a>), LineError>
     requires { F.IsAlwaysCallable test }
-    ensures { (p : Numbers → Bool) → ((t : Numbers) (b : Bool) → F.post test t b → b ≡ p t) → Gives (λ x. (x.0, fields_left x.1)) result (judged p (fields_left fields.entry)) }
+    ensures { (p : Numbers → Bool) → ((t : Numbers) (b : Bool) → F.post test t b → b ≡ p t) →
+        Gives (λ x. (x.0, fields_left x.1)) result (judged p (fields_left fields.entry)) }
 {
     let (t, rest) = triple_at(fields)?;
     if !test(t) {

@@ -28,7 +28,8 @@ abbrev pub remains : (Literal → Bool) → Instance → ℕ → List Literal �
 remains excluded instance level literals a = not (excluded a) && not (clashes_with instance level literals a)
 
 -- the least pair that a remaining choice of a path adds, found choice by choice; none where no choice remains
-abbrev pub with_choice : (Literal → Bool) → Instance → ℕ → List Literal → ℕ → Option Pair → ℕ → Option Pair
+abbrev pub with_choice : (Literal → Bool) → Instance → ℕ → List Literal → ℕ → Option Pair → ℕ →
+    Option Pair
 with_choice excluded instance level literals path found index =
     if remains excluded instance level literals (literal path index)
     then Some (lesser found (added_pair instance level literals (literal path index)))
@@ -54,7 +55,8 @@ is_stuck excluded instance level literals path =
 -- the literals' pairs and the least that each further path adds come to the tag's limit
 abbrev pub is_over : (Literal → Bool) → Instance → Triple → List Literal → Bool
 is_over excluded instance t literals = has_limit t && is_pair_at_most (limit_of t)
-    (pair_with instance (mode_level t) literals (λ path. or_no_pair (least_pair excluded instance (mode_level t) literals path)))
+    (pair_with instance (mode_level t) literals
+    (λ path. or_no_pair (least_pair excluded instance (mode_level t) literals path)))
 
 unfoldable pub judged_dead : (Literal → Bool) → Instance → Triple → List Literal → Bool
 judged_dead excluded instance t literals =

@@ -37,7 +37,8 @@ cite_fault earlier t contains n =
 
 -- the literals are judged dead, by earlier lines of one literal and by the cited ones
 abbrev pub is_dead : Instance → List Line → Tag → List ℕ → List Literal → Bool
-is_dead instance earlier t cites literals = judged_dead (is_excluded earlier t cites literals) instance (triple_from t.code) literals
+is_dead instance earlier t cites literals =
+    judged_dead (is_excluded earlier t cites literals) instance (triple_from t.code) literals
 
 abbrev pub count_fault : Instance → List Line → Tag → List Literal → List ℕ → Option RejectCause
 count_fault instance earlier t literals cites =
@@ -57,7 +58,8 @@ abbrev pub branch_fault : Instance → List Line → Tag → List Literal → �
 branch_fault instance earlier t literals path children =
     option_or (cause_unless (not (names literals path)) WrongPath)
     (option_or (first_of (child_fault earlier t literals path) children)
-    (cause_unless (list_all (is_settled instance earlier t literals path children) (range_with_len 0 (count_at instance path))) NotDead))
+    (cause_unless (list_all (is_settled instance earlier t literals path children)
+    (range_with_len 0 (count_at instance path))) NotDead))
 
 abbrev pub rule_fault : Instance → List Line → Tag → List Literal → Rule → Option RejectCause
 rule_fault instance earlier t literals (Count cites) = count_fault instance earlier t literals cites

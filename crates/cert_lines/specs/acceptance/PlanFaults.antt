@@ -37,10 +37,12 @@ shown_at shown position = slice_index_or shown position no_choice
 
 -- the indices of a shown plan's choices
 unfoldable pub indices : Instance → List Choice → List ℕ
-indices instance shown = map (λ position. index_in (path_at instance position) (shown_at shown position)) (range_with_len 0 (length instance.paths))
+indices instance shown = map (λ position. index_in (path_at instance position) (shown_at shown position))
+    (range_with_len 0 (length instance.paths))
 
 abbrev pub all_offered : Instance → List Choice → Bool
-all_offered instance shown = list_all (λ position. is_offered (path_at instance position) (shown_at shown position)) (range_with_len 0 (length instance.paths))
+all_offered instance shown = list_all (λ position. is_offered (path_at instance position) (shown_at shown position))
+    (range_with_len 0 (length instance.paths))
 
 abbrev pub cost_fault : Triple → Triple → Option RejectCause
 cost_fault claimed found = cause_unless (is_same_triple claimed found) (TripleDiffers claimed found)
