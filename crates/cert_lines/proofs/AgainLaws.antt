@@ -1,5 +1,5 @@
 -- The text of a well-formed answer is read as that answer.
-use Rattle.std.proofs.Common.{◌≡◌, ℕ, suc, ◌+◌, ◌≤◌, false, eqb, List, [], ◌∷◌, ◌++◌, length, map, codes, decimal, Option, Some, None, Result, Ok, Err, refl, sym, ap, subst, ◌∙◌, arith}
+use Rattle.std.proofs.Common.{◌≡◌, ℕ, suc, ◌+◌, ◌≤◌, false, eqb, List, [], ◌∷◌, ◌++◌, length, map, drop, codes, decimal, Option, Some, None, Result, Ok, Err, refl, sym, ap, subst, ◌∙◌, arith}
 use Rattle.std.specs.List.{join_with_byte, AllByRecursion}
 use Rattle.std.specs.Fmt.{signed_decimal}
 use Rattle.std.proofs.lemmas.Bool.Decides.{nat_tests}
@@ -13,16 +13,18 @@ use Rattle.cert_lines.specs.declared.answer.Answer.{Answer}
 use Rattle.cert_lines.specs.declared.answer.Line.{Line}
 use Rattle.cert_lines.specs.declared.answer.Verdict.{Verdict}
 use Rattle.cert_lines.specs.declared.answer.Verdict.TheVariants.{Best, NoneFeasible, Open}
-use Rattle.cert_lines.specs.declared.fault.BadCert.{BadCert}
 use Rattle.cert_lines.specs.declared.fault.CertCause.{CertCause}
 use Rattle.cert_lines.specs.declared.fault.CertCause.TheVariants.{AfterEnd}
-use Rattle.cert_lines.specs.Steps.{◌>>=◌}
+use Rattle.fapp_text.specs.Reading.{◌>>=◌, fault, at_line}
 use Rattle.cert_lines.specs.Spelling.{triple_numbers, tag_numbers, list_numbers, rule_word, rule_numbers, choice_fields, certificate_fields, verdict_fields, plan_lines, answer_text}
 use Rattle.cert_lines.specs.WellFormed.{IsShown, IsLine, IsWellFormed}
-use Rattle.cert_lines.specs.LineReading.{plan_line, verdict_line, certificate_line}
-use Rattle.cert_lines.specs.Reading.{Rest, parts_of, fault, placed, line_by, until, paired, alone, finished, reading}
+use Rattle.cert_lines.specs.PlanReading.{plan_line}
+use Rattle.cert_lines.specs.VerdictReading.{verdict_line}
+use Rattle.cert_lines.specs.CertificateReading.{certificate_line}
+use Rattle.cert_lines.specs.Reading.{TextFault, Rest, parts_of, line_by, until, finished, reading}
 use Rattle.cert_lines.specs.Laws.{line_after}
-use Rattle.cert_lines.proofs.HeadLaws.{plan_again, plan_ends, verdict_again}
+use Rattle.cert_lines.proofs.PlanLaws.{turn_again, plan_again, plan_ends}
+use Rattle.cert_lines.proofs.VerdictLaws.{verdict_again}
 use Rattle.cert_lines.proofs.LineLaws.{certificate_again, certificate_ends}
 use Rattle.cert_lines.proofs.Parts.{HasFirst, has_first, next_ended, not_finished}
 use Rattle.cert_lines.proofs.Plain.{ArePlain, all_append, certificate_plain, verdict_plain, plan_plain, end_plain, head_plain, fields_again, parts_again}
@@ -42,55 +44,53 @@ line_again : {A : Type 0} (read : List (List ℕ) → Result A CertCause) (numbe
 unfolding line_by
 line_again {A} read number word fields parts x first plain e =
     let after : Rest = (number + 1, parts) in
-    ap (λ (r : Result (List (List ℕ) × Rest) BadCert). r >>= λ line. placed number (read line.0) >>= λ found. Ok (found, line.1)) (next_ended number (joined (word ∷ fields)) parts first)
-    ∙ ap (λ (fs : List (List ℕ)). placed number (read fs) >>= λ found. Ok (found, after)) (fields_again word fields plain)
-    ∙ ap (λ (r : Result A CertCause). placed number r >>= λ found. Ok (found, after)) e
+    ap (λ (r : Result (List (List ℕ) × Rest) TextFault). r >>= λ line. at_line number (read line.0) >>= λ found. Ok (found, line.1)) (next_ended number (joined (word ∷ fields)) parts first)
+    ∙ ap (λ (fs : List (List ℕ)). at_line number (read fs) >>= λ found. Ok (found, after)) (fields_again word fields plain)
+    ∙ ap (λ (r : Result A CertCause). at_line number r >>= λ found. Ok (found, after)) e
 
 -- a number of lines further
-abbrev pub Reaches : {A : Type 0} → Result (List A × Rest) BadCert → List A → ℕ → List (List ℕ) → Type 0
+abbrev pub Reaches : {A : Type 0} → Result (List A × Rest) TextFault → List A → ℕ → List (List ℕ) → Type 0
 Reaches read items number rest = read ≡ Ok (items, (number, rest))
 
-plan_lines_again : (instance : Instance) (paths : List Path) (plan : List Choice) (number : ℕ) (rest : List (List ℕ)) → length plan ≤ length paths → AllByRecursion (λ p. IsNumber p.number) paths → AllByRecursion IsShown plan → HasFirst rest
-    → Reaches (until (plan_line instance) paths number (map joined (plan_lines paths plan) ++ joined (codes "--" ∷ []) ∷ rest)) plan (number + (length plan + 1)) rest
-plan_lines_again instance paths [] number rest le numbers shown first =
-    let end : Option (Choice × List Path) = None in
-    let one = line_again (plan_line instance paths) number (codes "--") [] rest end first head_plain (plan_ends instance paths) in
-    until_by (plan_line instance) paths number (joined (codes "--" ∷ []) ∷ rest) ∙ ap (λ (r : Result (Option (Choice × List Path) × Rest) BadCert). r >>= follow (plan_line instance)) one
-plan_lines_again instance [] (choice ∷ plan) number rest le numbers shown first = absurd (omega arith)
-plan_lines_again instance (path ∷ paths) (choice ∷ plan) number rest le numbers shown first =
+plan_lines_again : (instance : Instance) (paths : List Path) (plan : List Choice) (place number : ℕ) (rest : List (List ℕ)) → drop place instance.paths ≡ paths → length plan ≤ length paths → AllByRecursion (λ p. IsNumber p.number) paths → AllByRecursion IsShown plan → HasFirst rest
+    → Reaches (until (plan_line instance) place number (map joined (plan_lines paths plan) ++ joined (codes "--" ∷ []) ∷ rest)) plan (number + (length plan + 1)) rest
+plan_lines_again instance paths [] place number rest here le numbers shown first =
+    let end : Option Choice = None in
+    let one = line_again (plan_line instance place) number (codes "--") [] rest end first head_plain (plan_ends instance place) in
+    until_by (plan_line instance) place number (joined (codes "--" ∷ []) ∷ rest) ∙ ap (λ (r : Result (Option Choice × Rest) TextFault). r >>= follow (plan_line instance) place) one
+plan_lines_again instance [] (choice ∷ plan) place number rest here le numbers shown first = absurd (omega arith)
+plan_lines_again instance (path ∷ paths) (choice ∷ plan) place number rest here le numbers shown first =
     let behind : List (List ℕ) = map joined (plan_lines paths plan) ++ joined (codes "--" ∷ []) ∷ rest in
-    let some : Option (Choice × List Path) = Some (choice, paths) in
+    let some : Option Choice = Some choice in
     let plain = plan_plain (path ∷ paths) (choice ∷ plan) in
-    let one = line_again (plan_line instance (path ∷ paths)) number (codes "AL") (decimal path.number ∷ decimal choice.freq ∷ signed_decimal choice.pol ∷ []) behind some (first_behind (map joined (plan_lines paths plan)) (joined (codes "--" ∷ [])) rest) plain.0 (plan_again instance path paths choice numbers.0 shown.0) in
-    let others = plan_lines_again instance paths plan (number + 1) rest (omega arith) numbers.1 shown.1 first in
+    let turn = turn_again instance place path paths here in
+    let one = line_again (plan_line instance place) number (codes "AL") (decimal path.number ∷ decimal choice.freq ∷ signed_decimal choice.pol ∷ []) behind some (first_behind (map joined (plan_lines paths plan)) (joined (codes "--" ∷ [])) rest) plain.0 (plan_again instance place path paths choice here numbers.0 shown.0) in
+    let others = plan_lines_again instance paths plan (place + 1) (number + 1) rest turn.1 (omega arith) numbers.1 shown.1 first in
     let sum : number + 1 + (length plan + 1) ≡ number + (suc (length plan) + 1) = omega arith in
-    until_by (plan_line instance) (path ∷ paths) number (joined (choice_fields path choice) ∷ behind)
-    ∙ ap (λ (r : Result (Option (Choice × List Path) × Rest) BadCert). r >>= follow (plan_line instance)) one
-    ∙ ap (λ (r : Result (List Choice × Rest) BadCert). r >>= λ x. Ok (choice ∷ x.0, x.1)) others
+    until_by (plan_line instance) place number (joined (choice_fields path choice) ∷ behind)
+    ∙ ap (λ (r : Result (Option Choice × Rest) TextFault). r >>= follow (plan_line instance) place) one
+    ∙ ap (λ (r : Result (List Choice × Rest) TextFault). r >>= λ x. Ok (choice ∷ x.0, x.1)) others
     ∙ ap (λ (n : ℕ). Ok (choice ∷ plan, (n, rest))) sum
 
-alone_is : {A : Type 0} (read : List (List ℕ) → Result (Option A) CertCause) (fields : List (List ℕ)) (x : Option A) → read fields ≡ Ok x → alone read tt fields ≡ Ok (paired x)
-alone_is {A} read fields x e = ap (λ (r : Result (Option A) CertCause). r >>= λ found. Ok (paired found)) e
+-- certificate lines, whatever their place
+abbrev lines_read : Instance → ℕ → List (List ℕ) → Result (Option Line) CertCause
+lines_read instance place = certificate_line instance
 
-lines_again : (instance : Instance) → IsInstance instance → (lines : List Line) (number : ℕ) (rest : List (List ℕ)) → AllByRecursion (IsLine instance) lines → HasFirst rest
-    → Reaches (until (alone (certificate_line instance)) tt number (map joined (map certificate_fields lines) ++ joined (codes "END" ∷ []) ∷ rest)) lines (number + (length lines + 1)) rest
-lines_again instance valid [] number rest good first =
-    let read = alone (certificate_line instance) in
-    let end : Option (Line × Unit {0}) = None in
-    let none : Option Line = None in
-    let one = line_again (read tt) number (codes "END") [] rest end first end_plain (alone_is (certificate_line instance) (codes "END" ∷ []) none (certificate_ends instance)) in
-    until_by read tt number (joined (codes "END" ∷ []) ∷ rest) ∙ ap (λ (r : Result (Option (Line × Unit {0}) × Rest) BadCert). r >>= follow read) one
-lines_again instance valid (line ∷ lines) number rest good first =
-    let read = alone (certificate_line instance) in
+lines_again : (instance : Instance) → IsInstance instance → (lines : List Line) (place number : ℕ) (rest : List (List ℕ)) → AllByRecursion (IsLine instance) lines → HasFirst rest
+    → Reaches (until (lines_read instance) place number (map joined (map certificate_fields lines) ++ joined (codes "END" ∷ []) ∷ rest)) lines (number + (length lines + 1)) rest
+lines_again instance valid [] place number rest good first =
+    let end : Option Line = None in
+    let one = line_again (certificate_line instance) number (codes "END") [] rest end first end_plain (certificate_ends instance) in
+    until_by (lines_read instance) place number (joined (codes "END" ∷ []) ∷ rest) ∙ ap (λ (r : Result (Option Line × Rest) TextFault). r >>= follow (lines_read instance) place) one
+lines_again instance valid (line ∷ lines) place number rest good first =
     let behind : List (List ℕ) = map joined (map certificate_fields lines) ++ joined (codes "END" ∷ []) ∷ rest in
-    let some : Option (Line × Unit {0}) = Some (line, tt) in
     let found : Option Line = Some line in
-    let one = line_again (read tt) number (rule_word line.rule) (map decimal ((tag_numbers line.tag ++ list_numbers line.lits) ++ rule_numbers line.rule)) behind some (first_behind (map joined (map certificate_fields lines)) (joined (codes "END" ∷ [])) rest) (certificate_plain line) (alone_is (certificate_line instance) (certificate_fields line) found (certificate_again instance valid line good.0)) in
-    let others = lines_again instance valid lines (number + 1) rest good.1 first in
+    let one = line_again (certificate_line instance) number (rule_word line.rule) (map decimal ((tag_numbers line.tag ++ list_numbers line.lits) ++ rule_numbers line.rule)) behind found (first_behind (map joined (map certificate_fields lines)) (joined (codes "END" ∷ [])) rest) (certificate_plain line) (certificate_again instance valid line good.0) in
+    let others = lines_again instance valid lines (place + 1) (number + 1) rest good.1 first in
     let sum : number + 1 + (length lines + 1) ≡ number + (suc (length lines) + 1) = omega arith in
-    until_by read tt number (joined (certificate_fields line) ∷ behind)
-    ∙ ap (λ (r : Result (Option (Line × Unit {0}) × Rest) BadCert). r >>= follow read) one
-    ∙ ap (λ (r : Result (List Line × Rest) BadCert). r >>= λ x. Ok (line ∷ x.0, x.1)) others
+    until_by (lines_read instance) place number (joined (certificate_fields line) ∷ behind)
+    ∙ ap (λ (r : Result (Option Line × Rest) TextFault). r >>= follow (lines_read instance) place) one
+    ∙ ap (λ (r : Result (List Line × Rest) TextFault). r >>= λ x. Ok (line ∷ x.0, x.1)) others
     ∙ ap (λ (n : ℕ). Ok (line ∷ lines, (n, rest))) sum
 
 path_numbers : (paths : List Path) → AllByRecursion IsPath paths → AllByRecursion (λ p. IsNumber p.number) paths
@@ -136,17 +136,19 @@ reading_upto instance valid answer good more =
     ∙ ap (λ (t : List (List ℕ)). map joined (p ++ dashes) ++ (joined (verdict_fields answer.verdict) ∷ t)) (map_both (map certificate_fields answer.lines) end rest)
     ∙ map_both p dashes behind in
     let numbers = path_numbers instance.paths (recursion_from_All IsPath instance.paths valid.paths) in
-    let plan = plan_lines_again instance instance.paths answer.plan 1 behind good.plan numbers good.choices (joined (verdict_fields answer.verdict), ends, refl) in
+    let choices = recursion_from_All IsShown answer.plan good.choices in
+    let certificate = recursion_from_All (IsLine instance) answer.lines good.lines in
+    let plan = plan_lines_again instance instance.paths answer.plan 0 1 behind refl good.plan numbers choices (joined (verdict_fields answer.verdict), ends, refl) in
     let n : ℕ = 1 + (length answer.plan + 1) in
     let word = has_word answer.verdict in
     let first : HasFirst ends = first_behind (map joined (map certificate_fields answer.lines)) (joined (codes "END" ∷ [])) rest in
     let verdict = verdict_read instance valid answer.verdict n (verdict_fields answer.verdict) word.0 word.1 ends refl word.2 first (verdict_plain answer.verdict) (verdict_again instance valid answer.verdict good.verdict) in
-    let lines = lines_again instance valid answer.lines (n + 1) rest good.lines (has_first more) in
+    let lines = lines_again instance valid answer.lines 0 (n + 1) rest certificate (has_first more) in
     let sum : n + 1 + (length answer.lines + 1) ≡ line_after answer = omega arith in
-    ap (λ (parts : List (List ℕ)). until (plan_line instance) instance.paths 1 parts >>= λ plan. line_by (verdict_line instance) plan.1 >>= λ verdict. until (alone (certificate_line instance)) tt verdict.1.0 verdict.1.1 >>= λ lines. finished lines.1 >>= λ end. Ok (record { plan = plan.0; verdict = verdict.0; lines = lines.0 })) cut
-    ∙ ap (λ (r : Result (List Choice × Rest) BadCert). r >>= λ plan. line_by (verdict_line instance) plan.1 >>= λ verdict. until (alone (certificate_line instance)) tt verdict.1.0 verdict.1.1 >>= λ lines. finished lines.1 >>= λ end. Ok (record { plan = plan.0; verdict = verdict.0; lines = lines.0 })) plan
-    ∙ ap (λ (r : Result (Verdict × Rest) BadCert). r >>= λ verdict. until (alone (certificate_line instance)) tt verdict.1.0 verdict.1.1 >>= λ lines. finished lines.1 >>= λ end. Ok (record { plan = answer.plan; verdict = verdict.0; lines = lines.0 })) verdict
-    ∙ ap (λ (r : Result (List Line × Rest) BadCert). r >>= λ lines. finished lines.1 >>= λ end. Ok (record { plan = answer.plan; verdict = answer.verdict; lines = lines.0 })) lines
+    ap (λ (parts : List (List ℕ)). until (plan_line instance) 0 1 parts >>= λ plan. line_by (verdict_line instance) plan.1 >>= λ verdict. until (λ place. certificate_line instance) 0 verdict.1.0 verdict.1.1 >>= λ lines. finished lines.1 >>= λ end. Ok (record { plan = plan.0; verdict = verdict.0; lines = lines.0 })) cut
+    ∙ ap (λ (r : Result (List Choice × Rest) TextFault). r >>= λ plan. line_by (verdict_line instance) plan.1 >>= λ verdict. until (λ place. certificate_line instance) 0 verdict.1.0 verdict.1.1 >>= λ lines. finished lines.1 >>= λ end. Ok (record { plan = plan.0; verdict = verdict.0; lines = lines.0 })) plan
+    ∙ ap (λ (r : Result (Verdict × Rest) TextFault). r >>= λ verdict. until (λ place. certificate_line instance) 0 verdict.1.0 verdict.1.1 >>= λ lines. finished lines.1 >>= λ end. Ok (record { plan = answer.plan; verdict = verdict.0; lines = lines.0 })) verdict
+    ∙ ap (λ (r : Result (List Line × Rest) TextFault). r >>= λ lines. finished lines.1 >>= λ end. Ok (record { plan = answer.plan; verdict = answer.verdict; lines = lines.0 })) lines
     ∙ ap (λ (m : ℕ). finished (m, rest) >>= λ end. Ok answer) sum
 
 -- nothing follows
@@ -160,4 +162,4 @@ some_bytes n = grind (arith, nat_tests)
 pub reading_past : (instance : Instance) → IsInstance instance → (answer : Answer) → IsWellFormed instance answer → (b : ℕ) (more : List ℕ) → reading instance (answer_text instance answer ++ b ∷ more) ≡ Err (fault (line_after answer) AfterEnd)
 reading_past instance valid answer good b more =
     reading_upto instance valid answer good (b ∷ more)
-    ∙ ap (λ (r : Result (Unit {0}) BadCert). r >>= λ end. Ok answer) (not_finished (line_after answer) (b ∷ more) (some_bytes (length more)))
+    ∙ ap (λ (r : Result (Unit {0}) TextFault). r >>= λ end. Ok answer) (not_finished (line_after answer) (b ∷ more) (some_bytes (length more)))

@@ -3,15 +3,19 @@ use Rattle.std.proofs.Common.{◌≡◌, ℕ, ◌+◌, ◌*◌, ◌/◌, ◌%◌
 use Rattle.std.proofs.lemmas.Nat.{div-add-mod'}
 use Rattle.fapp_model.specs.declared.tag.Tag.{Tag}
 use Rattle.fapp_model.specs.declared.triple.Triple.{Triple}
-use Rattle.fapp_model.specs.declared.level.TheConstants.{LEVELS}
+use Rattle.fapp_model.specs.declared.instance.Instance.{Instance}
+use Rattle.fapp_model.specs.declared.limits.TheConstants.{S_SPAN}
 use Rattle.fapp_model.specs.Instances.{IsNumber}
+use Rattle.fapp_model.specs.InstanceTags.{IsTagFor}
+use Rattle.fapp_model.specs.Levels.{levels_of}
+use Rattle.fapp_model.proofs.LevelNumbers.{levels-few}
 use Rattle.fapp_model.specs.Tags.{code_of, triple_from, is_tag, is_code}
 use Rattle.cert_lines.specs.declared.fault.CertCause.{CertCause}
 use Rattle.cert_lines.specs.declared.fault.CertCause.TheVariants.{BadTag}
-use Rattle.cert_lines.specs.Steps.{◌>>=◌, allowed}
+use Rattle.fapp_text.specs.Reading.{◌>>=◌, allowed}
 use Rattle.cert_lines.specs.Spelling.{triple_numbers, tag_numbers}
 use Rattle.cert_lines.specs.FieldReading.{field_at, ended, number_of, number_at, triple_at, tag_of_code, tag_at}
-use Rattle.cert_lines.proofs.Binds.{bind_ok, allowed_ok, ok_is}
+use Rattle.fapp_text.proofs.Steps.{bind_ok, allowed_ok, ok_is}
 use Rattle.cert_lines.proofs.Codes.{IsSmall, small_tag, triple_from-code_of}
 use Rattle.cert_lines.proofs.NumberLaws.{number_of_takes, number_of_again}
 use Rattle.cert_lines.proofs.TagReading.{tag_read}
@@ -73,25 +77,29 @@ tag_of_code_takes : (code : ℕ) (test : Bool) (h : is_code code ≡ test) (tag 
 tag_of_code_takes code true h tag e = sym (ap (λ (t : Tag). t.code) (ok_is {E = CertCause} (record { code = code; of_tag = h }) tag e))
 tag_of_code_takes code false h tag e = absurd cc
 
-pub tag_takes : (fields : List (List ℕ)) (x : Tag × List (List ℕ)) → tag_at fields ≡ Ok x → Takes fields (tag_numbers x.0) x.1
+pub tag_takes : (instance : Instance) (fields : List (List ℕ)) (x : Tag × List (List ℕ)) → tag_at instance fields ≡ Ok x → Takes fields (tag_numbers x.0) x.1 × IsTagFor instance x.0
 unfolding tag_at
-tag_takes fields x e =
-    let a = bind_ok (triple_at fields) (λ found. allowed (is_tag LEVELS found.0) BadTag found.0 >>= λ t. tag_of_code (code_of t) (is_code (code_of t)) refl >>= λ tag. Ok (tag, found.1)) x e in
-    let b = bind_ok (allowed (is_tag LEVELS a.0.0) BadTag a.0.0) (λ t. tag_of_code (code_of t) (is_code (code_of t)) refl >>= λ tag. Ok (tag, a.0.1)) x a.2 in
+tag_takes instance fields x e =
+    let levels = levels_of instance in
+    let a = bind_ok (triple_at fields) (λ found. allowed (is_tag levels found.0) BadTag found.0 >>= λ t. tag_of_code (code_of t) (is_code (code_of t)) refl >>= λ tag. Ok (tag, found.1)) x e in
+    let b = bind_ok (allowed (is_tag levels a.0.0) BadTag a.0.0) (λ t. tag_of_code (code_of t) (is_code (code_of t)) refl >>= λ tag. Ok (tag, a.0.1)) x a.2 in
     let t = b.0 in
     let c = bind_ok (tag_of_code (code_of t) (is_code (code_of t)) refl) (λ tag. Ok (tag, a.0.1)) x b.2 in
-    let g = allowed_ok (is_tag LEVELS a.0.0) BadTag a.0.0 t b.1 in
+    let g = allowed_ok (is_tag levels a.0.0) BadTag a.0.0 t b.1 in
     let code : c.0.code ≡ code_of t = tag_of_code_takes (code_of t) (is_code (code_of t)) refl c.0 c.1 in
-    let back : triple_from c.0.code ≡ a.0.0 = ap triple_from (code ∙ ap code_of (sym g.1)) ∙ triple_from-code_of a.0.0 (small_tag a.0.0 g.0) in
+    let small = small_tag levels a.0.0 (levels-few instance).1 g.0 in
+    let back : triple_from c.0.code ≡ a.0.0 = ap triple_from (code ∙ ap code_of (sym g.1)) ∙ triple_from-code_of a.0.0 small in
     let made : Tag × List (List ℕ) = (c.0, a.0.1) in
-    subst (λ (y : Tag × List (List ℕ)). Takes fields (tag_numbers y.0) y.1) (ok_is {E = CertCause} made x c.2) (triple_takes fields a.0 a.1 ∙ ap (λ (u : Triple). map decimal (triple_numbers u) ++ a.0.1) (sym back))
+    let text = triple_takes fields a.0 a.1 ∙ ap (λ (u : Triple). map decimal (triple_numbers u) ++ a.0.1) (sym back) in
+    let own : IsTagFor instance c.0 = ap (is_tag levels) back ∙ g.0 in
+    subst (λ (y : Tag × List (List ℕ)). Takes fields (tag_numbers y.0) y.1 × IsTagFor instance y.0) (ok_is {E = CertCause} made x c.2) (text, own)
 
 code_again : (code : ℕ) → code_of (triple_from code) ≡ code
 code_again code =
-    let w : ℕ = 67108864 in
+    let w : ℕ = S_SPAN in
     ap (λ (n : ℕ). n * w + code % w) (div-add-mod' (code / w) w) ∙ div-add-mod' code w
 
-pub tag_again : (tag : Tag) (rest : List (List ℕ)) → tag_at (map decimal (tag_numbers tag) ++ rest) ≡ Ok (tag, rest)
-tag_again tag rest =
+pub tag_again : (instance : Instance) (tag : Tag) (rest : List (List ℕ)) → IsTagFor instance tag → tag_at instance (map decimal (tag_numbers tag) ++ rest) ≡ Ok (tag, rest)
+tag_again instance tag rest own =
     let t = triple_from tag.code in
-    tag_read (map decimal (tag_numbers tag) ++ rest) rest t tag (triple_again t rest (small_tag t tag.of_tag)) tag.of_tag (sym (code_again tag.code))
+    tag_read instance (map decimal (tag_numbers tag) ++ rest) rest t tag (triple_again t rest (small_tag (levels_of instance) t (levels-few instance).1 own)) own (sym (code_again tag.code))

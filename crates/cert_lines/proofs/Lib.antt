@@ -6,15 +6,14 @@ pub mod TagReading
 pub mod Loop
 pub mod Until
 pub mod Parts
-pub mod Alone
-pub mod Binds
 pub mod NumberLaws
 pub mod FieldLaws
 pub mod Ascending
 pub mod StepLaws
 pub mod ListLaws
 pub mod LineLaws
-pub mod HeadLaws
+pub mod PlanLaws
+pub mod VerdictLaws
 pub mod Plain
 pub mod TextLaws
 pub mod AgainLaws

@@ -1,85 +1,68 @@
 -- Certificate lines, both ways.
-use Rattle.std.proofs.Common.{◌≡◌, ℕ, suc, ◌<◌, true, cond, List, [], ◌∷◌, ◌++◌, length, map, decimal, codes, Option, Some, None, Result, Ok, Err, refl, sym, ap, subst, ◌∙◌, inl, inr, arith}
-use Rattle.std.specs.List.{flat_map, AllByRecursion}
+use Rattle.std.proofs.Common.{◌≡◌, ℕ, ◌<◌, cond, List, [], ◌∷◌, ◌++◌, length, map, decimal, codes, Option, Some, None, Result, Ok, Err, refl, sym, ap, subst, ◌∙◌, inl, inr, arith}
+use Rattle.std.specs.List.{flat_map}
 use Rattle.std.specs.Str.{bytes_eq}
 use Rattle.std.proofs.lemmas.List.{append-nil}
-use Rattle.std.proofs.lemmas.Slice.Eq.{bytes_eq-Decides}
 use Rattle.fapp_model.specs.declared.instance.Instance.{Instance}
 use Rattle.fapp_model.specs.declared.literal.Literal.{Literal}
 use Rattle.fapp_model.specs.Assignments.{count_at}
 use Rattle.fapp_model.specs.Instances.{IsNumber, IsInstance}
+use Rattle.fapp_model.specs.InstanceTags.{IsTagFor}
+use Rattle.fapp_model.specs.search.Partials.{IsLiteral, AreLiterals}
+use Rattle.fapp_text.proofs.SignLemmas.{is_word}
 use Rattle.cert_lines.specs.declared.answer.Child.{Child}
 use Rattle.cert_lines.specs.declared.answer.Line.{Line}
 use Rattle.cert_lines.specs.declared.answer.Rule.{Rule}
 use Rattle.cert_lines.specs.declared.answer.Rule.TheVariants.{Count, Branch}
 use Rattle.cert_lines.specs.declared.fault.CertCause.{CertCause}
 use Rattle.cert_lines.specs.declared.fault.CertCause.TheVariants.{BadKind}
-use Rattle.cert_lines.specs.Steps.{◌>>=◌}
+use Rattle.fapp_text.specs.Reading.{◌>>=◌}
 use Rattle.cert_lines.specs.Spelling.{literal_numbers, child_numbers, list_numbers, tag_numbers, rule_word, rule_numbers, certificate_fields}
-use Rattle.cert_lines.specs.WellFormed.{IsLiteral, IsChild, AreLiterals, AreCites, AreChildren, IsRule, IsLine}
+use Rattle.cert_lines.specs.WellFormed.{IsChild, AreCites, AreChildren, IsRule, IsLine}
 use Rattle.cert_lines.specs.FieldReading.{field_at, ended, tag_at}
 use Rattle.cert_lines.specs.ListReading.{position_at, literal_at, cite_at, child_at, list_at}
-use Rattle.cert_lines.specs.LineReading.{count_line, branch_line, certificate_line}
-use Rattle.cert_lines.proofs.Ascending.{increasing, ascends, few_below}
-use Rattle.cert_lines.proofs.Binds.{bind_ok, chosen, ok_is}
+use Rattle.cert_lines.specs.CertificateReading.{count_line, branch_line, certificate_line}
+use Rattle.cert_lines.proofs.Ascending.{few_items}
+use Rattle.fapp_text.proofs.Steps.{bind_ok, chosen, ok_is}
 use Rattle.cert_lines.proofs.FieldLaws.{Takes, split_numbers, takes_both, field_takes, ended_takes, tag_takes, tag_again}
 use Rattle.cert_lines.proofs.ListLaws.{path_of, one_number, itself, choice_of, literal_step, cite_step, child_step, few_choices, position_takes, position_again}
 use Rattle.cert_lines.proofs.StepLaws.{list_takes, list_again}
-
-paths_below : (instance : Instance) (literals : List Literal) → AllByRecursion (IsLiteral instance) literals → AllByRecursion (λ x. x < length instance.paths) (map path_of literals)
-paths_below instance [] h = tt
-paths_below instance (x ∷ literals) h = (h.0.path, paths_below instance literals h.1)
-
-choices_below : (instance : Instance) (path : ℕ) (children : List Child) → AllByRecursion (IsChild instance path) children → AllByRecursion (λ x. x < count_at instance path) (map choice_of children)
-choices_below instance path [] h = tt
-choices_below instance path (x ∷ children) h = (h.0.choice, choices_below instance path children h.1)
 
 ones : (cites : List ℕ) → flat_map one_number cites ≡ cites
 ones [] = refl
 ones (n ∷ cites) = ap (λ (ns : List ℕ). n ∷ ns) (ones cites)
 
-selves : (cites : List ℕ) → map itself cites ≡ cites
-selves [] = refl
-selves (n ∷ cites) = ap (λ (ns : List ℕ). n ∷ ns) (selves cites)
-
-length_map : {A : Type 0} (f : A → ℕ) (xs : List A) → length (map f xs) ≡ length xs
-length_map f [] = refl
-length_map f (x ∷ xs) = ap suc (length_map f xs)
-
 pub literals_take : (instance : Instance) → IsInstance instance → (fields : List (List ℕ)) (x : List Literal × List (List ℕ)) → list_at (literal_at instance) fields ≡ Ok x → Takes fields (list_numbers x.0) x.1 × AreLiterals instance x.0
 literals_take instance valid fields x e =
     let h = list_takes literal_numbers path_of (IsLiteral instance) (literal_at instance) (literal_step instance valid) fields x e in
-    (h.text, record { each = h.each; ascending = increasing 0 (map path_of x.0) h.up })
+    (h.text, record { in_range = h.each; ascending = h.up })
 
 pub literals_again : (instance : Instance) → IsInstance instance → (literals : List Literal) (rest : List (List ℕ)) → AreLiterals instance literals → list_at (literal_at instance) (map decimal (list_numbers literals) ++ rest) ≡ Ok (literals, rest)
 literals_again instance valid literals rest h =
-    let up = ascends 0 (map path_of literals) (λ some. omega arith) h.ascending in
-    let few = few_below (length instance.paths) 0 (map path_of literals) (omega arith) up (paths_below instance literals h.each) in
-    list_again literal_numbers path_of (IsLiteral instance) (literal_at instance) (literal_step instance valid) literals rest (omega (arith, few, length_map path_of literals, valid.few_paths)) h.each up
+    let few = few_items path_of (length instance.paths) literals (λ k d l. (h.in_range k d l).path) h.ascending in
+    list_again literal_numbers path_of (IsLiteral instance) (literal_at instance) (literal_step instance valid) literals rest (omega (arith, few, valid.few_paths)) h.in_range h.ascending
 
 cites_take : (fields : List (List ℕ)) (x : List ℕ × List (List ℕ)) → list_at cite_at fields ≡ Ok x → Takes fields (length x.0 ∷ x.0) x.1 × AreCites x.0
 cites_take fields x e =
     let h = list_takes one_number itself IsNumber cite_at cite_step fields x e in
-    (h.text ∙ ap (λ (ns : List ℕ). map decimal (length x.0 ∷ ns) ++ x.1) (ones x.0), record { each = h.each; ascending = increasing 0 x.0 (rw (selves x.0) at h.up); few = h.few })
+    (h.text ∙ ap (λ (ns : List ℕ). map decimal (length x.0 ∷ ns) ++ x.1) (ones x.0), record { each = h.each; ascending = h.up; few = h.few })
 
 cites_again : (cites : List ℕ) (rest : List (List ℕ)) → AreCites cites → list_at cite_at (map decimal (length cites ∷ cites) ++ rest) ≡ Ok (cites, rest)
 cites_again cites rest h =
-    let up = ascends 0 cites (λ some. omega arith) h.ascending in
     ap (λ (ns : List ℕ). list_at cite_at (map decimal (length cites ∷ ns) ++ rest)) (sym (ones cites))
-    ∙ list_again one_number itself IsNumber cite_at cite_step cites rest h.few h.each (rw (selves cites) up)
+    ∙ list_again one_number itself IsNumber cite_at cite_step cites rest h.few h.each h.ascending
 
 children_take : (instance : Instance) → IsInstance instance → (path : ℕ) → path < length instance.paths → (fields : List (List ℕ)) (x : List Child × List (List ℕ)) → list_at (child_at instance path) fields ≡ Ok x
     → Takes fields (length x.0 ∷ flat_map child_numbers x.0) x.1 × AreChildren instance path x.0
 children_take instance valid path lt fields x e =
     let h = list_takes child_numbers choice_of (IsChild instance path) (child_at instance path) (child_step instance valid path lt) fields x e in
-    (h.text, record { each = h.each; ascending = increasing 0 (map choice_of x.0) h.up })
+    (h.text, record { each = h.each; ascending = h.up })
 
 children_again : (instance : Instance) → IsInstance instance → (path : ℕ) → path < length instance.paths → (children : List Child) (rest : List (List ℕ)) → AreChildren instance path children
     → list_at (child_at instance path) (map decimal (length children ∷ flat_map child_numbers children) ++ rest) ≡ Ok (children, rest)
 children_again instance valid path lt children rest h =
-    let up = ascends 0 (map choice_of children) (λ some. omega arith) h.ascending in
-    let few = few_below (count_at instance path) 0 (map choice_of children) (omega arith) up (choices_below instance path children h.each) in
-    list_again child_numbers choice_of (IsChild instance path) (child_at instance path) (child_step instance valid path lt) children rest (omega (arith, few, length_map choice_of children, few_choices instance valid path lt)) h.each up
+    let few = few_items choice_of (count_at instance path) children (λ k d l. (h.each k d l).choice) h.ascending in
+    list_again child_numbers choice_of (IsChild instance path) (child_at instance path) (child_step instance valid path lt) children rest (omega (arith, few, few_choices instance valid path lt)) h.each h.ascending
 
 -- numbers in three parts, and no field behind them
 pub three_numbers : (a b c : List ℕ) → map decimal ((a ++ b) ++ c) ≡ map decimal a ++ (map decimal b ++ (map decimal c ++ []))
@@ -92,50 +75,47 @@ IsLineOf instance fields line = (fields ≡ certificate_fields line) × IsLine i
 count_takes : (instance : Instance) → IsInstance instance → (fields : List (List ℕ)) (line : Line) → count_line instance fields ≡ Ok line → IsLineOf instance (codes "C" ∷ fields) line
 unfolding count_line
 count_takes instance valid fields line e =
-    let a = bind_ok (tag_at fields) (λ tag. list_at (literal_at instance) tag.1 >>= λ lits. list_at cite_at lits.1 >>= λ cites. ended cites.1 >>= λ end. Ok (record { tag = tag.0; lits = lits.0; rule = Count cites.0 })) line e in
+    let a = bind_ok (tag_at instance fields) (λ tag. list_at (literal_at instance) tag.1 >>= λ lits. list_at cite_at lits.1 >>= λ cites. ended cites.1 >>= λ end. Ok (record { tag = tag.0; lits = lits.0; rule = Count cites.0 })) line e in
     let b = bind_ok (list_at (literal_at instance) a.0.1) (λ lits. list_at cite_at lits.1 >>= λ cites. ended cites.1 >>= λ end. Ok (record { tag = a.0.0; lits = lits.0; rule = Count cites.0 })) line a.2 in
     let c = bind_ok (list_at cite_at b.0.1) (λ cites. ended cites.1 >>= λ end. Ok (record { tag = a.0.0; lits = b.0.0; rule = Count cites.0 })) line b.2 in
     let d = bind_ok (ended c.0.1) (λ end. Ok (record { tag = a.0.0; lits = b.0.0; rule = Count c.0.0 })) line c.2 in
-    let tag = tag_takes fields a.0 a.1 in
+    let tag = tag_takes instance fields a.0 a.1 in
     let lits = literals_take instance valid a.0.1 b.0 b.1 in
     let cites = cites_take b.0.1 c.0 c.1 in
     let end = ended_takes c.0.1 d.0 d.1 in
     let made : Line = record { tag = a.0.0; lits = b.0.0; rule = Count c.0.0 } in
-    let front = takes_both fields a.0.1 b.0.1 (tag_numbers a.0.0) (list_numbers b.0.0) tag lits.0 in
+    let front = takes_both fields a.0.1 b.0.1 (tag_numbers a.0.0) (list_numbers b.0.0) tag.0 lits.0 in
     let whole : Takes fields ((tag_numbers a.0.0 ++ list_numbers b.0.0) ++ (length c.0.0 ∷ c.0.0)) c.0.1 = takes_both fields b.0.1 c.0.1 (tag_numbers a.0.0 ++ list_numbers b.0.0) (length c.0.0 ∷ c.0.0) front cites.0 in
     let numbers : List ℕ = (tag_numbers a.0.0 ++ list_numbers b.0.0) ++ (length c.0.0 ∷ c.0.0) in
     let text : fields ≡ map decimal numbers = whole ∙ ap (λ (t : List (List ℕ)). map decimal numbers ++ t) end ∙ append-nil (map decimal numbers) in
-    subst (IsLineOf instance (codes "C" ∷ fields)) (ok_is {E = CertCause} made line d.2) (ap (λ (t : List (List ℕ)). codes "C" ∷ t) text, record { lits = lits.1; rule = cites.1 })
+    subst (IsLineOf instance (codes "C" ∷ fields)) (ok_is {E = CertCause} made line d.2) (ap (λ (t : List (List ℕ)). codes "C" ∷ t) text, record { tag = tag.1; lits = lits.1; rule = cites.1 })
 
 branch_takes : (instance : Instance) → IsInstance instance → (fields : List (List ℕ)) (line : Line) → branch_line instance fields ≡ Ok line → IsLineOf instance (codes "B" ∷ fields) line
 unfolding branch_line
 branch_takes instance valid fields line e =
-    let a = bind_ok (tag_at fields) (λ tag. list_at (literal_at instance) tag.1 >>= λ lits. position_at instance lits.1 >>= λ path. list_at (child_at instance path.0) path.1 >>= λ children. ended children.1 >>= λ end. Ok (record { tag = tag.0; lits = lits.0; rule = Branch path.0 children.0 })) line e in
+    let a = bind_ok (tag_at instance fields) (λ tag. list_at (literal_at instance) tag.1 >>= λ lits. position_at instance lits.1 >>= λ path. list_at (child_at instance path.0) path.1 >>= λ children. ended children.1 >>= λ end. Ok (record { tag = tag.0; lits = lits.0; rule = Branch path.0 children.0 })) line e in
     let b = bind_ok (list_at (literal_at instance) a.0.1) (λ lits. position_at instance lits.1 >>= λ path. list_at (child_at instance path.0) path.1 >>= λ children. ended children.1 >>= λ end. Ok (record { tag = a.0.0; lits = lits.0; rule = Branch path.0 children.0 })) line a.2 in
     let p = bind_ok (position_at instance b.0.1) (λ path. list_at (child_at instance path.0) path.1 >>= λ children. ended children.1 >>= λ end. Ok (record { tag = a.0.0; lits = b.0.0; rule = Branch path.0 children.0 })) line b.2 in
     let c = bind_ok (list_at (child_at instance p.0.0) p.0.1) (λ children. ended children.1 >>= λ end. Ok (record { tag = a.0.0; lits = b.0.0; rule = Branch p.0.0 children.0 })) line p.2 in
     let d = bind_ok (ended c.0.1) (λ end. Ok (record { tag = a.0.0; lits = b.0.0; rule = Branch p.0.0 c.0.0 })) line c.2 in
-    let tag = tag_takes fields a.0 a.1 in
+    let tag = tag_takes instance fields a.0 a.1 in
     let lits = literals_take instance valid a.0.1 b.0 b.1 in
     let path = position_takes instance b.0.1 p.0 p.1 in
     let children = children_take instance valid p.0.0 path.1 p.0.1 c.0 c.1 in
     let end = ended_takes c.0.1 d.0 d.1 in
     let made : Line = record { tag = a.0.0; lits = b.0.0; rule = Branch p.0.0 c.0.0 } in
     let behind : List ℕ = length c.0.0 ∷ flat_map child_numbers c.0.0 in
-    let front = takes_both fields a.0.1 b.0.1 (tag_numbers a.0.0) (list_numbers b.0.0) tag lits.0 in
+    let front = takes_both fields a.0.1 b.0.1 (tag_numbers a.0.0) (list_numbers b.0.0) tag.0 lits.0 in
     let rule : Takes b.0.1 (p.0.0 ∷ behind) c.0.1 = takes_both b.0.1 p.0.1 c.0.1 (p.0.0 ∷ []) behind path.0 children.0 in
     let numbers : List ℕ = (tag_numbers a.0.0 ++ list_numbers b.0.0) ++ (p.0.0 ∷ behind) in
     let whole : Takes fields numbers c.0.1 = takes_both fields b.0.1 c.0.1 (tag_numbers a.0.0 ++ list_numbers b.0.0) (p.0.0 ∷ behind) front rule in
     let text : fields ≡ map decimal numbers = whole ∙ ap (λ (t : List (List ℕ)). map decimal numbers ++ t) end ∙ append-nil (map decimal numbers) in
-    subst (IsLineOf instance (codes "B" ∷ fields)) (ok_is {E = CertCause} made line d.2) (ap (λ (t : List (List ℕ)). codes "B" ∷ t) text, record { lits = lits.1; rule = (path.1, children.1) })
+    subst (IsLineOf instance (codes "B" ∷ fields)) (ok_is {E = CertCause} made line d.2) (ap (λ (t : List (List ℕ)). codes "B" ∷ t) text, record { tag = tag.1; lits = lits.1; rule = (path.1, children.1) })
 
 -- what a line of a certificate says
 abbrev pub IsFound : Instance → List (List ℕ) → Option Line → Type 0
 IsFound instance fields None = fields ≡ codes "END" ∷ []
 IsFound instance fields (Some line) = IsLineOf instance fields line
-
-pub word_is : (field word : List ℕ) → bytes_eq field word ≡ true → field ≡ word
-word_is field word h = (bytes_eq-Decides field word).0 h
 
 last_kind : (instance : Instance) → IsInstance instance → (word : List ℕ) (rest : List (List ℕ)) (found : Option Line)
     → cond (bytes_eq word (codes "B")) (branch_line instance rest >>= λ line. Ok (Some line)) (Err BadKind) ≡ Ok found → IsFound instance (word ∷ rest) found
@@ -144,7 +124,7 @@ last_kind instance valid word rest found e =
       | inl h ↦
           let a = bind_ok (branch_line instance rest) (λ line. Ok (Some line)) found h.1 in
           let taken : IsFound instance (codes "B" ∷ rest) (Some a.0) = branch_takes instance valid rest a.0 a.1 in
-          rw (word_is word (codes "B") h.0) (subst (IsFound instance (codes "B" ∷ rest)) (ok_is {E = CertCause} (Some a.0) found a.2) taken)
+          rw (is_word word (codes "B") h.0) (subst (IsFound instance (codes "B" ∷ rest)) (ok_is {E = CertCause} (Some a.0) found a.2) taken)
       | inr h ↦ absurd (refused found h.1)
     ]
   where
@@ -158,7 +138,7 @@ second_kind instance valid word rest found e =
       | inl h ↦
           let a = bind_ok (count_line instance rest) (λ line. Ok (Some line)) found h.1 in
           let taken : IsFound instance (codes "C" ∷ rest) (Some a.0) = count_takes instance valid rest a.0 a.1 in
-          rw (word_is word (codes "C") h.0) (subst (IsFound instance (codes "C" ∷ rest)) (ok_is {E = CertCause} (Some a.0) found a.2) taken)
+          rw (is_word word (codes "C") h.0) (subst (IsFound instance (codes "C" ∷ rest)) (ok_is {E = CertCause} (Some a.0) found a.2) taken)
       | inr h ↦ last_kind instance valid word rest found h.1
     ]
 
@@ -171,38 +151,38 @@ certificate_takes instance valid fields found e =
       | inl h ↦
           let b = bind_ok (ended a.0.1) (λ end. Ok None) found h.1 in
           let none : Option Line = None in
-          let taken : IsFound instance (a.0.0 ∷ a.0.1) none = rw (word_is a.0.0 (codes "END") h.0, ended_takes a.0.1 b.0 b.1) refl in
+          let taken : IsFound instance (a.0.0 ∷ a.0.1) none = rw (is_word a.0.0 (codes "END") h.0, ended_takes a.0.1 b.0 b.1) refl in
           subst (IsFound instance (a.0.0 ∷ a.0.1)) (ok_is {E = CertCause} none found b.2) taken
       | inr h ↦ second_kind instance valid a.0.0 a.0.1 found h.1
     ])
 
-count_again : (instance : Instance) → IsInstance instance → (line : Line) (cites : List ℕ) → AreLiterals instance line.lits → AreCites cites → line.rule ≡ Count cites
+count_again : (instance : Instance) → IsInstance instance → (line : Line) (cites : List ℕ) → IsTagFor instance line.tag → AreLiterals instance line.lits → AreCites cites → line.rule ≡ Count cites
     → count_line instance (map decimal ((tag_numbers line.tag ++ list_numbers line.lits) ++ (length cites ∷ cites))) ≡ Ok line
 unfolding count_line
-count_again instance valid line cites lits few rule =
+count_again instance valid line cites tag lits few rule =
     let last : List (List ℕ) = map decimal (length cites ∷ cites) ++ [] in
     let middle : List (List ℕ) = map decimal (list_numbers line.lits) ++ last in
     ap (count_line instance) (three_numbers (tag_numbers line.tag) (list_numbers line.lits) (length cites ∷ cites))
-    ∙ rw (tag_again line.tag middle, literals_again instance valid line.lits last lits, cites_again cites [] few) (ap (λ (r : Rule). Ok (record { tag = line.tag; lits = line.lits; rule = r })) (sym rule))
+    ∙ rw (tag_again instance line.tag middle tag, literals_again instance valid line.lits last lits, cites_again cites [] few) (ap (λ (r : Rule). Ok (record { tag = line.tag; lits = line.lits; rule = r })) (sym rule))
 
-branch_again : (instance : Instance) → IsInstance instance → (line : Line) (path : ℕ) (children : List Child) → AreLiterals instance line.lits → path < length instance.paths → AreChildren instance path children → line.rule ≡ Branch path children
+branch_again : (instance : Instance) → IsInstance instance → (line : Line) (path : ℕ) (children : List Child) → IsTagFor instance line.tag → AreLiterals instance line.lits → path < length instance.paths → AreChildren instance path children → line.rule ≡ Branch path children
     → branch_line instance (map decimal ((tag_numbers line.tag ++ list_numbers line.lits) ++ (path ∷ length children ∷ flat_map child_numbers children))) ≡ Ok line
 unfolding branch_line
-branch_again instance valid line path children lits lt all rule =
+branch_again instance valid line path children tag lits lt all rule =
     let behind : List (List ℕ) = map decimal (length children ∷ flat_map child_numbers children) ++ [] in
     let last : List (List ℕ) = decimal path ∷ behind in
     let middle : List (List ℕ) = map decimal (list_numbers line.lits) ++ last in
     ap (branch_line instance) (three_numbers (tag_numbers line.tag) (list_numbers line.lits) (path ∷ length children ∷ flat_map child_numbers children))
-    ∙ rw (tag_again line.tag middle, literals_again instance valid line.lits last lits, position_again instance valid path behind lt, children_again instance valid path lt children [] all) (ap (λ (r : Rule). Ok (record { tag = line.tag; lits = line.lits; rule = r })) (sym rule))
+    ∙ rw (tag_again instance line.tag middle tag, literals_again instance valid line.lits last lits, position_again instance valid path behind lt, children_again instance valid path lt children [] all) (ap (λ (r : Rule). Ok (record { tag = line.tag; lits = line.lits; rule = r })) (sym rule))
 
-rule_again : (instance : Instance) → IsInstance instance → (line : Line) (rule : Rule) → AreLiterals instance line.lits → IsRule instance rule → line.rule ≡ rule
+rule_again : (instance : Instance) → IsInstance instance → (line : Line) (rule : Rule) → IsTagFor instance line.tag → AreLiterals instance line.lits → IsRule instance rule → line.rule ≡ rule
     → certificate_line instance (rule_word rule ∷ map decimal ((tag_numbers line.tag ++ list_numbers line.lits) ++ rule_numbers rule)) ≡ Ok (Some line)
 unfolding certificate_line
-rule_again instance valid line (Count cites) lits h e = ap (λ (r : Result Line CertCause). r >>= λ l. Ok (Some l)) (count_again instance valid line cites lits h e)
-rule_again instance valid line (Branch path children) lits h e = ap (λ (r : Result Line CertCause). r >>= λ l. Ok (Some l)) (branch_again instance valid line path children lits h.0 h.1 e)
+rule_again instance valid line (Count cites) tag lits h e = ap (λ (r : Result Line CertCause). r >>= λ l. Ok (Some l)) (count_again instance valid line cites tag lits h e)
+rule_again instance valid line (Branch path children) tag lits h e = ap (λ (r : Result Line CertCause). r >>= λ l. Ok (Some l)) (branch_again instance valid line path children tag lits h.0 h.1 e)
 
 pub certificate_again : (instance : Instance) → IsInstance instance → (line : Line) → IsLine instance line → certificate_line instance (certificate_fields line) ≡ Ok (Some line)
-certificate_again instance valid line h = rule_again instance valid line line.rule h.lits h.rule refl
+certificate_again instance valid line h = rule_again instance valid line line.rule h.tag h.lits h.rule refl
 
 pub certificate_ends : (instance : Instance) → certificate_line instance (codes "END" ∷ []) ≡ Ok None
 unfolding certificate_line

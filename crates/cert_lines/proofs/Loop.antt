@@ -2,9 +2,10 @@
 use Rattle.std.proofs.Common.{◌≡◌, ℕ, suc, ◌-◌, ◌+◌, ◌≤◌, ◌<◌, List, [], ◌∷◌, ◌++◌, Result, Ok, Err, refl, sym, ap, ◌∙◌, append_assoc, arith}
 use Rattle.std.proofs.lemmas.List.{append-nil}
 use Rattle.cert_lines.specs.declared.fault.CertCause.{CertCause}
-use Rattle.cert_lines.specs.declared.fault.LineError.{LineError}
-use Rattle.cert_lines.specs.declared.fault.LineError.TheVariants as errors
-use Rattle.cert_lines.specs.Steps.{◌>>=◌, Fails, many}
+use Rattle.fapp_text.specs.declared.failure.Failure.{Failure}
+use Rattle.fapp_text.specs.declared.failure.Failure.TheVariants as errors
+use Rattle.fapp_text.specs.Reading.{◌>>=◌, Fails}
+use Rattle.cert_lines.specs.ListReading.{many}
 use Rattle.cert_lines.specs.ListReading.{State}
 
 -- what was read before, and what is still read
@@ -26,10 +27,10 @@ goes_on step front count i s n after total lt h so_far =
     let one : with_front front (many step (count - i) s) ≡ with_front (front ++ n ∷ []) (many step (count - (i + 1)) after) = rw (k, h) (regroup front n (many step (count - (i + 1)) after)) in
     sym one ∙ so_far
 
-pub ends : {A : Type 0} (step : State → Result (A × State) CertCause) (e : LineError) (front : List A) (count i : ℕ) (s : State) (total : Result (List A × State) CertCause) → i < count → Fails e (step s)
+pub ends : {A : Type 0} (step : State → Result (A × State) CertCause) (e : Failure CertCause) (front : List A) (count i : ℕ) (s : State) (total : Result (List A × State) CertCause) → i < count → Fails e (step s)
     → with_front front (many step (count - i) s) ≡ total → Fails e (without_low total)
 ends step errors.NoMemory front count i s total lt h so_far = tt
-ends step (errors.Cause f) front count i s total lt h so_far =
+ends step (errors.Bad f) front count i s total lt h so_far =
     let k : count - i ≡ suc (count - (i + 1)) = omega arith in
     let one : with_front front (many step (count - i) s) ≡ Err f = rw (k, h) refl in
     ap without_low (sym so_far ∙ one)

@@ -2,8 +2,10 @@
 use Rattle.std.proofs.Common.{◌≡◌, ℕ, ◌+◌, ◌-◌, Bool, true, false, cond, eqb, List, [], ◌∷◌, length, take, drop, Some, None, Ok, Err, refl, ap, ◌∙◌}
 use Rattle.std.specs.List.{position, onto_first}
 use Rattle.cert_lines.specs.declared.fault.CertCause.TheVariants.{NoEnd, AfterEnd}
+use Rattle.fapp_text.specs.Lines.{is_line_feed}
+use Rattle.fapp_text.specs.Reading.{fault}
 use Rattle.cert_lines.specs.FieldReading.{fields_of}
-use Rattle.cert_lines.specs.Reading.{Rest, is_line_feed, parts_of, fault, next_line, finished}
+use Rattle.cert_lines.specs.Reading.{Rest, parts_of, next_line, finished}
 use Rattle.cert_lines.proofs.Splits.{split_some, split_none}
 
 -- a text has a first part

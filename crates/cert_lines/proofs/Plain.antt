@@ -15,7 +15,8 @@ use Rattle.cert_lines.specs.declared.answer.Verdict.{Verdict}
 use Rattle.cert_lines.specs.declared.answer.Verdict.TheVariants.{Best, NoneFeasible, Open}
 use Rattle.cert_lines.specs.Spelling.{line_text, triple_numbers, tag_numbers, list_numbers, rule_word, rule_numbers, certificate_fields, verdict_fields, choice_fields, plan_lines}
 use Rattle.cert_lines.specs.FieldReading.{is_space, fields_of}
-use Rattle.cert_lines.specs.Reading.{is_line_feed, parts_of}
+use Rattle.fapp_text.specs.Lines.{is_line_feed}
+use Rattle.cert_lines.specs.Reading.{parts_of}
 
 abbrev pub IsPlain : List ℕ → Type 0
 IsPlain field = AllByRecursion (λ b. 45 ≤ b) field

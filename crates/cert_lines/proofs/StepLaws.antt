@@ -1,13 +1,14 @@
 -- Lists in the midst of a line, both ways, whatever each element is.
-use Rattle.std.proofs.Common.{◌≡◌, ℕ, zero, suc, ◌+◌, ◌≤◌, List, [], ◌∷◌, ◌++◌, length, map, decimal, Result, Ok, refl, sym, ap, subst, ◌∙◌}
+use Rattle.std.proofs.Common.{◌≡◌, ℕ, zero, suc, ◌+◌, ◌<◌, ◌≤◌, List, [], ◌∷◌, ◌++◌, length, map, All, AllPairs, decimal, Result, Ok, refl, sym, ap, subst, ◌∙◌, arith}
 use Rattle.std.specs.List.{flat_map, AllByRecursion}
+use Rattle.std.proofs.lemmas.List.Elements.{All-from_recursion, recursion_from_All}
 use Rattle.fapp_model.specs.Instances.{IsNumber}
 use Rattle.cert_lines.specs.declared.fault.CertCause.{CertCause}
-use Rattle.cert_lines.specs.Steps.{◌>>=◌, many}
+use Rattle.fapp_text.specs.Reading.{◌>>=◌}
 use Rattle.cert_lines.specs.FieldReading.{number_at}
-use Rattle.cert_lines.specs.ListReading.{State, counted, list_at}
-use Rattle.cert_lines.proofs.Ascending.{AscendsFrom}
-use Rattle.cert_lines.proofs.Binds.{bind_ok, ok_is}
+use Rattle.cert_lines.specs.ListReading.{State, many, counted, list_at}
+use Rattle.cert_lines.proofs.Ascending.{AscendsFrom, pairs_from, ascends}
+use Rattle.fapp_text.proofs.Steps.{bind_ok, ok_is}
 use Rattle.cert_lines.proofs.FieldLaws.{Takes, split_numbers, takes_both, number_takes, number_again}
 
 -- a step reads an element that is written as these numbers, and its key is at least the least that may come
@@ -53,8 +54,8 @@ many_again {A} numbers key Valid step law (x ∷ xs) low rest valid up =
 pub record AreListed {A : Type 0} (numbers : A → List ℕ) (key : A → ℕ) (Valid : A → Type 0) (fields : List (List ℕ)) (x : List A × List (List ℕ)) : Type 0 where
   pub text : Takes fields (length x.0 ∷ flat_map numbers x.0) x.1
   pub few : IsNumber (length x.0)
-  pub each : AllByRecursion Valid x.0
-  pub up : AscendsFrom 0 (map key x.0)
+  pub each : All Valid x.0
+  pub up : AllPairs (λ a b. key a < key b) x.0
 
 pub list_takes : {A : Type 0} (numbers : A → List ℕ) (key : A → ℕ) (Valid : A → Type 0) (step : State → Result (A × State) CertCause) → IsStep numbers key Valid step
     → (fields : List (List ℕ)) (x : List A × List (List ℕ)) → list_at step fields ≡ Ok x → AreListed numbers key Valid fields x
@@ -69,15 +70,15 @@ list_takes {A} numbers key Valid step law fields x e =
     subst (AreListed numbers key Valid fields) (ok_is {E = CertCause} made x b.2) (record {
       text = subst (λ (n : ℕ). Takes fields (n ∷ flat_map numbers b.0.0) b.0.1.1) (sym items.1) text;
       few = subst IsNumber (sym items.1) count.1;
-      each = items.2;
-      up = items.3;
+      each = All-from_recursion Valid b.0.0 items.2;
+      up = pairs_from key 0 b.0.0 items.3;
     })
 
 pub list_again : {A : Type 0} (numbers : A → List ℕ) (key : A → ℕ) (Valid : A → Type 0) (step : State → Result (A × State) CertCause) → IsStep numbers key Valid step
-    → (xs : List A) (rest : List (List ℕ)) → IsNumber (length xs) → AllByRecursion Valid xs → AscendsFrom 0 (map key xs)
+    → (xs : List A) (rest : List (List ℕ)) → IsNumber (length xs) → All Valid xs → AllPairs (λ a b. key a < key b) xs
     → list_at step (map decimal (length xs ∷ flat_map numbers xs) ++ rest) ≡ Ok (xs, rest)
 unfolding list_at
 list_again {A} numbers key Valid step law xs rest few valid up =
-    let all = many_again numbers key Valid step law xs 0 rest valid up in
+    let all = many_again numbers key Valid step law xs 0 rest (recursion_from_All Valid xs valid) (ascends key 0 xs (λ k d l. omega arith) up) in
     ap (λ (r : Result (ℕ × List (List ℕ)) CertCause). r >>= λ count. counted step count.0 count.1) (number_again (length xs) (map decimal (flat_map numbers xs) ++ rest) few)
     ∙ ap (λ (r : Result (List A × State) CertCause). r >>= λ items. Ok (items.0, items.1.1)) all.1

@@ -3,24 +3,23 @@ use Rattle.std.proofs.Common.{◌≡◌, ℕ, List, None, Result, Ok, Err, refl,
 use Rattle.fapp_model.specs.declared.instance.Instance.{Instance}
 use Rattle.fapp_model.specs.Instances.{IsInstance}
 use Rattle.cert_lines.specs.declared.answer.Answer.{Answer}
-use Rattle.cert_lines.specs.declared.fault.AnswerError.{AnswerError}
-use Rattle.cert_lines.specs.declared.fault.AnswerError.TheVariants as errors
-use Rattle.cert_lines.specs.declared.fault.BadCert.{BadCert}
+use Rattle.fapp_text.specs.declared.failure.Failure.{Failure}
+use Rattle.fapp_text.specs.declared.failure.Failure.TheVariants as errors
 use Rattle.cert_lines.specs.Laws.{OneText, NoFault, FaultBehind, TextOfAnswer, InParts}
-use Rattle.cert_lines.specs.Reading.{fault_in, reading, IsReading}
-use Rattle.cert_lines.specs.Steps.{TextGives}
+use Rattle.cert_lines.specs.Reading.{TextFault, fault_in, reading, IsReading}
+use Rattle.fapp_text.specs.Reading.{Gives}
 use Rattle.cert_lines.proofs.AgainLaws.{reading_again, reading_past}
-use Rattle.cert_lines.proofs.Binds.{ok_is}
+use Rattle.fapp_text.proofs.Steps.{ok_is}
 use Rattle.cert_lines.proofs.TextLaws.{reading_takes}
 
-pub is_reading : (instance : Instance) → IsInstance instance → (bytes : List ℕ) (result : Result Answer AnswerError) → TextGives (λ x. x) result (reading instance bytes) → IsReading instance bytes result
+pub is_reading : (instance : Instance) → IsInstance instance → (bytes : List ℕ) (result : Result Answer (Failure TextFault)) → Gives (λ x. x) result (reading instance bytes) → IsReading instance bytes result
 is_reading instance valid bytes (Ok answer) e = reading_takes instance valid bytes answer e
 is_reading instance valid bytes (Err errors.NoMemory) e = tt
 is_reading instance valid bytes (Err (errors.Bad found)) e = ap fault_in e
 
 pub one_text : OneText
 one_text instance valid answer other good fine same =
-    ok_is {E = BadCert} answer other (sym (reading_again instance valid answer good) ∙ ap (reading instance) same ∙ reading_again instance valid other fine)
+    ok_is {E = TextFault} answer other (sym (reading_again instance valid answer good) ∙ ap (reading instance) same ∙ reading_again instance valid other fine)
 
 pub no_fault : NoFault
 no_fault instance valid answer good = ap fault_in (reading_again instance valid answer good)
@@ -28,7 +27,7 @@ no_fault instance valid answer good = ap fault_in (reading_again instance valid 
 pub fault_behind : FaultBehind
 fault_behind instance valid answer good b more = ap fault_in (reading_past instance valid answer good b more)
 
-no_fault_ok : (read : Result Answer BadCert) → fault_in read ≡ None → (answer : Answer) × (read ≡ Ok answer)
+no_fault_ok : (read : Result Answer TextFault) → fault_in read ≡ None → (answer : Answer) × (read ≡ Ok answer)
 no_fault_ok (Ok answer) e = (answer, refl)
 no_fault_ok (Err found) e = absurd cc
 

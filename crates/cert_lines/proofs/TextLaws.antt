@@ -1,7 +1,8 @@
 -- A text that was read is that of its answer.
-use Rattle.std.proofs.Common.{◌≡◌, ℕ, ◌+◌, ◌≤◌, List, [], ◌∷◌, ◌++◌, length, map, codes, Option, Some, None, Result, Ok, Err, refl, sym, ap, subst, ◌∙◌, append_assoc, arith}
+use Rattle.std.proofs.Common.{◌≡◌, ℕ, ◌+◌, ◌≤◌, List, [], ◌∷◌, ◌++◌, length, map, drop, codes, Option, Some, None, Result, Ok, refl, sym, ap, subst, ◌∙◌, append_assoc, arith}
 use Rattle.std.specs.List.{flat_map, join_with_byte, AllByRecursion}
 use Rattle.std.proofs.lemmas.List.{append-nil}
+use Rattle.std.proofs.lemmas.List.Elements.{All-from_recursion}
 use Rattle.std.proofs.lemmas.List.Concat.{flat_map-append}
 use Rattle.std.proofs.lemmas.List.Splits.{join_with_byte-slice_split}
 use Rattle.fapp_model.specs.declared.choice.Choice.{Choice}
@@ -10,16 +11,18 @@ use Rattle.fapp_model.specs.declared.instance.Path.{Path}
 use Rattle.fapp_model.specs.Instances.{IsInstance}
 use Rattle.cert_lines.specs.declared.answer.Answer.{Answer}
 use Rattle.cert_lines.specs.declared.answer.Line.{Line}
-use Rattle.cert_lines.specs.declared.fault.BadCert.{BadCert}
 use Rattle.cert_lines.specs.declared.fault.CertCause.{CertCause}
-use Rattle.cert_lines.specs.Steps.{◌>>=◌}
+use Rattle.fapp_text.specs.Reading.{◌>>=◌, at_line}
 use Rattle.cert_lines.specs.Spelling.{line_text, choice_fields, certificate_fields, verdict_fields, plan_lines, lines_text, answer_text}
 use Rattle.cert_lines.specs.WellFormed.{IsShown, IsLine, IsWellFormed}
 use Rattle.cert_lines.specs.FieldReading.{fields_of}
-use Rattle.cert_lines.specs.LineReading.{plan_line, verdict_line, certificate_line}
-use Rattle.cert_lines.specs.Reading.{Rest, parts_of, next_line, placed, line_by, and_then, until, paired, alone, finished, reading}
-use Rattle.cert_lines.proofs.Binds.{bind_ok, ok_is}
-use Rattle.cert_lines.proofs.HeadLaws.{plan_takes, verdict_takes}
+use Rattle.cert_lines.specs.PlanReading.{plan_line}
+use Rattle.cert_lines.specs.VerdictReading.{verdict_line}
+use Rattle.cert_lines.specs.CertificateReading.{certificate_line}
+use Rattle.cert_lines.specs.Reading.{TextFault, Rest, parts_of, next_line, line_by, and_then, until, finished, reading}
+use Rattle.fapp_text.proofs.Steps.{bind_ok, at_line_ok, ok_is}
+use Rattle.cert_lines.proofs.PlanLaws.{plan_takes}
+use Rattle.cert_lines.proofs.VerdictLaws.{verdict_takes}
 use Rattle.cert_lines.proofs.LineLaws.{certificate_takes}
 
 abbrev pub joined : List (List ℕ) → List ℕ
@@ -28,10 +31,6 @@ joined fields = join_with_byte 32 fields
 -- a line is its fields
 line_is : (line : List ℕ) (fields : List (List ℕ)) → fields_of line ≡ fields → line ≡ joined fields
 line_is line fields e = sym (join_with_byte-slice_split 32 line) ∙ ap joined e
-
-placed_ok : {A : Type 0} (line : ℕ) (r : Result A CertCause) (x : A) → placed line r ≡ Ok x → r ≡ Ok x
-placed_ok line (Ok y) x e = cc
-placed_ok line (Err cause) x e = absurd cc
 
 -- the line that was taken from a rest
 abbrev IsTaken : Rest → List (List ℕ) × Rest → Type 0
@@ -43,7 +42,7 @@ next_takes (number, []) x e = absurd cc
 next_takes (number, last ∷ []) x e = absurd cc
 next_takes (number, line ∷ next ∷ parts) x e =
     let made : List (List ℕ) × Rest = (fields_of line, (number + 1, next ∷ parts)) in
-    subst (IsTaken (number, line ∷ next ∷ parts)) (ok_is {E = BadCert} made x e) (line, refl, refl)
+    subst (IsTaken (number, line ∷ next ∷ parts)) (ok_is {E = TextFault} made x e) (line, refl, refl)
 
 abbrev IsReadBy : {A : Type 0} → (List (List ℕ) → Result A CertCause) → Rest → A × Rest → Type 0
 IsReadBy read rest x = (line : List ℕ) × (rest.1 ≡ line ∷ x.1.1) × (read (fields_of line) ≡ Ok x.0)
@@ -51,35 +50,35 @@ IsReadBy read rest x = (line : List ℕ) × (rest.1 ≡ line ∷ x.1.1) × (read
 line_takes : {A : Type 0} (read : List (List ℕ) → Result A CertCause) (rest : Rest) (x : A × Rest) → line_by read rest ≡ Ok x → IsReadBy read rest x
 unfolding line_by
 line_takes {A} read rest x e =
-    let a = bind_ok (next_line rest) (λ line. placed rest.0 (read line.0) >>= λ found. Ok (found, line.1)) x e in
-    let b = bind_ok (placed rest.0 (read a.0.0)) (λ found. Ok (found, a.0.1)) x a.2 in
+    let a = bind_ok (next_line rest) (λ line. at_line rest.0 (read line.0) >>= λ found. Ok (found, line.1)) x e in
+    let b = bind_ok (at_line rest.0 (read a.0.0)) (λ found. Ok (found, a.0.1)) x a.2 in
     let t = next_takes rest a.0 a.1 in
     let made : A × Rest = (b.0, a.0.1) in
-    subst (IsReadBy read rest) (ok_is {E = BadCert} made x b.2) (t.0, t.1, ap read t.2 ∙ placed_ok rest.0 (read a.0.0) b.0 b.1)
+    subst (IsReadBy read rest) (ok_is {E = TextFault} made x b.2) (t.0, t.1, ap read t.2 ∙ at_line_ok rest.0 (read a.0.0) b.0 b.1)
 
--- what lines say, whatever reads them: Q relates a state and items to the fields of the lines
-pub record IsSaid {A S : Type 0} (read : S → List (List ℕ) → Result (Option (A × S)) CertCause) (Q : S → List A → List (List (List ℕ)) → Type 0) : Type 0 where
-  pub end : (s : S) (fields : List (List ℕ)) → read s fields ≡ Ok None → Q s [] (fields ∷ [])
-  pub more : (s : S) (fields : List (List ℕ)) (x : A × S) (items : List A) (lines : List (List (List ℕ))) → read s fields ≡ Ok (Some x) → Q x.1 items lines → Q s (x.0 ∷ items) (fields ∷ lines)
+-- what lines say, whatever reads them: Q relates a place and items to the fields of the lines
+pub record IsSaid {A : Type 0} (read : ℕ → List (List ℕ) → Result (Option A) CertCause) (Q : ℕ → List A → List (List (List ℕ)) → Type 0) : Type 0 where
+  pub end : (place : ℕ) (fields : List (List ℕ)) → read place fields ≡ Ok None → Q place [] (fields ∷ [])
+  pub more : (place : ℕ) (fields : List (List ℕ)) (x : A) (items : List A) (lines : List (List (List ℕ))) → read place fields ≡ Ok (Some x) → Q (place + 1) items lines → Q place (x ∷ items) (fields ∷ lines)
 
-abbrev AreSaid : {A S : Type 0} → (S → List A → List (List (List ℕ)) → Type 0) → S → List (List ℕ) → List A × Rest → Type 0
-AreSaid Q s parts x = (lines : List (List (List ℕ))) × Q s x.0 lines × (parts ≡ map joined lines ++ x.1.1)
+abbrev AreSaid : {A : Type 0} → (ℕ → List A → List (List (List ℕ)) → Type 0) → ℕ → List (List ℕ) → List A × Rest → Type 0
+AreSaid Q place parts x = (lines : List (List (List ℕ))) × Q place x.0 lines × (parts ≡ map joined lines ++ x.1.1)
 
 -- one line, and those after it
-line_said : {A S : Type 0} (read : S → List (List ℕ) → Result (Option (A × S)) CertCause) (Q : S → List A → List (List (List ℕ)) → Type 0) → IsSaid read Q
-    → (s : S) (number : ℕ) (parts : List (List ℕ)) (line : List ℕ) (after : Rest) (found : Option (A × S)) (x : List A × Rest)
-    → after.1 ≡ parts → read s (fields_of line) ≡ Ok found → ((t : S) (y : List A × Rest) → until read t (number + 1) parts ≡ Ok y → AreSaid Q t parts y)
-    → and_then found (λ t. until read t (number + 1) parts) after ≡ Ok x → AreSaid Q s (line ∷ parts) x
-line_said {A} {S} read Q law s number parts line after None x same h later e =
+line_said : {A : Type 0} (read : ℕ → List (List ℕ) → Result (Option A) CertCause) (Q : ℕ → List A → List (List (List ℕ)) → Type 0) → IsSaid read Q
+    → (place number : ℕ) (parts : List (List ℕ)) (line : List ℕ) (after : Rest) (found : Option A) (x : List A × Rest)
+    → after.1 ≡ parts → read place (fields_of line) ≡ Ok found → ((y : List A × Rest) → until read (place + 1) (number + 1) parts ≡ Ok y → AreSaid Q (place + 1) parts y)
+    → and_then found (until read (place + 1) (number + 1) parts) after ≡ Ok x → AreSaid Q place (line ∷ parts) x
+line_said {A} read Q law place number parts line after None x same h later e =
     let made : List A × Rest = ([], after) in
     let text : line ∷ parts ≡ joined (fields_of line) ∷ after.1 = ap (λ (l : List ℕ). l ∷ parts) (line_is line (fields_of line) refl) ∙ ap (λ (p : List (List ℕ)). joined (fields_of line) ∷ p) (sym same) in
-    subst (AreSaid Q s (line ∷ parts)) (ok_is {E = BadCert} made x e) (fields_of line ∷ [], law.end s (fields_of line) h, text)
-line_said {A} {S} read Q law s number parts line after (Some found) x same h later e =
-    let b = bind_ok (until read found.1 (number + 1) parts) (λ others. Ok (found.0 ∷ others.0, others.1)) x e in
-    let rest = later found.1 b.0 b.1 in
-    let made : List A × Rest = (found.0 ∷ b.0.0, b.0.1) in
+    subst (AreSaid Q place (line ∷ parts)) (ok_is {E = TextFault} made x e) (fields_of line ∷ [], law.end place (fields_of line) h, text)
+line_said {A} read Q law place number parts line after (Some found) x same h later e =
+    let b = bind_ok (until read (place + 1) (number + 1) parts) (λ others. Ok (found ∷ others.0, others.1)) x e in
+    let rest = later b.0 b.1 in
+    let made : List A × Rest = (found ∷ b.0.0, b.0.1) in
     let text : line ∷ parts ≡ joined (fields_of line) ∷ (map joined rest.0 ++ b.0.1.1) = ap (λ (l : List ℕ). l ∷ parts) (line_is line (fields_of line) refl) ∙ ap (λ (p : List (List ℕ)). joined (fields_of line) ∷ p) rest.2 in
-    subst (AreSaid Q s (line ∷ parts)) (ok_is {E = BadCert} made x b.2) (fields_of line ∷ rest.0, law.more s (fields_of line) found b.0.0 rest.0 h rest.1, text)
+    subst (AreSaid Q place (line ∷ parts)) (ok_is {E = TextFault} made x b.2) (fields_of line ∷ rest.0, law.more place (fields_of line) found b.0.0 rest.0 h rest.1, text)
 
 tail_of : List (List ℕ) → List (List ℕ)
 tail_of [] = []
@@ -89,61 +88,48 @@ head_of : List (List ℕ) → List ℕ
 head_of [] = []
 head_of (x ∷ xs) = x
 
-pub until_takes : {A S : Type 0} (read : S → List (List ℕ) → Result (Option (A × S)) CertCause) (Q : S → List A → List (List (List ℕ)) → Type 0) → IsSaid read Q
-    → (s : S) (number : ℕ) (parts : List (List ℕ)) (x : List A × Rest) → until read s number parts ≡ Ok x → AreSaid Q s parts x
+pub until_takes : {A : Type 0} (read : ℕ → List (List ℕ) → Result (Option A) CertCause) (Q : ℕ → List A → List (List (List ℕ)) → Type 0) → IsSaid read Q
+    → (place number : ℕ) (parts : List (List ℕ)) (x : List A × Rest) → until read place number parts ≡ Ok x → AreSaid Q place parts x
 unfolding tail_of head_of
-until_takes read Q law s number [] x e = absurd cc
-until_takes read Q law s number (line ∷ parts) x e =
-    let a = bind_ok (line_by (read s) (number, line ∷ parts)) (λ y. and_then y.0 (λ t. until read t (number + 1) parts) y.1) x e in
-    let t = line_takes (read s) (number, line ∷ parts) a.0 a.1 in
+until_takes read Q law place number [] x e = absurd cc
+until_takes read Q law place number (line ∷ parts) x e =
+    let a = bind_ok (line_by (read place) (number, line ∷ parts)) (λ y. and_then y.0 (until read (place + 1) (number + 1) parts) y.1) x e in
+    let t = line_takes (read place) (number, line ∷ parts) a.0 a.1 in
     let same_line : line ≡ t.0 = ap head_of t.1 in
     let same_rest : parts ≡ a.0.1.1 = ap tail_of t.1 in
-    line_said read Q law s number parts line a.0.1 a.0.0 x (sym same_rest) (ap (λ (l : List ℕ). read s (fields_of l)) same_line ∙ t.2) (λ u y. until_takes read Q law u (number + 1) parts y) a.2
+    line_said read Q law place number parts line a.0.1 a.0.0 x (sym same_rest) (ap (λ (l : List ℕ). read place (fields_of l)) same_line ∙ t.2) (λ y. until_takes read Q law (place + 1) (number + 1) parts y) a.2
 
 -- ---- plans, certificates, and the whole text
 
-abbrev SaysPlan : List Path → List Choice → List (List (List ℕ)) → Type 0
-SaysPlan paths items lines = (lines ≡ plan_lines paths items ++ (codes "--" ∷ []) ∷ []) × (length items ≤ length paths) × AllByRecursion IsShown items
+abbrev SaysPlan : Instance → ℕ → List Choice → List (List (List ℕ)) → Type 0
+SaysPlan instance place items lines = (lines ≡ plan_lines (drop place instance.paths) items ++ (codes "--" ∷ []) ∷ []) × (length items ≤ length (drop place instance.paths)) × AllByRecursion IsShown items
 
-plan_end : (instance : Instance) (paths : List Path) (fields : List (List ℕ)) → plan_line instance paths fields ≡ Ok None → SaysPlan paths [] (fields ∷ [])
-plan_end instance paths fields e = (ap (λ (f : List (List ℕ)). f ∷ []) (plan_takes instance paths fields None e), omega arith, tt)
+plan_end : (instance : Instance) (place : ℕ) (fields : List (List ℕ)) → plan_line instance place fields ≡ Ok None → SaysPlan instance place [] (fields ∷ [])
+plan_end instance place fields e = (ap (λ (f : List (List ℕ)). f ∷ []) (plan_takes instance place fields None e), omega arith, tt)
 
-plan_more : (instance : Instance) (paths : List Path) (fields : List (List ℕ)) (x : Choice × List Path) (items : List Choice) (lines : List (List (List ℕ))) → plan_line instance paths fields ≡ Ok (Some x) → SaysPlan x.1 items lines → SaysPlan paths (x.0 ∷ items) (fields ∷ lines)
-plan_more instance paths fields x items lines e said =
-    let h = plan_takes instance paths fields (Some x) e in
-    let text : fields ∷ lines ≡ plan_lines (h.0 ∷ x.1) (x.0 ∷ items) ++ (codes "--" ∷ []) ∷ [] = ap (λ (f : List (List ℕ)). f ∷ lines) h.2 ∙ ap (λ (ls : List (List (List ℕ))). choice_fields h.0 x.0 ∷ ls) said.0 in
-    subst (λ (ps : List Path). SaysPlan ps (x.0 ∷ items) (fields ∷ lines)) (sym h.1) (text, omega (arith, said.1), (h.3, said.2))
+-- the same by the paths that have no line yet
+abbrev SaysOf : List Path → List Choice → List (List (List ℕ)) → Type 0
+SaysOf paths items lines = (lines ≡ plan_lines paths items ++ (codes "--" ∷ []) ∷ []) × (length items ≤ length paths) × AllByRecursion IsShown items
 
-plan_said : (instance : Instance) → IsSaid (plan_line instance) SaysPlan
+plan_more : (instance : Instance) (place : ℕ) (fields : List (List ℕ)) (x : Choice) (items : List Choice) (lines : List (List (List ℕ))) → plan_line instance place fields ≡ Ok (Some x) → SaysPlan instance (place + 1) items lines → SaysPlan instance place (x ∷ items) (fields ∷ lines)
+plan_more instance place fields x items lines e said =
+    let h = plan_takes instance place fields (Some x) e in
+    let others = drop (place + 1) instance.paths in
+    let text : fields ∷ lines ≡ plan_lines (h.0 ∷ others) (x ∷ items) ++ (codes "--" ∷ []) ∷ [] = ap (λ (f : List (List ℕ)). f ∷ lines) h.2 ∙ ap (λ (ls : List (List (List ℕ))). choice_fields h.0 x ∷ ls) said.0 in
+    subst (λ (ps : List Path). SaysOf ps (x ∷ items) (fields ∷ lines)) (sym h.1) (text, omega (arith, said.1), (h.3, said.2))
+
+plan_said : (instance : Instance) → IsSaid (plan_line instance) (SaysPlan instance)
 plan_said instance = record { end = plan_end instance; more = plan_more instance }
 
-abbrev SaysLines : Instance → Unit {0} → List Line → List (List (List ℕ)) → Type 0
-SaysLines instance s items lines = (lines ≡ map certificate_fields items ++ (codes "END" ∷ []) ∷ []) × AllByRecursion (IsLine instance) items
+abbrev SaysLines : Instance → ℕ → List Line → List (List (List ℕ)) → Type 0
+SaysLines instance place items lines = (lines ≡ map certificate_fields items ++ (codes "END" ∷ []) ∷ []) × AllByRecursion (IsLine instance) items
 
-alone_none : {A : Type 0} (r : Result (Option A) CertCause) → ◌≡◌ {A = Result (Option (A × Unit {0})) CertCause} (r >>= λ found. Ok (paired found)) (Ok None) → r ≡ Ok None
-alone_none (Ok None) e = refl
-alone_none (Ok (Some x)) e = absurd cc
-alone_none (Err cause) e = absurd cc
-
-first_of_pair : {A : Type 0} → A → Option (A × Unit {0}) → A
-first_of_pair d None = d
-first_of_pair d (Some x) = x.0
-
-alone_some : {A : Type 0} (r : Result (Option A) CertCause) (x : A × Unit {0}) → ◌≡◌ {A = Result (Option (A × Unit {0})) CertCause} (r >>= λ found. Ok (paired found)) (Ok (Some x)) → r ≡ Ok (Some x.0)
-unfolding first_of_pair
-alone_some (Ok None) x e = absurd cc
-alone_some {A} (Ok (Some y)) x e =
-    let some : Option (A × Unit {0}) = Some x in
-    let same : y ≡ x.0 = ap (first_of_pair y) (ok_is {E = CertCause} (paired (Some y)) some e) in
-    ap (λ (z : A). Ok (Some z)) same
-alone_some (Err cause) x e = absurd cc
-
-lines_said : (instance : Instance) → IsInstance instance → IsSaid (alone (certificate_line instance)) (SaysLines instance)
+lines_said : (instance : Instance) → IsInstance instance → IsSaid (λ place. certificate_line instance) (SaysLines instance)
 lines_said instance valid = record {
-  end = λ s fields e. (ap (λ (f : List (List ℕ)). f ∷ []) (certificate_takes instance valid fields None (alone_none (certificate_line instance fields) e)), tt);
-  more = λ s fields x items lines e said.
-      let h = certificate_takes instance valid fields (Some x.0) (alone_some (certificate_line instance fields) x e) in
-      (ap (λ (f : List (List ℕ)). f ∷ lines) h.0 ∙ ap (λ (ls : List (List (List ℕ))). certificate_fields x.0 ∷ ls) said.0, (h.1, said.1));
+  end = λ place fields e. (ap (λ (f : List (List ℕ)). f ∷ []) (certificate_takes instance valid fields None e), tt);
+  more = λ place fields x items lines e said.
+      let h = certificate_takes instance valid fields (Some x) e in
+      (ap (λ (f : List (List ℕ)). f ∷ lines) h.0 ∙ ap (λ (ls : List (List (List ℕ))). certificate_fields x ∷ ls) said.0, (h.1, said.1));
 }
 
 finished_ok : (rest : Rest) (x : Unit {0}) → finished rest ≡ Ok x → rest.1 ≡ [] ∷ []
@@ -197,14 +183,14 @@ text_is instance answer =
 pub reading_takes : (instance : Instance) → IsInstance instance → (bytes : List ℕ) (answer : Answer) → reading instance bytes ≡ Ok answer → IsWellFormed instance answer × (bytes ≡ answer_text instance answer)
 unfolding reading lines_of
 reading_takes instance valid bytes answer e =
-    let a = bind_ok (until (plan_line instance) instance.paths 1 (parts_of bytes)) (λ plan. line_by (verdict_line instance) plan.1 >>= λ verdict. until (alone (certificate_line instance)) tt verdict.1.0 verdict.1.1 >>= λ lines. finished lines.1 >>= λ end. Ok (record { plan = plan.0; verdict = verdict.0; lines = lines.0 })) answer e in
-    let b = bind_ok (line_by (verdict_line instance) a.0.1) (λ verdict. until (alone (certificate_line instance)) tt verdict.1.0 verdict.1.1 >>= λ lines. finished lines.1 >>= λ end. Ok (record { plan = a.0.0; verdict = verdict.0; lines = lines.0 })) answer a.2 in
-    let c = bind_ok (until (alone (certificate_line instance)) tt b.0.1.0 b.0.1.1) (λ lines. finished lines.1 >>= λ end. Ok (record { plan = a.0.0; verdict = b.0.0; lines = lines.0 })) answer b.2 in
+    let a = bind_ok (until (plan_line instance) 0 1 (parts_of bytes)) (λ plan. line_by (verdict_line instance) plan.1 >>= λ verdict. until (λ place. certificate_line instance) 0 verdict.1.0 verdict.1.1 >>= λ lines. finished lines.1 >>= λ end. Ok (record { plan = plan.0; verdict = verdict.0; lines = lines.0 })) answer e in
+    let b = bind_ok (line_by (verdict_line instance) a.0.1) (λ verdict. until (λ place. certificate_line instance) 0 verdict.1.0 verdict.1.1 >>= λ lines. finished lines.1 >>= λ end. Ok (record { plan = a.0.0; verdict = verdict.0; lines = lines.0 })) answer a.2 in
+    let c = bind_ok (until (λ place. certificate_line instance) 0 b.0.1.0 b.0.1.1) (λ lines. finished lines.1 >>= λ end. Ok (record { plan = a.0.0; verdict = b.0.0; lines = lines.0 })) answer b.2 in
     let d = bind_ok (finished c.0.1) (λ end. Ok (record { plan = a.0.0; verdict = b.0.0; lines = c.0.0 })) answer c.2 in
-    let plan = until_takes (plan_line instance) SaysPlan (plan_said instance) instance.paths 1 (parts_of bytes) a.0 a.1 in
+    let plan = until_takes (plan_line instance) (SaysPlan instance) (plan_said instance) 0 1 (parts_of bytes) a.0 a.1 in
     let line = line_takes (verdict_line instance) a.0.1 b.0 b.1 in
     let verdict = verdict_takes instance valid (fields_of line.0) b.0.0 line.2 in
-    let lines = until_takes (alone (certificate_line instance)) (SaysLines instance) (lines_said instance valid) tt b.0.1.0 b.0.1.1 c.0 c.1 in
+    let lines = until_takes (λ place. certificate_line instance) (SaysLines instance) (lines_said instance valid) 0 b.0.1.0 b.0.1.1 c.0 c.1 in
     let made : Answer = record { plan = a.0.0; verdict = b.0.0; lines = c.0.0 } in
     let last : b.0.1.1 ≡ map joined lines.0 ++ [] ∷ [] = lines.2 ∙ ap (λ (r : List (List ℕ)). map joined lines.0 ++ r) (finished_ok c.0.1 d.0 d.1) in
     let middle : a.0.1.1 ≡ joined (verdict_fields b.0.0) ∷ (map joined lines.0 ++ [] ∷ []) = line.1 ∙ ap (λ (l : List ℕ). l ∷ b.0.1.1) (line_is line.0 (verdict_fields b.0.0) verdict.0) ∙ ap (λ (r : List (List ℕ)). joined (verdict_fields b.0.0) ∷ r) last in
@@ -212,4 +198,4 @@ reading_takes instance valid bytes answer e =
     let parts : parts_of bytes ≡ map joined all ++ [] ∷ [] = plan.2 ∙ ap (λ (r : List (List ℕ)). map joined plan.0 ++ r) middle ∙ sym (map_both plan.0 (verdict_fields b.0.0 ∷ lines.0) ([] ∷ [])) in
     let same : all ≡ lines_of instance.paths made = ap (λ (ls : List (List (List ℕ))). ls ++ (verdict_fields b.0.0 ∷ lines.0)) plan.1.0 ∙ ap (λ (ls : List (List (List ℕ))). (plan_lines instance.paths a.0.0 ++ (codes "--" ∷ []) ∷ []) ++ (verdict_fields b.0.0 ∷ ls)) lines.1.0 in
     let text : bytes ≡ answer_text instance made = sym (join_with_byte-slice_split 10 bytes) ∙ ap (join_with_byte 10) parts ∙ joined_text all ∙ ap (flat_map line_text) same ∙ text_is instance made in
-    subst (λ (x : Answer). IsWellFormed instance x × (bytes ≡ answer_text instance x)) (ok_is {E = BadCert} made answer d.2) (record { plan = plan.1.1; choices = plan.1.2; verdict = verdict.1; lines = lines.1.1 }, text)
+    subst (λ (x : Answer). IsWellFormed instance x × (bytes ≡ answer_text instance x)) (ok_is {E = TextFault} made answer d.2) (record { plan = plan.1.1; choices = All-from_recursion IsShown a.0.0 plan.1.2; verdict = verdict.1; lines = All-from_recursion (IsLine instance) c.0.0 lines.1.1 }, text)

@@ -2,14 +2,14 @@
 use Rattle.std.specs.Prelude.{◌≡◌, ℕ, Bool, true, false, ◌==◌, ◌&&◌, nat_lt, refl, List, [], ◌∷◌, length, slice_index, Result, Ok, Err, if◌then◌else◌}
 use Rattle.std.specs.List.{slice_split}
 use Rattle.fapp_text.specs.Numbers as digits
-use Rattle.fapp_text.specs.declared.numeral.NumFault.{NumFault}
+use Rattle.fapp_text.specs.Reading.{◌>>=◌, allowed, or_fault}
+use Rattle.fapp_model.specs.declared.instance.Instance.{Instance}
 use Rattle.fapp_model.specs.declared.tag.Tag.{Tag}
 use Rattle.fapp_model.specs.declared.triple.Triple.{Triple}
-use Rattle.fapp_model.specs.declared.level.TheConstants.{LEVELS}
+use Rattle.fapp_model.specs.Levels.{levels_of}
 use Rattle.fapp_model.specs.Tags.{code_of, is_tag, is_code}
 use Rattle.cert_lines.specs.declared.fault.CertCause.{CertCause}
 use Rattle.cert_lines.specs.declared.fault.CertCause.TheVariants.{FieldCount, BadNumber, BadTag}
-use Rattle.cert_lines.specs.Steps.{◌>>=◌, allowed}
 
 abbrev pub is_space : ℕ → Bool
 is_space b = b == 32
@@ -32,13 +32,9 @@ ended (field ∷ fields) = Err FieldCount
 abbrev pub is_padded : List ℕ → Bool
 is_padded field = nat_lt 1 (length field) && (slice_index field 0 == 48)
 
-abbrev pub or_bad : Result ℕ NumFault → Result ℕ CertCause
-or_bad (Ok n) = Ok n
-or_bad (Err fault) = Err BadNumber
-
 -- `0`, or digits without a leading zero, of a value that a text may have
 abbrev pub number_of : List ℕ → Result ℕ CertCause
-number_of field = if is_padded field then Err BadNumber else or_bad (digits.number_of field)
+number_of field = if is_padded field then Err BadNumber else or_fault BadNumber (digits.number_of field)
 
 unfoldable pub number_at : List (List ℕ) → Result (ℕ × List (List ℕ)) CertCause
 number_at fields = do
@@ -58,10 +54,10 @@ abbrev pub tag_of_code : (code : ℕ) (test : Bool) → is_code code ≡ test �
 tag_of_code code true h = Ok (record { code = code; of_tag = h })
 tag_of_code code false h = Err BadTag
 
--- three numbers that are a tag
-unfoldable pub tag_at : List (List ℕ) → Result (Tag × List (List ℕ)) CertCause
-tag_at fields = do
+-- three numbers that are a tag of the instance
+unfoldable pub tag_at : Instance → List (List ℕ) → Result (Tag × List (List ℕ)) CertCause
+tag_at instance fields = do
   found ← triple_at fields
-  t ← allowed (is_tag LEVELS found.0) BadTag found.0
+  t ← allowed (is_tag (levels_of instance) found.0) BadTag found.0
   tag ← tag_of_code (code_of t) (is_code (code_of t)) refl
   Ok (tag, found.1)

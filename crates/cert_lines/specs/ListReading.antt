@@ -1,12 +1,12 @@
 -- Lists in the midst of a line. Where an order is wanted, a step is given the least number that may come.
-use Rattle.std.specs.Prelude.{ℕ, ◌+◌, nat_lt, nat_le, List, length, Result, Ok}
+use Rattle.std.specs.Prelude.{ℕ, zero, suc, ◌+◌, nat_lt, nat_le, List, [], ◌∷◌, length, Result, Ok}
 use Rattle.fapp_model.specs.declared.instance.Instance.{Instance}
 use Rattle.fapp_model.specs.declared.literal.Literal.{Literal}
 use Rattle.fapp_model.specs.Assignments.{count_at}
 use Rattle.cert_lines.specs.declared.answer.Child.{Child}
 use Rattle.cert_lines.specs.declared.fault.CertCause.{CertCause}
 use Rattle.cert_lines.specs.declared.fault.CertCause.TheVariants.{BadOrder, UnknownPath, UnknownChoice}
-use Rattle.cert_lines.specs.Steps.{◌>>=◌, allowed, many}
+use Rattle.fapp_text.specs.Reading.{◌>>=◌, allowed}
 use Rattle.cert_lines.specs.FieldReading.{number_at}
 
 -- the least number that may come, and the fields that are left
@@ -45,12 +45,23 @@ child_at instance path state = do
   cite ← number_at choice.1
   Ok (record { choice = choice.0; cite = cite.0 }, (choice.0 + 1, cite.1))
 
--- so many, from left to right
-abbrev pub counted : {A : Type 0} → (State → Result (A × State) CertCause) → ℕ → List (List ℕ) → Result (List A × List (List ℕ)) CertCause
+-- so many steps, one after another
+abbrev pub many : {A : Type 0} → (State → Result (A × State) CertCause) → ℕ → State →
+    Result (List A × State) CertCause
+many step zero s = Ok ([], s)
+many step (suc n) s = do
+  first ← step s
+  others ← many step n first.1
+  Ok (first.0 ∷ others.0, others.1)
+
+-- so many elements, from left to right
+abbrev pub counted : {A : Type 0} → (State → Result (A × State) CertCause) → ℕ → List (List ℕ) →
+    Result (List A × List (List ℕ)) CertCause
 counted step count fields = many step count (0, fields) >>= λ items. Ok (items.0, items.1.1)
 
 -- how many there are, and each one
-unfoldable pub list_at : {A : Type 0} → (State → Result (A × State) CertCause) → List (List ℕ) → Result (List A × List (List ℕ)) CertCause
+unfoldable pub list_at : {A : Type 0} → (State → Result (A × State) CertCause) → List (List ℕ) →
+    Result (List A × List (List ℕ)) CertCause
 list_at step fields = do
   count ← number_at fields
   counted step count.0 count.1

@@ -1,21 +1,25 @@
 -- A text, line by line. The last part of it, which no line feed ends, is no line of an answer.
-use Rattle.std.specs.Prelude.{◌≡◌, ℕ, ◌+◌, ◌==◌, Bool, List, [], ◌∷◌, Option, Some, None, Result, Ok, Err}
+use Rattle.std.specs.Prelude.{◌≡◌, ℕ, ◌+◌, List, [], ◌∷◌, Option, Some, None, Result, Ok, Err}
 use Rattle.std.specs.List.{slice_split}
+use Rattle.fapp_text.specs.declared.failure.Failure.{Failure}
+use Rattle.fapp_text.specs.declared.failure.Failure.TheVariants.{Bad, NoMemory}
+use Rattle.fapp_text.specs.declared.failure.LineFault.{LineFault}
+use Rattle.fapp_text.specs.Lines.{is_line_feed}
+use Rattle.fapp_text.specs.Reading.{◌>>=◌, fault, at_line}
 use Rattle.fapp_model.specs.declared.instance.Instance.{Instance}
 use Rattle.cert_lines.specs.declared.answer.Answer.{Answer}
-use Rattle.cert_lines.specs.declared.fault.BadCert.{BadCert}
 use Rattle.cert_lines.specs.declared.fault.CertCause.{CertCause}
 use Rattle.cert_lines.specs.declared.fault.CertCause.TheVariants.{NoEnd, AfterEnd}
-use Rattle.cert_lines.specs.declared.fault.AnswerError.{AnswerError}
-use Rattle.cert_lines.specs.declared.fault.AnswerError.TheVariants.{Bad, NoMemory}
 use Rattle.cert_lines.specs.Spelling.{answer_text}
 use Rattle.cert_lines.specs.WellFormed.{IsWellFormed}
-use Rattle.cert_lines.specs.Steps.{◌>>=◌}
 use Rattle.cert_lines.specs.FieldReading.{fields_of}
-use Rattle.cert_lines.specs.LineReading.{plan_line, verdict_line, certificate_line}
+use Rattle.cert_lines.specs.PlanReading.{plan_line}
+use Rattle.cert_lines.specs.VerdictReading.{verdict_line}
+use Rattle.cert_lines.specs.CertificateReading.{certificate_line}
 
-abbrev pub is_line_feed : ℕ → Bool
-is_line_feed b = b == 10
+-- the first fault of a text: its line and what is wrong there
+abbrev pub TextFault : Type 0
+TextFault = LineFault CertCause
 
 -- what stands before, between and after the line feeds
 abbrev pub parts_of : List ℕ → List (List ℕ)
@@ -25,73 +29,59 @@ parts_of bytes = slice_split is_line_feed bytes
 abbrev pub Rest : Type 0
 Rest = ℕ × List (List ℕ)
 
-abbrev pub fault : ℕ → CertCause → BadCert
-fault line cause = record { line = line; cause = cause }
-
--- what was found at a line
-abbrev pub placed : {A : Type 0} → ℕ → Result A CertCause → Result A BadCert
-placed line (Ok x) = Ok x
-placed line (Err cause) = Err (fault line cause)
-
 -- the fields of the next line
-unfoldable pub next_line : Rest → Result (List (List ℕ) × Rest) BadCert
+unfoldable pub next_line : Rest → Result (List (List ℕ) × Rest) TextFault
 next_line (number, []) = Err (fault number NoEnd)
 next_line (number, last ∷ []) = Err (fault number NoEnd)
 next_line (number, line ∷ next ∷ parts) = Ok (fields_of line, (number + 1, next ∷ parts))
 
 -- the next line, read by its fields
-unfoldable pub line_by : {A : Type 0} → (List (List ℕ) → Result A CertCause) → Rest → Result (A × Rest) BadCert
+unfoldable pub line_by : {A : Type 0} → (List (List ℕ) → Result A CertCause) → Rest → Result (A × Rest) TextFault
 line_by read rest = do
   line ← next_line rest
-  found ← placed rest.0 (read line.0)
+  found ← at_line rest.0 (read line.0)
   Ok (found, line.1)
 
 -- what a line gave, before what the lines after it give
-abbrev pub and_then : {A S : Type 0} → Option (A × S) → (S → Result (List A × Rest) BadCert) → Rest → Result (List A × Rest) BadCert
+abbrev pub and_then : {A : Type 0} → Option A → Result (List A × Rest) TextFault → Rest →
+    Result (List A × Rest) TextFault
 and_then None more rest = Ok ([], rest)
-and_then (Some x) more rest = more x.1 >>= λ others. Ok (x.0 ∷ others.0, others.1)
+and_then (Some x) more rest = more >>= λ others. Ok (x ∷ others.0, others.1)
 
--- the lines up to the one that ends them
-abbrev pub until : {A S : Type 0} → (S → List (List ℕ) → Result (Option (A × S)) CertCause) → S → ℕ → List (List ℕ) → Result (List A × Rest) BadCert
-until read s number [] = Err (fault number NoEnd)
-until read s number (line ∷ parts) = line_by (read s) (number, line ∷ parts) >>= λ x. and_then x.0 (λ t. until read t (number + 1) parts) x.1
+-- the lines up to the one that ends them, each read by the count of those before it
+abbrev pub until : {A : Type 0} → (ℕ → List (List ℕ) → Result (Option A) CertCause) → ℕ → ℕ → List (List ℕ) →
+    Result (List A × Rest) TextFault
+until read place number [] = Err (fault number NoEnd)
+until read place number (line ∷ parts) = line_by (read place) (number, line ∷ parts) >>=
+    λ x. and_then x.0 (until read (place + 1) (number + 1) parts) x.1
 
 -- no byte follows
-abbrev pub finished : Rest → Result (Unit {0}) BadCert
+abbrev pub finished : Rest → Result (Unit {0}) TextFault
 finished (number, []) = Err (fault number AfterEnd)
 finished (number, [] ∷ []) = Ok tt
 finished (number, [] ∷ next ∷ parts) = Err (fault number AfterEnd)
 finished (number, (b ∷ bytes) ∷ parts) = Err (fault number AfterEnd)
 
--- what was found, and that nothing is to be remembered
-abbrev pub paired : {A : Type 0} → Option A → Option (A × Unit {0})
-paired None = None
-paired (Some x) = Some (x, tt)
-
--- a line of a certificate says nothing of those that may come after it
-abbrev pub alone : {A : Type 0} → (List (List ℕ) → Result (Option A) CertCause) → Unit {0} → List (List ℕ) → Result (Option (A × Unit {0})) CertCause
-alone read s fields = read fields >>= λ found. Ok (paired found)
-
 -- the answer that a text is, or its first fault
-unfoldable pub reading : Instance → List ℕ → Result Answer BadCert
+unfoldable pub reading : Instance → List ℕ → Result Answer TextFault
 reading instance bytes = do
-  plan ← until (plan_line instance) instance.paths 1 (parts_of bytes)
+  plan ← until (plan_line instance) 0 1 (parts_of bytes)
   verdict ← line_by (verdict_line instance) plan.1
-  lines ← until (alone (certificate_line instance)) tt verdict.1.0 verdict.1.1
+  lines ← until (λ place. certificate_line instance) 0 verdict.1.0 verdict.1.1
   end ← finished lines.1
   Ok (record { plan = plan.0; verdict = verdict.0; lines = lines.0 })
 
-abbrev pub fault_in : {A : Type 0} → Result A BadCert → Option BadCert
+abbrev pub fault_in : {A : Type 0} → Result A TextFault → Option TextFault
 fault_in (Ok x) = None
 fault_in (Err found) = Some found
 
 -- the first fault of a text that is no answer's
-abbrev pub first_fault : Instance → List ℕ → Option BadCert
+abbrev pub first_fault : Instance → List ℕ → Option TextFault
 first_fault instance bytes = fault_in (reading instance bytes)
 
 -- What was read is well formed, and the bytes are its text. A fault is the first one of the bytes. Memory may
 -- run out at any text.
-abbrev pub IsReading : Instance → List ℕ → Result Answer AnswerError → Type 0
+abbrev pub IsReading : Instance → List ℕ → Result Answer (Failure TextFault) → Type 0
 IsReading instance bytes (Ok answer) = IsWellFormed instance answer × (bytes ≡ answer_text instance answer)
 IsReading instance bytes (Err NoMemory) = Unit {0}
 IsReading instance bytes (Err (Bad found)) = first_fault instance bytes ≡ Some found

@@ -47,13 +47,16 @@ rule_numbers (Branch path children) = path ∷ length children ∷ flat_map chil
 
 -- the fields of a certificate line
 abbrev pub certificate_fields : Line → List (List ℕ)
-certificate_fields line = rule_word line.rule ∷ map decimal (tag_numbers line.tag ++ list_numbers line.lits ++ rule_numbers line.rule)
+certificate_fields line =
+    rule_word line.rule ∷ map decimal (tag_numbers line.tag ++ list_numbers line.lits ++ rule_numbers line.rule)
 
 -- the fields of a verdict
 abbrev pub verdict_fields : Verdict → List (List ℕ)
 verdict_fields (Best t) = codes "BEST" ∷ map decimal (triple_numbers t)
 verdict_fields NoneFeasible = codes "NONE" ∷ []
-verdict_fields (Open best lower level prefix) = codes "OPEN" ∷ map decimal (triple_numbers best) ++ codes "LOWER" ∷ map decimal (tag_numbers lower) ++ codes "AT" ∷ map decimal (level ∷ list_numbers prefix)
+verdict_fields (Open best lower level prefix) = codes "OPEN" ∷ map decimal (triple_numbers best)
+    ++ codes "LOWER" ∷ map decimal (tag_numbers lower)
+    ++ codes "AT" ∷ map decimal (level ∷ list_numbers prefix)
 
 -- the fields of what a plan chooses for a path
 abbrev pub choice_fields : Path → Choice → List (List ℕ)
@@ -70,7 +73,8 @@ verdict_text verdict = line_text (verdict_fields verdict)
 
 -- the text before the certificate lines
 abbrev pub head_text : Instance → Answer → List ℕ
-head_text instance answer = flat_map line_text (plan_lines instance.paths answer.plan) ++ line_text (codes "--" ∷ []) ++ verdict_text answer.verdict
+head_text instance answer = flat_map line_text (plan_lines instance.paths answer.plan)
+    ++ line_text (codes "--" ∷ []) ++ verdict_text answer.verdict
 
 abbrev pub lines_text : List Line → List ℕ
 lines_text lines = flat_map (λ line. line_text (certificate_fields line)) lines

@@ -1,3 +1,5 @@
+//! Answers: a plan, what is claimed of it, and the lines that prove it.
+
 use fapp_model::{Choice, Items, Literal, Tag, Triple};
 
 /// What is worth citing of a choice of a Branch line's path.
@@ -38,11 +40,11 @@ pub enum Verdict {
     NoneFeasible,
     /// The search ended early.
     Open {
-        /// What the shown plan costs, or (`LEVELS + 1`, 0, 0) where none is shown.
+        /// What the shown plan costs, or (`levels + 1`, 0, 0) where none is shown.
         best: Triple,
         /// No plan costs less than this.
         lower: Tag,
-        /// The level of the named job, at most `LEVELS`.
+        /// The level of the named job, at most the number of the instance's levels.
         level: u32,
         /// The choices that the named job began with, ascending by position.
         prefix: Items<Literal>,

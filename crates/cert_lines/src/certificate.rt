@@ -1,24 +1,28 @@
+//! The lines of a certificate.
+
 ghost use Rattle.std.specs.Prelude.{◌≡◌};
 ghost use Rattle.fapp_model.specs.Instances.{IsInstance};
-ghost use Rattle.cert_lines.specs.Steps.{Gives};
+ghost use Rattle.fapp_text.specs.Reading.{Gives};
 ghost use Rattle.cert_lines.specs.FieldsLeft.{fields_left};
-ghost use Rattle.cert_lines.specs.LineReading.{count_line, branch_line, certificate_line};
+ghost use Rattle.cert_lines.specs.CertificateReading.{count_line, branch_line, certificate_line};
 
+use crate::elements::{Children, Cites, Literals};
 use crate::fault::{CertCause, LineError};
-use crate::fields::{Fields, ended, field_at, is, tag_at};
-use crate::lists::{children_at, cites_at, literals_at, position_at};
+use crate::fields::{Fields, ended, field_at, tag_at};
+use crate::lists::{list_at, position_at};
 use crate::{Line, Rule};
 use fapp_model::Instance;
+use fapp_text::is;
 use std::alloc::Global;
 
-#[tactic(auto, unfolding(crate::specs::LineReading::count_line))]
+#[tactic(auto, unfolding(crate::specs::CertificateReading::count_line))]
 fn count_line(alloc: Global, instance: &Instance, fields: Fields) -> Result<Line, LineError>
     requires { IsInstance instance.now }
     ensures { Gives (λ x. x) result (count_line instance.now (fields_left fields.entry)) }
 {
-    let (tag, rest) = tag_at(fields)?;
-    let (lits, rest) = literals_at(alloc, instance, rest)?;
-    let (cites, rest) = cites_at(alloc, rest)?;
+    let (tag, rest) = tag_at(instance, fields)?;
+    let (lits, rest) = list_at(alloc, &Literals { instance }, rest)?;
+    let (cites, rest) = list_at(alloc, &Cites, rest)?;
     ended(rest)?;
     Ok(Line {
         tag,
@@ -27,15 +31,15 @@ fn count_line(alloc: Global, instance: &Instance, fields: Fields) -> Result<Line
     })
 }
 
-#[tactic(auto, unfolding(crate::specs::LineReading::branch_line))]
+#[tactic(auto, unfolding(crate::specs::CertificateReading::branch_line))]
 fn branch_line(alloc: Global, instance: &Instance, fields: Fields) -> Result<Line, LineError>
     requires { IsInstance instance.now }
     ensures { Gives (λ x. x) result (branch_line instance.now (fields_left fields.entry)) }
 {
-    let (tag, rest) = tag_at(fields)?;
-    let (lits, rest) = literals_at(alloc, instance, rest)?;
+    let (tag, rest) = tag_at(instance, fields)?;
+    let (lits, rest) = list_at(alloc, &Literals { instance }, rest)?;
     let (path, rest) = position_at(instance, rest)?;
-    let (children, rest) = children_at(alloc, instance, path, rest)?;
+    let (children, rest) = list_at(alloc, &Children { instance, path }, rest)?;
     ended(rest)?;
     Ok(Line {
         tag,
@@ -45,7 +49,7 @@ fn branch_line(alloc: Global, instance: &Instance, fields: Fields) -> Result<Lin
 }
 
 /// A line of a certificate. `None` is the line that ends it.
-#[tactic(auto, unfolding(crate::specs::LineReading::certificate_line))]
+#[tactic(auto, unfolding(crate::specs::CertificateReading::certificate_line))]
 pub(crate) fn certificate_line(
     alloc: Global,
     instance: &Instance,
@@ -67,5 +71,5 @@ pub(crate) fn certificate_line(
         let line = branch_line(alloc, instance, rest)?;
         return Ok(Some(line));
     }
-    Err(LineError::Cause(CertCause::BadKind))
+    Err(LineError::Bad(CertCause::BadKind))
 }

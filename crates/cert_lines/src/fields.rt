@@ -1,12 +1,13 @@
+//! The fields at the front of a line: words, numbers and tags.
+
 ghost use Rattle.std.specs.Prelude.{◌≡◌, ◌<◌, ◌==◌, ◌&&◌, nat_lt, length, slice_index, IsTrue, Ok};
 ghost use Rattle.std.specs.List.{position};
-ghost use Rattle.std.specs.Str.{bytes_eq};
-ghost use Rattle.cert_lines.specs.Steps.{Gives};
+ghost use Rattle.fapp_text.specs.Reading.{Gives};
 ghost use Rattle.cert_lines.specs.FieldReading.{is_space, is_padded, fields_of, field_at, ended, number_of, number_at, triple_at, tag_at};
 ghost use Rattle.cert_lines.specs.FieldsLeft.{fields_left};
 
 use crate::fault::{CertCause, LineError};
-use fapp_model::{Tag, Triple, is_tag, tag_of};
+use fapp_model::{Instance, Tag, Triple, is_tag, levels, tag_of};
 use fapp_text::number;
 
 /// The fields of a line that are still to be read.
@@ -28,7 +29,7 @@ pub(crate) fn field_at<'a>(fields: Fields<'a>) -> Result<(&'a [u8], Fields<'a>),
     ensures { Gives (λ x. (x.0.now, fields_left x.1)) result (field_at (fields_left fields.entry)) }
 {
     let Some(rest) = fields.rest else {
-        return Err(LineError::Cause(CertCause::FieldCount));
+        return Err(LineError::Bad(CertCause::FieldCount));
     };
     Ok(first_field(rest))
 }
@@ -58,16 +59,9 @@ pub(crate) fn ended(fields: Fields) -> Result<(), LineError>
     ensures { Gives (λ x. x) result (ended (fields_left fields.entry)) }
 {
     match fields.rest {
-        Some(_) => Err(LineError::Cause(CertCause::FieldCount)),
+        Some(_) => Err(LineError::Bad(CertCause::FieldCount)),
         None => Ok(()),
     }
-}
-
-/// Whether a field is a word.
-pub(crate) fn is(field: &[u8], word: &[u8]) -> bool
-    ensures { result ≡ bytes_eq field.now word.now }
-{
-    field == word
 }
 
 fn is_padded(field: &[u8]) -> bool
@@ -80,11 +74,11 @@ fn number_of(field: &[u8]) -> Result<u32, LineError>
     ensures { Gives (λ x. x) result (number_of field.now) }
 {
     if is_padded(field) {
-        return Err(LineError::Cause(CertCause::BadNumber));
+        return Err(LineError::Bad(CertCause::BadNumber));
     }
     match number(field) {
         Ok(n) => Ok(n),
-        Err(_) => Err(LineError::Cause(CertCause::BadNumber)),
+        Err(_) => Err(LineError::Bad(CertCause::BadNumber)),
     }
 }
 
@@ -107,13 +101,17 @@ pub(crate) fn triple_at<'a>(fields: Fields<'a>) -> Result<(Triple, Fields<'a>), 
     Ok((Triple { k, v, s }, rest))
 }
 
+/// Three numbers that are a tag of the instance.
 #[tactic(auto, unfolding(crate::specs::FieldReading::tag_at))]
-pub(crate) fn tag_at<'a>(fields: Fields<'a>) -> Result<(Tag, Fields<'a>), LineError>
-    ensures { Gives (λ x. (x.0, fields_left x.1)) result (tag_at (fields_left fields.entry)) }
+pub(crate) fn tag_at<'a>(
+    instance: &Instance,
+    fields: Fields<'a>,
+) -> Result<(Tag, Fields<'a>), LineError>
+    ensures { Gives (λ x. (x.0, fields_left x.1)) result (tag_at instance.now (fields_left fields.entry)) }
 {
     let (t, rest) = triple_at(fields)?;
-    if !is_tag(t) {
-        return Err(LineError::Cause(CertCause::BadTag));
+    if !is_tag(levels(instance), t) {
+        return Err(LineError::Bad(CertCause::BadTag));
     }
     Ok((tag_of(t), rest))
 }

@@ -1,3 +1,5 @@
+//! The text of an answer, and of its parts.
+
 ghost use Rattle.std.specs.Prelude.{◌≡◌, ◌≤◌, ◌++◌, [], ◌∷◌, length, flat_map, IfOk, OnOk, decimal, codes};
 ghost use Rattle.std.specs.Fmt.{signed_decimal};
 ghost use Rattle.cert_lines.specs.Spelling.{line_text, triple_numbers, list_numbers, child_numbers, rule_word, rule_numbers, certificate_fields, verdict_text, choice_fields, plan_lines, head_text, lines_text, answer_text};
@@ -6,8 +8,7 @@ ghost use Rattle.cert_lines.specs.WellFormed.{IsWellFormed};
 
 use crate::{Answer, Child, Line, Rule, Verdict};
 use fapp_model::{Choice, Instance, Literal, Path, Tag, Triple, triple_of};
-use fapp_text::{NoMemory, push_number};
-use itoa::Buffer;
+use fapp_text::{NoMemory, push_number, push_signed};
 use std::alloc::Global;
 
 /// The text of a well-formed answer. `NoMemory` comes where its room could not be had.
@@ -80,8 +81,7 @@ fn push_choice(out: &mut Vec<u8>, path: &Path, choice: Choice) -> Result<(), NoM
     out.extend_from_slice(b"AL")?;
     push_numbers(out, &[path.number, choice.freq])?;
     out.extend_from_slice(b" ")?;
-    let mut buffer = Buffer::new();
-    out.extend_from_slice(buffer.format(choice.pol).as_bytes())?;
+    push_signed(out, choice.pol)?;
     out.extend_from_slice(b"\n")?;
     Ok(())
 }

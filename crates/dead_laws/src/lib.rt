@@ -10,8 +10,9 @@ mod tags;
 
 pub use arcs::{arcs_are_supported, arcs_have_each};
 pub use dead::{
-    dead_at_lower_tags, dead_by_arcs_and_test_is_implied, dead_by_test, dead_in_extensions, dead_is_decided, dead_is_implied,
-    full_dead_is_implied, judged_dead_is_implied, none_where_dead_at_top,
+    dead_at_lower_tags, dead_by_arcs_and_test_is_implied, dead_by_test, dead_in_extensions,
+    dead_is_decided, dead_is_implied, full_dead_is_implied, judged_dead_is_implied,
+    none_where_dead_at_top,
 };
 pub use examples::{
     each_three_die, examples_are_valid, one_choice_lives, tied_pair_arcs, tied_pair_roots,

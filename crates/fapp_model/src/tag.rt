@@ -1,4 +1,4 @@
-ghost use Rattle.std.specs.Prelude.{◌≡◌, ◌<◌, IsTrue};
+ghost use Rattle.std.specs.Prelude.{◌≡◌, ◌<◌, ◌≤◌, IsTrue};
 ghost use Rattle.fapp_model.specs.Tags.{code_of, is_code, is_tag, mode_level, triple_from};
 
 use crate::{MAX_LEVELS, S_SPAN, Triple, V_SPAN};
@@ -11,15 +11,16 @@ pub struct Tag {
     ghost of_tag: { IsTrue (is_code code) },
 }
 
-/// Whether a triple is a tag: a level of 1 to `MAX_LEVELS` with v of at least 1, or (k, 0, 0) with k at most
-/// `MAX_LEVELS + 1`. Its v and s are below `V_SPAN` and `S_SPAN`.
-pub fn is_tag(t: Triple) -> bool
-    ensures { result ≡ is_tag MAX_LEVELS t }
+/// Whether a triple is a tag for so many levels: a level of 1 to `levels` with v of at least 1, or (k, 0, 0) with k
+/// at most `levels + 1`. Its v and s are below `V_SPAN` and `S_SPAN`.
+pub fn is_tag(levels: u32, t: Triple) -> bool
+    requires { levels ≤ MAX_LEVELS }
+    ensures { result ≡ is_tag levels t }
 {
     if t.v > 0 {
-        t.k > 0 && t.k <= MAX_LEVELS && t.v < V_SPAN && t.s < S_SPAN
+        t.k > 0 && t.k <= levels && t.v < V_SPAN && t.s < S_SPAN
     } else {
-        t.s == 0 && t.k <= MAX_LEVELS + 1
+        t.s == 0 && t.k <= levels + 1
     }
 }
 
@@ -83,22 +84,28 @@ mod tests {
     #[test]
     fn edges(rt: HostRuntime) {
         assert!(rt;
-            is_tag(Triple {
-                k: 11,
-                v: 67_108_863,
-                s: 67_108_863
-            })
+            is_tag(
+                11,
+                Triple {
+                    k: 11,
+                    v: 67_108_863,
+                    s: 67_108_863
+                }
+            )
         );
         assert!(rt;
-            !is_tag(Triple {
-                k: 11,
-                v: 67_108_864,
-                s: 0
-            })
+            !is_tag(
+                11,
+                Triple {
+                    k: 11,
+                    v: 67_108_864,
+                    s: 0
+                }
+            )
         );
-        assert!(rt; !is_tag(Triple { k: 0, v: 1, s: 0 }));
-        assert!(rt; !is_tag(Triple { k: 12, v: 1, s: 0 }));
-        assert!(rt; !is_tag(Triple { k: 1, v: 0, s: 1 }));
-        assert!(rt; !is_tag(Triple { k: 13, v: 0, s: 0 }));
+        assert!(rt; !is_tag(11, Triple { k: 0, v: 1, s: 0 }));
+        assert!(rt; !is_tag(11, Triple { k: 12, v: 1, s: 0 }));
+        assert!(rt; !is_tag(11, Triple { k: 1, v: 0, s: 1 }));
+        assert!(rt; !is_tag(11, Triple { k: 13, v: 0, s: 0 }));
     }
 }

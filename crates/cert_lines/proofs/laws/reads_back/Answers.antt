@@ -2,15 +2,15 @@ use Rattle.std.proofs.Common.{◌≡◌, ◌⊎◌, Result, Ok, Err, None, refl,
 use Rattle.fapp_model.specs.declared.instance.Instance.{Instance}
 use Rattle.fapp_model.specs.Instances.{IsInstance}
 use Rattle.cert_lines.specs.declared.answer.Answer.{Answer}
-use Rattle.cert_lines.specs.declared.fault.AnswerError.{AnswerError}
-use Rattle.cert_lines.specs.declared.fault.AnswerError.TheVariants.{Bad, NoMemory}
+use Rattle.fapp_text.specs.declared.failure.Failure.{Failure}
+use Rattle.fapp_text.specs.declared.failure.Failure.TheVariants.{Bad, NoMemory}
 use Rattle.cert_lines.specs.Spelling.{answer_text}
 use Rattle.cert_lines.specs.WellFormed.{IsWellFormed}
-use Rattle.cert_lines.specs.Reading.{IsReading, first_fault}
+use Rattle.cert_lines.specs.Reading.{TextFault, IsReading, first_fault}
 use Rattle.cert_lines.proofs.TextAnswers.{one_text, no_fault}
 use Rattle.cert_lines.proofs.laws.reads_back.Goals as goal
 
-back : (instance : Instance) → IsInstance instance → (answer : Answer) → IsWellFormed instance answer → (result : Result Answer AnswerError) → IsReading instance (answer_text instance answer) result → (result ≡ Ok answer) ⊎ (result ≡ Err NoMemory)
+back : (instance : Instance) → IsInstance instance → (answer : Answer) → IsWellFormed instance answer → (result : Result Answer (Failure TextFault)) → IsReading instance (answer_text instance answer) result → (result ≡ Ok answer) ⊎ (result ≡ Err NoMemory)
 back instance valid answer formed (Ok other) read = inl (ap Ok (sym (one_text instance valid answer other formed read.0 read.1)))
 back instance valid answer formed (Err NoMemory) read = inr refl
 back instance valid answer formed (Err (Bad found)) read =

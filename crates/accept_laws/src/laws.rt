@@ -1,0 +1,31 @@
+ghost use Rattle.accept_laws.specs.Answers.{AcceptanceIsProof, AcceptsByParts};
+ghost use Rattle.accept_laws.specs.Lines.{DeadIsJudged, GoodLinesAreImplied, JudgedIsDead};
+
+/// Literals that are judged dead are dead by one of the cases, with the excluded choices outside.
+pub fn judged_is_dead()
+    ensures { JudgedIsDead }
+{}
+
+/// At a tag above (0, 0, 0) literals that are dead by one of the cases, with the excluded choices outside, are judged
+/// dead.
+pub fn dead_is_judged()
+    ensures { DeadIsJudged }
+{}
+
+/// Where each line of a list is good, no assignment that meets the imperative records and has a line's literals costs
+/// less than the line's tag.
+pub fn good_lines_are_implied()
+    ensures { GoodLinesAreImplied }
+{}
+
+/// An answer is accepted exactly where its plan, each of its lines and its root have no fault.
+pub fn accepts_by_parts()
+    ensures { AcceptsByParts }
+{}
+
+/// An accepted answer is right. For a Best verdict the plan is feasible, costs the triple, and no feasible plan costs
+/// less; for NoneFeasible no assignment meets the imperative records; for Open no feasible plan costs less than the
+/// lower bound, and a shown plan is feasible and costs the shown triple.
+pub fn acceptance_is_proof()
+    ensures { AcceptanceIsProof }
+{}

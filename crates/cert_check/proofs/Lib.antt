@@ -1,0 +1,12 @@
+pub mod Steps
+pub mod Filters
+pub mod MarkLemmas
+pub mod Ties
+pub mod Far
+pub mod NearPaths
+pub mod Deciding
+pub mod Spent
+pub mod Firsts
+pub mod LineParts
+pub mod TableLemmas
+pub mod OnesLow

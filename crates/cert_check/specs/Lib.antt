@@ -1,0 +1,9 @@
+pub mod Places
+pub mod Weights
+pub mod Marked
+pub mod Scenes
+pub mod Weighed
+pub mod Tables
+pub mod Ones
+pub mod PlanCost
+pub mod Checked

@@ -1,0 +1,7 @@
+pub mod Contained
+pub mod Excluded
+pub mod Judged
+pub mod LineFaults
+pub mod PlanFaults
+pub mod RootFaults
+pub mod Accepts
