@@ -64,7 +64,7 @@ impl<F, T: Drop> From<AllocFailed<T>> for Failure<F> {
 }
 
 impl<C: fmt::Display> fmt::Display for LineFault<C> {
-    ghost use Rattle.fapp_text.specs.Printed.{fault_text};
+    ghost use Rattle.fapp_text.specs.FaultTexts.{fault_text};
 
     ghost output = { λ fault. fault_text fault.line (C.output fault.cause) };
 
@@ -74,7 +74,7 @@ impl<C: fmt::Display> fmt::Display for LineFault<C> {
 }
 
 impl<F: fmt::Display> fmt::Display for Failure<F> {
-    ghost use Rattle.fapp_text.specs.Printed.{failure_text};
+    ghost use Rattle.fapp_text.specs.FaultTexts.{failure_text};
 
     ghost output = { λ failure. failure_text F.output failure };
 

@@ -33,7 +33,7 @@ impl NumFault {
 
 impl fmt::Display for NumFault {
     ghost use Rattle.std.specs.Prelude.{Some};
-    ghost use Rattle.fapp_text.specs.Printed.{num_fault_text};
+    ghost use Rattle.fapp_text.specs.FaultTexts.{num_fault_text};
 
     ghost output = { λ fault. Some (num_fault_text fault) };
 
