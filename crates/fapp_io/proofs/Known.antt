@@ -1,5 +1,5 @@
 -- What is left, and what was taken, after one more piece.
-use Rattle.std.proofs.Common.{◌≡◌, ℕ, ◌+◌, ◌≤◌, List, [], ◌∷◌, ◌++◌, length, take, drop, refl, sym, ◌∙◌, ap, subst, arith, append_assoc, length-append, length-drop}
+use Rattle.std.proofs.Common.{◌≡◌, ℕ, ◌+◌, ◌<◌, ◌≤◌, List, [], ◌∷◌, ◌++◌, length, take, drop, refl, sym, ◌∙◌, ap, subst, arith, append_assoc, length-append, length-drop}
 use Rattle.std.specs.Prelude.{Option, None, Some}
 use Rattle.std.specs.Io.KnownBytes.{Consumes}
 use Rattle.std.proofs.Math.Seq.{drop-append-add, drop-append_seam, take-append_seam}
@@ -86,9 +86,9 @@ grows_still : (a b c : Option (List ℕ)) (front : List ℕ) → Grows a b front
 grows_still None b c front grown stays = tt
 grows_still (Some xs) b c front grown stays = subst (λ (o : Option (List ℕ)). Stays o c) grown stays
 
--- after a fault a front of the piece was taken
-pub front_taken : (a b c : Option (List ℕ)) (piece rest : List ℕ) → IsHalfway a b piece rest → Stays b c → GrowsByFront a c piece
-front_taken a b c piece rest half stays =
+-- after a fault with a rest to come a front of the piece was taken
+pub front_taken : (a b c : Option (List ℕ)) (piece rest : List ℕ) → IsHalfway a b piece rest → Stays b c → 0 < length rest → GrowsByFront a c piece
+front_taken a b c piece rest half stays more =
     let grown = grows_still a b c half.front half.grown stays in (
       length half.front,
       omega (arith, ap length half.split, length-append half.front rest),

@@ -1,13 +1,8 @@
 -- Which of the calls fail, by their numbers from 1.
-use Rattle.std.specs.Prelude.{◌==◌, ◌&&◌, ◌+◌, Bool, nat_lt}
+use Rattle.std.specs.Prelude.{◌==◌, ◌&&◌, ◌+◌, ℕ, Bool, List, nat_lt}
 use Rattle.std.specs.List.{list_any}
-use Rattle.fapp_io.specs.declared.calls.Calls.{Calls}
-use Rattle.fapp_io.specs.Counts.{last_count, next_count}
+use Rattle.fapp_io.specs.Counts.{last_count}
 
--- the number of the next call is in the list, and is a number of 64 bits
-abbrev pub fails_next : Calls → Bool
-fails_next calls = nat_lt calls.made last_count && list_any (λ number. number == calls.made + 1) calls.fails.items
-
--- one call more was made
-abbrev pub with_next : Calls → Calls
-with_next calls = record calls { made = next_count calls.made }
+-- after so many calls, the number of the next is in the list, and is a number of 64 bits
+abbrev pub fails_next : List ℕ → ℕ → Bool
+fails_next fails made = nat_lt made last_count && list_any (λ number. number == made + 1) fails

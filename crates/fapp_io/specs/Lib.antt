@@ -1,8 +1,10 @@
-pub mod Calls
+pub mod Moments
 pub mod Counts
-pub mod Feed
 pub mod Known
-pub mod Memory
 pub mod Sink
 pub mod Source
 pub mod Whole
+pub mod Ends
+pub mod Calls
+pub mod Supply
+pub mod Memory

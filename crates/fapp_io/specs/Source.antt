@@ -3,14 +3,15 @@ use Rattle.std.specs.Prelude.{◌≡◌, ◌↔◌, ◌≤◌, ℕ, List, [], le
 use Rattle.fapp_io.specs.declared.source.Failed.{Failed}
 use Rattle.fapp_io.specs.Counts.{Rose}
 use Rattle.fapp_io.specs.Known.{Stays, Drops}
+use Rattle.fapp_io.specs.Moments.{SourceMoment}
 
 -- the first n bytes of the room are the next n that were left, and there are none exactly where none was left
 abbrev pub Gives : Option (List ℕ) → List ℕ → ℕ → Type 0
 Gives left room n = IfSome left (λ bytes. (take n room ≡ take n bytes) × ((n ≡ 0) ↔ (bytes ≡ [])))
 
 -- `Ok n` took the next n bytes that were left and put them into the room; `Err` took none, and the count of faults rose
-abbrev pub Reads : Option (List ℕ) → Option (List ℕ) → ℕ → ℕ → List ℕ → Result ℕ Failed → Type 0
-Reads left left_after faults faults_after room (Ok n) =
-    (n ≤ length room) × Gives left room n × Drops left left_after n × (faults ≤ faults_after)
-Reads left left_after faults faults_after room (Err _) =
-    Stays left left_after × Rose faults faults_after × (faults ≤ faults_after)
+abbrev pub Reads : SourceMoment → SourceMoment → List ℕ → Result ℕ Failed → Type 0
+Reads old new room (Ok n) =
+    (n ≤ length room) × Gives old.left room n × Drops old.left new.left n × (old.faults ≤ new.faults)
+Reads old new room (Err _) =
+    Stays old.left new.left × Rose old.faults new.faults × (old.faults ≤ new.faults)

@@ -2,10 +2,13 @@
 ghost use Rattle.std.specs.Prelude.{◌≡◌, ◌<◌, ◌≤◌, Some, None, Ok, length, IfOk, IsOk};
 ghost use Rattle.fapp_io.specs.Sink.{Writes};
 ghost use Rattle.fapp_io.specs.Source.{Reads};
+ghost use Rattle.fapp_io.specs.Supply.{FedBy};
+ghost use Rattle.fapp_io.specs.Moments.{clean_source, clean_sink};
 
 use crate::feed::Feed;
 use crate::sink::Sink;
 use crate::source::{Failed, Source};
+use std::marker::Model;
 
 /// Gives the bytes of a `Vec` in pieces, and never fails. Its count of faults is 0.
 #[derive(Drop)]
@@ -13,14 +16,19 @@ pub struct CleanSource {
     feed: Feed,
 }
 
-impl CleanSource {
-    ghost use Rattle.fapp_io.specs.Feed.{bytes_left};
+impl Model for CleanSource {
+    ghost use Rattle.fapp_io.specs.Supply.{Supply};
 
+    ghost Value = { Supply };
+
+    ghost view = { λ source. source.feed };
+}
+
+impl CleanSource {
     /// Gives these bytes, at most `most` in a call.
     pub fn new(bytes: Vec<u8>, most: usize) -> Self
         requires { 1 ≤ most }
-        ensures left { bytes_left result.feed ≡ bytes.items }
-        ensures most { result.feed.most ≡ most }
+        ensures { result ≡ record { left = bytes.items; most = most } }
     {
         CleanSource {
             feed: Feed::new(bytes, most),
@@ -29,17 +37,13 @@ impl CleanSource {
 }
 
 impl Source for CleanSource {
-    ghost use Rattle.fapp_io.specs.Feed.{bytes_left, FedBy};
-
-    ghost left = { λ source. Some (bytes_left source.feed) };
-
-    ghost faults = { λ _. 0 };
+    ghost moment = { λ source. clean_source source.left };
 
     fn read(&mut self, buf: &mut [u8]) -> Result<usize, Failed>
         requires { 0 < length buf.old }
-        ensures reads { Reads (Some (bytes_left self.old.feed)) (Some (bytes_left self.new.feed)) 0 0 buf.new result }
+        ensures reads { Reads (clean_source self.old.left) (clean_source self.new.left) buf.new result }
         ensures never_fails { IsOk result }
-        ensures fed { IfOk result (FedBy self.old.feed self.new.feed buf.new) }
+        ensures fed { IfOk result (FedBy self.old self.new buf.new) }
     {
         Ok(self.feed.give(buf))
     }
@@ -57,13 +61,11 @@ impl CleanSink {
 }
 
 impl Sink for CleanSink {
-    ghost taken = { λ _. None };
-
-    ghost faults = { λ _. 0 };
+    ghost moment = { λ _. clean_sink };
 
     fn write(&mut self, piece: &[u8]) -> Result<usize, Failed>
         requires { 0 < length piece.now }
-        ensures writes { Writes None None 0 0 piece.now result }
+        ensures writes { Writes clean_sink clean_sink piece.now result }
         ensures whole { result ≡ Ok (length piece.now) }
     {
         Ok(piece.len())

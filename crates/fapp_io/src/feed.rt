@@ -1,5 +1,8 @@
 // Bytes in memory that are given in pieces.
-ghost use Rattle.std.specs.Prelude.{◌≡◌, ◌≤◌, vec_len};
+ghost use Rattle.std.specs.Prelude.{◌≡◌, ◌≤◌};
+ghost use Rattle.fapp_io.specs.Supply.{FedBy};
+
+use std::marker::Model;
 
 /// Bytes, of which the first `at` are gone and of which at most `most` are given at once.
 #[derive(Drop)]
@@ -7,24 +10,31 @@ pub struct Feed {
     bytes: Vec<u8>,
     at: usize,
     most: usize,
-    ghost within: { at ≤ vec_len bytes },
-    ghost some: { 1 ≤ most },
+}
+
+impl Model for Feed {
+    ghost use Rattle.std.specs.Prelude.{◌≤◌, drop, vec_len};
+    ghost use Rattle.fapp_io.specs.Supply.{Supply};
+
+    ghost Value = { Supply };
+
+    ghost view = { λ feed. record { left = drop feed.at feed.bytes.items; most = feed.most } };
+
+    ghost invariant = { λ feed. (feed.at ≤ vec_len feed.bytes) × (1 ≤ feed.most) };
 }
 
 impl Feed {
-    ghost use Rattle.fapp_io.specs.Feed.{bytes_left, FedBy};
-
     pub fn new(bytes: Vec<u8>, most: usize) -> Self
         requires { 1 ≤ most }
-        ensures left { bytes_left result ≡ bytes.items }
-        ensures most { result.most ≡ most }
+        ensures { result ≡ record { left = bytes.items; most = most } }
     {
         Feed { bytes, at: 0, most }
     }
 
     /// Puts the next bytes into the front of the buffer, and answers how many.
     pub fn give(&mut self, buf: &mut [u8]) -> usize
-        ensures { FedBy self.old self.new buf.new result }
+        ensures fed { FedBy self.old self.new buf.new result }
+        ensures some { 1 ≤ self.old.most }
     {
         let left = &self.bytes[self.at..];
         let count = self.most.min(buf.len()).min(left.len());

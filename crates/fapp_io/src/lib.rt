@@ -13,10 +13,11 @@ mod std_source;
 mod whole;
 
 pub use clean::{CleanSink, CleanSource};
-pub use memory_sink::{MemSink, NoMemory};
+pub use memory_sink::MemSink;
 pub use memory_source::MemSource;
 pub use sink::Sink;
 pub use source::{Failed, Source};
+pub use std::alloc::AllocError as NoMemory;
 pub use std_sink::StdSink;
 pub use std_source::StdSource;
 pub use whole::{ReadEnd, WriteEnd, read_all, write_all};

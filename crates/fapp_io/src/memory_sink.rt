@@ -1,27 +1,14 @@
 // A sink into memory, some of whose calls fail.
-ghost use Rattle.std.specs.Prelude.{◌≡◌, ◌<◌, ◌≤◌, [], Some, length, IfOk, vec_len, vec_capacity};
+ghost use Rattle.std.specs.Prelude.{◌≡◌, ◌<◌, ◌≤◌, [], length, IfOk};
+ghost use Rattle.fapp_io.specs.Memory.{sink_moment, WritesByNumber};
 ghost use Rattle.fapp_io.specs.Sink.{Writes};
 
+use crate::NoMemory;
 use crate::calls::Calls;
 use crate::sink::Sink;
 use crate::source::Failed;
-use std::alloc::{AllocError, AllocFailed, Global};
-
-/// There was no memory.
-#[derive(Clone, Copy, Debug, PartialEq, Eq)]
-pub struct NoMemory;
-
-impl From<AllocError> for NoMemory {
-    fn from(_: AllocError) -> Self {
-        NoMemory
-    }
-}
-
-impl<T: Drop> From<AllocFailed<T>> for NoMemory {
-    fn from(_: AllocFailed<T>) -> Self {
-        NoMemory
-    }
-}
+use std::alloc::Global;
+use std::marker::Model;
 
 /// Keeps the bytes that it takes, has room for so many, and fails at chosen calls.
 #[derive(Drop)]
@@ -31,9 +18,25 @@ pub struct MemSink {
     most: usize,
     calls: Calls,
     faults: u64,
-    ghost within: { vec_len taken ≤ room },
-    ghost reserved: { room ≤ vec_capacity taken },
-    ghost some: { 1 ≤ most },
+}
+
+impl Model for MemSink {
+    ghost use Rattle.std.specs.Prelude.{◌≤◌, vec_len, vec_capacity};
+    ghost use Rattle.fapp_io.specs.Memory.{MemSinkView};
+
+    ghost Value = { MemSinkView };
+
+    ghost view = { λ sink. record {
+      taken = sink.taken.items;
+      room = sink.room;
+      most = sink.most;
+      fails = sink.calls.fails.items;
+      calls = sink.calls.made;
+      faults = sink.faults;
+    } };
+
+    ghost invariant = { λ sink.
+        (vec_len sink.taken ≤ sink.room) × (sink.room ≤ vec_capacity sink.taken) × (1 ≤ sink.most) };
 }
 
 impl MemSink {
@@ -41,11 +44,14 @@ impl MemSink {
     /// being number 1, and so do those that find no room. All memory is taken here.
     pub fn new(alloc: Global, room: usize, most: usize, fails: Vec<u64>) -> Result<Self, NoMemory>
         requires { 1 ≤ most }
-        ensures taken { IfOk result (λ sink. sink.taken.items ≡ []) }
-        ensures room { IfOk result (λ sink. sink.room ≡ room) }
-        ensures most { IfOk result (λ sink. sink.most ≡ most) }
-        ensures calls { IfOk result (λ sink. sink.calls ≡ record { fails = fails; made = 0 }) }
-        ensures faults { IfOk result (λ sink. sink.faults ≡ 0) }
+        ensures { IfOk result (λ sink. sink ≡ record {
+          taken = [];
+          room = room;
+          most = most;
+          fails = fails.items;
+          calls = 0;
+          faults = 0;
+        }) }
     {
         Ok(MemSink {
             taken: Vec::with_capacity(alloc, room)?,
@@ -58,22 +64,18 @@ impl MemSink {
 
     /// The bytes that it took.
     pub fn taken(&self) -> &[u8]
-        ensures { result.now ≡ self.now.taken.items }
+        ensures { result.now ≡ self.now.taken }
     {
         &self.taken
     }
 }
 
 impl Sink for MemSink {
-    ghost use Rattle.fapp_io.specs.Memory.{WritesByNumber};
-
-    ghost taken = { λ sink. Some sink.taken.items };
-
-    ghost faults = { λ sink. sink.faults };
+    ghost moment = { sink_moment };
 
     fn write(&mut self, piece: &[u8]) -> Result<usize, Failed>
         requires { 0 < length piece.now }
-        ensures writes { Writes (Some self.old.taken.items) (Some self.new.taken.items) self.old.faults self.new.faults piece.now result }
+        ensures writes { Writes (sink_moment self.old) (sink_moment self.new) piece.now result }
         ensures by_number { WritesByNumber self.old self.new piece.now result }
     {
         let fails = self.calls.next_fails();

@@ -77,6 +77,33 @@ fn writes_in_pieces_up_to_a_fault(rt: HostRuntime) -> Result<(), Fail> {
 }
 
 #[test]
+fn a_write_is_offered_all_that_is_left(rt: HostRuntime) -> Result<(), Fail> {
+    let alloc = rt.alloc();
+    let piece = vec![in alloc; 7; 15_000]?;
+    let mut sink = MemSink::new(alloc, 20_000, 10_000, [2].to_vec(alloc)?)?;
+    assert_eq!(rt; write_all(&mut sink, &piece), Err(WriteEnd::WriteFault));
+    assert_eq!(rt; sink.taken().len(), 10_000);
+    Ok(())
+}
+
+#[test]
+fn each_refusal_is_told_in_words(rt: HostRuntime) -> Result<(), Fail> {
+    let alloc = rt.alloc();
+    for (end, words) in [
+        (ReadEnd::ReadFault, "the source failed"),
+        (ReadEnd::TooLong, "there are more bytes than the limit"),
+        (ReadEnd::NoMemory, "there was no memory"),
+    ] {
+        assert_eq!(rt; format!(in alloc; "{end}")?.as_str(), words);
+    }
+    let told = format!(in alloc; "{}", WriteEnd::WriteFault)?;
+    assert_eq!(rt; told.as_str(), "the sink failed");
+    let told = format!(in alloc; "{}", Failed)?;
+    assert_eq!(rt; told.as_str(), "a call of a source or a sink failed");
+    Ok(())
+}
+
+#[test]
 fn reads_and_writes_by_std(rt: HostRuntime) -> Result<(), Fail> {
     let alloc = rt.alloc();
     let mut source = StdSource::new(WORD);

@@ -2,24 +2,38 @@
 ghost use Rattle.std.specs.Prelude.{◌≡◌, ◌<◌};
 ghost use Rattle.fapp_io.specs.declared.whole.ReadEnd.TheVariants.{ReadFault, NoMemory};
 ghost use Rattle.fapp_io.specs.declared.whole.WriteEnd.TheVariants.{WriteFault};
+ghost use Rattle.fapp_io.specs.Ends.{read_end_number, write_end_number};
 ghost use Rattle.fapp_io.specs.Whole.{ReadsAll, WritesAll};
 
 use crate::sink::Sink;
 use crate::source::{Failed, Source};
 use std::alloc::{AllocError, Global};
+use thiserror::Error;
 
 /// The most bytes that a read is offered room for.
 const PIECE: usize = 4096;
 
 /// Why `read_all` gave nothing.
-#[derive(Clone, Copy, Debug, PartialEq, Eq)]
+#[derive(Clone, Copy, Debug, Error, PartialEq, Eq)]
 pub enum ReadEnd {
     /// The source failed. Its count of faults rose in the call, or stands at its last value.
-    ReadFault,
+    #[error("the source failed")]
+    ReadFault = 1,
     /// The source gave more bytes than the limit.
-    TooLong,
+    #[error("there are more bytes than the limit")]
+    TooLong = 2,
     /// There was no memory for the bytes.
-    NoMemory,
+    #[error("there was no memory")]
+    NoMemory = 3,
+}
+
+impl ReadEnd {
+    /// Its number, from 1.
+    pub fn number(self) -> u8
+        ensures { result ≡ read_end_number self }
+    {
+        self as u8
+    }
 }
 
 impl From<Failed> for ReadEnd {
@@ -39,10 +53,20 @@ impl From<AllocError> for ReadEnd {
 }
 
 /// Why `write_all` did not write the whole.
-#[derive(Clone, Copy, Debug, PartialEq, Eq)]
+#[derive(Clone, Copy, Debug, Error, PartialEq, Eq)]
 pub enum WriteEnd {
     /// The sink failed. Its count of faults rose in the call, or stands at its last value.
-    WriteFault,
+    #[error("the sink failed")]
+    WriteFault = 1,
+}
+
+impl WriteEnd {
+    /// Its number, from 1.
+    pub fn number(self) -> u8
+        ensures { result ≡ write_end_number self }
+    {
+        self as u8
+    }
 }
 
 impl From<Failed> for WriteEnd {
@@ -57,7 +81,7 @@ impl From<Failed> for WriteEnd {
 /// answers `TooLong`. After each error what was taken is a front of what was left.
 pub fn read_all<S: Source>(alloc: Global, source: &mut S, limit: usize) -> Result<Vec<u8>, ReadEnd>
     requires { limit < usize.MAX }
-    ensures { ReadsAll (S.left source.old) (S.left source.new) (S.faults source.old) (S.faults source.new) limit result }
+    ensures { ReadsAll (S.moment source.old) (S.moment source.new) limit result }
 {
     let mut bytes = Vec::new(alloc);
     let mut buffer = [0; PIECE];
@@ -74,9 +98,9 @@ pub fn read_all<S: Source>(alloc: Global, source: &mut S, limit: usize) -> Resul
     }
 }
 
-/// Writes the whole piece, or fails after some front of it. An empty piece is written by no call.
+/// Writes the whole piece, or fails after a front of it, short of the whole. An empty piece is written by no call.
 pub fn write_all<K: Sink>(sink: &mut K, piece: &[u8]) -> Result<(), WriteEnd>
-    ensures { WritesAll (K.taken sink.old) (K.taken sink.new) (K.faults sink.old) (K.faults sink.new) piece.now result }
+    ensures { WritesAll (K.moment sink.old) (K.moment sink.new) piece.now result }
 {
     let mut rest = piece;
     'pieces: while !rest.is_empty() {

@@ -14,9 +14,9 @@ use Rattle.fapp_model.specs.Assignments.{no_path, path_at, count_at, breaks, mee
 use Rattle.fapp_model.specs.Choices.{choice}
 use Rattle.fapp_model.specs.Costs.{cost}
 use Rattle.fapp_model.specs.Triples.{IsBelow}
-use Rattle.fapp_run.specs.declared.enumeration.Found.{Found}
+use Rattle.fapp_run.specs.declared.enumeration.Incumbent.{Incumbent}
 use Rattle.fapp_run.specs.Plans.{BeginsWith, breaks_among}
-use Rattle.fapp_run.specs.Found.{IsPerfect, IsNoBetter, Covers, Offered, Searched}
+use Rattle.fapp_run.specs.Incumbents.{IsPerfect, IsNoBetter, Covers, KeepsBetter, Explores}
 
 none_below_zero : (t u : Triple) → u.k ≡ 0 → u.v ≡ 0 → u.s ≡ 0 → IsBelow t u → ⊥
 none_below_zero t u k v s (inl lower) = omega arith
@@ -33,8 +33,8 @@ or_parts true b e = inl refl
 or_parts false b e = inr e
 
 -- nothing is better than a plan without violations
-pub perfect : (best : Option Found) → IsPerfect best → (t : Triple) → IsNoBetter t best
-perfect (Some found) e t = λ below. none_below_zero t found.triple (ap (λ (u : Triple). u.k) e) (ap (λ (u : Triple). u.v) e) (ap (λ (u : Triple). u.s) e) below
+pub perfect : (best : Option Incumbent) → IsPerfect best → (t : Triple) → IsNoBetter t best
+perfect (Some incumbent) e t = λ below. none_below_zero t incumbent.triple (ap (λ (u : Triple). u.k) e) (ap (λ (u : Triple). u.v) e) (ap (λ (u : Triple). u.s) e) below
 perfect None e t = absurd e
 
 -- a plan chooses as its front does
@@ -61,11 +61,11 @@ no_more instance front plan (r ∷ records) begins some all =
     ]
 
 -- no feasible plan goes on from a front that breaks a record
-pub cut : (instance : Instance) (front : List ℕ) (best : Option Found) → list_any (breaks_among instance front) instance.records ≡ true → Covers instance front best
+pub cut : (instance : Instance) (front : List ℕ) (best : Option Incumbent) → list_any (breaks_among instance front) instance.records ≡ true → Covers instance front best
 cut instance front best broken = λ plan feasible begins. absurd (no_more instance front plan instance.records begins broken feasible.met)
 
 -- each plan goes on with one of the choices of the next path
-pub all_covered : (instance : Instance) (front : List ℕ) (best : Option Found) → length front < length instance.paths →
+pub all_covered : (instance : Instance) (front : List ℕ) (best : Option Incumbent) → length front < length instance.paths →
     ((k : ℕ) → k < count_at instance (length front) → Covers instance (front ++ k ∷ []) best) → Covers instance front best
 all_covered instance front best within each = λ plan feasible begins.
     let n = length front in
@@ -76,22 +76,22 @@ all_covered instance front best within each = λ plan feasible begins.
     each k (feasible.assignment.in_range n within) plan feasible longer
 
 -- a whole plan is its own front
-pub whole : (instance : Instance) (front : List ℕ) (old new : Option Found) → length front ≡ length instance.paths → Offered instance front old new → Searched instance front old new
-whole instance front old new full offered = record {
-  found = offered.found;
-  improves = offered.improves;
-  covered = λ plan feasible begins.
+pub whole : (instance : Instance) (front : List ℕ) (old new : Option Incumbent) → length front ≡ length instance.paths → KeepsBetter instance front old new → Explores instance front old new
+whole instance front old new full keeps = record {
+  incumbent = keeps.incumbent;
+  improves = keeps.improves;
+  covers = λ plan feasible begins.
       let same : plan ≡ front = sym (take_all (length front) plan (omega (arith, feasible.assignment.whole))) ∙ begins in
-      subst (λ p. IsNoBetter (cost instance p) new) (sym same) (offered.tried (subst (λ p. meets instance p ≡ true) same feasible.met));
+      subst (λ p. IsNoBetter (cost instance p) new) (sym same) (keeps.no_better (subst (λ p. meets instance p ≡ true) same feasible.met));
 }
 
 -- the plans of one index more are covered
-pub one_more : (instance : Instance) (front longer : List ℕ) (index : ℕ) (old new : Option Found) →
-    ((k : ℕ) → k < index → Covers instance (front ++ k ∷ []) old) → longer ≡ front ++ index ∷ [] → Searched instance longer old new →
+pub one_more : (instance : Instance) (front longer : List ℕ) (index : ℕ) (old new : Option Incumbent) →
+    ((k : ℕ) → k < index → Covers instance (front ++ k ∷ []) old) → longer ≡ front ++ index ∷ [] → Explores instance longer old new →
     (k : ℕ) → k < index + 1 → Covers instance (front ++ k ∷ []) new
-one_more instance front longer index old new each e searched = below_more _ _
-    (λ k below plan feasible begins. searched.improves (cost instance plan) (each k below plan feasible begins))
-    (subst (λ xs. Covers instance xs new) e searched.covered)
+one_more instance front longer index old new each e explores = below_more _ _
+    (λ k below plan feasible begins. explores.improves (cost instance plan) (each k below plan feasible begins))
+    (subst (λ xs. Covers instance xs new) e explores.covers)
 
 pub path_is : (paths : List Path) (n : ℕ) (path : Path) → n < length paths → path ≡ get_or paths n path → path ≡ get_or paths n no_path
 path_is paths n path within e = get_or_read paths n path within e no_path

@@ -1,7 +1,9 @@
 pub mod Plans
-pub mod Found
+pub mod Incumbents
 pub mod Statuses
 pub mod Words
 pub mod PlanText
+pub mod Answers
+pub mod AnswerLaws
 pub mod Outcomes
 pub mod Runs

@@ -17,7 +17,8 @@ BeginsWith front plan = take (length front) plan ≡ front
 
 -- a record between two of the first paths is broken
 abbrev pub breaks_among : Instance → List ℕ → Record → Bool
-breaks_among instance plan r = (nat_lt (first_path r) (length plan) && nat_lt (second_path r) (length plan)) && breaks instance plan r
+breaks_among instance plan r =
+    (nat_lt (first_path r) (length plan) && nat_lt (second_path r) (length plan)) && breaks instance plan r
 
 -- the least plan, and none where no plan is feasible
 abbrev pub IsLeastPlan : Instance → Option (List ℕ) → Type 0

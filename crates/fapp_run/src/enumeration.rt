@@ -1,11 +1,11 @@
-// The least plan of a small network, by going through the plans. A front of a plan that breaks an imperative
+// The least plan of a small instance, by going through the plans. A front of a plan that breaks an imperative
 // record is not continued, and nothing is tried once a plan without any violation stands.
 ghost use Rattle.std.specs.Prelude.{◌≡◌, ℕ, ◌<◌, ◌≤◌, ◌↔◌, List, length, true, IsTrue, MatchBool, IfOk, OnOk, vec_len};
 ghost use Rattle.std.specs.List.{list_any};
 ghost use Rattle.fapp_model.specs.Instances.{IsInstance};
 ghost use Rattle.fapp_model.specs.Assignments.{IsAssignment};
 ghost use Rattle.fapp_run.specs.Plans.{breaks_among, IsPlannedTo, IsLeastPlan};
-ghost use Rattle.fapp_run.specs.Found.{IsFound, IsBetter, IsNoBetter, Offered, Searched, IsPerfect};
+ghost use Rattle.fapp_run.specs.Incumbents.{IsIncumbent, IsBetter, IsNoBetter, KeepsBetter, Explores, IsPerfect};
 
 use fapp_cost::cost;
 use fapp_model::{Instance, Items, Triple, choice_count, chosen};
@@ -13,7 +13,7 @@ use std::alloc::{AllocError, Global};
 
 /// The best plan so far.
 #[derive(Drop)]
-pub struct Found {
+pub struct Incumbent {
     plan: Items<u16>,
     triple: Triple,
 }
@@ -28,7 +28,7 @@ pub fn least_plan(alloc: Global, instance: &Instance) -> Result<Option<Items<u16
     let mut plan = Vec::new(alloc);
     search(alloc, instance, &mut plan, &mut best)?;
     match best {
-        Some(Found { plan, .. }) => Ok(Some(plan)),
+        Some(Incumbent { plan, .. }) => Ok(Some(plan)),
         None => Ok(None),
     }
 }
@@ -38,13 +38,13 @@ fn search(
     alloc: Global,
     instance: &Instance,
     plan: &mut Vec<u16>,
-    best: &mut Option<Found>,
+    best: &mut Option<Incumbent>,
 ) -> Result<(), AllocError>
     requires instance { IsInstance instance.now }
-    requires planned { IsPlannedTo instance.now plan.old.items (vec_len plan.old) }
-    requires found { IsFound instance.now best.old }
+    requires front { IsPlannedTo instance.now plan.old.items (vec_len plan.old) }
+    requires incumbent { IsIncumbent instance.now best.old }
     ensures same { OnOk result (plan.new.items ≡ plan.old.items) }
-    ensures searched { OnOk result (Searched instance.now plan.old.items best.old best.new) }
+    ensures explores { OnOk result (Explores instance.now plan.old.items best.old best.new) }
 {
     if breaks_among(instance, plan) {
         return Ok(());
@@ -70,39 +70,41 @@ fn offer(
     alloc: Global,
     instance: &Instance,
     plan: &[u16],
-    best: &mut Option<Found>,
+    best: &mut Option<Incumbent>,
 ) -> Result<(), AllocError>
     requires instance { IsInstance instance.now }
     requires plan { IsAssignment instance.now plan.now }
-    requires found { IsFound instance.now best.old }
-    ensures { OnOk result (Offered instance.now plan.now best.old best.new) }
+    requires incumbent { IsIncumbent instance.now best.old }
+    ensures { OnOk result (KeepsBetter instance.now plan.now best.old best.new) }
 {
     let Some(triple) = cost(instance, plan) else {
         return Ok(());
     };
     if is_better(triple, best) {
         let plan = Items::from_vec(Vec::from_slice(alloc, plan)?);
-        *best = Some(Found { plan, triple });
+        *best = Some(Incumbent { plan, triple });
     }
     Ok(())
 }
 
 /// Whether a cost is below that of the best plan so far, or there is none.
-fn is_better(triple: Triple, best: &Option<Found>) -> bool
+fn is_better(triple: Triple, best: &Option<Incumbent>) -> bool
     ensures { MatchBool result (IsBetter triple best.now) (IsNoBetter triple best.now) }
 {
     match best {
-        Some(found) => triple.is_below(found.triple),
+        Some(incumbent) => triple.is_below(incumbent.triple),
         None => true,
     }
 }
 
 /// Whether the best plan so far violates nothing, so that none costs less.
-fn is_perfect(best: &Option<Found>) -> bool
+fn is_perfect(best: &Option<Incumbent>) -> bool
     ensures { IsTrue result ↔ IsPerfect best.now }
 {
     match best {
-        Some(found) => found.triple.k == 0 && found.triple.v == 0 && found.triple.s == 0,
+        Some(incumbent) => incumbent.triple.k == 0
+            && incumbent.triple.v == 0
+            && incumbent.triple.s == 0,
         None => false,
     }
 }
@@ -110,7 +112,7 @@ fn is_perfect(best: &Option<Found>) -> bool
 /// Whether a record between two paths that have a choice is broken.
 fn breaks_among(instance: &Instance, plan: &[u16]) -> bool
     requires instance { IsInstance instance.now }
-    requires planned { IsPlannedTo instance.now plan.now (length plan.now) }
+    requires front { IsPlannedTo instance.now plan.now (length plan.now) }
     ensures { result ≡ list_any (breaks_among instance.now plan.now) instance.now.records }
 {
     for record in instance.records.as_slice() {

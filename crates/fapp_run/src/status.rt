@@ -13,7 +13,7 @@ pub enum Status {
     NoneFeasible,
     /// The words are not `solve --answer-only`. Nothing was read.
     Usage,
-    /// The input is no text of a network: its first refused line, and why.
+    /// The input is no text of an instance: its first refused line, and why.
     BadInput(BadInput),
     /// The input has more bytes than the limit.
     TooLong,
@@ -63,14 +63,4 @@ fn bad_input_line(alloc: Global, line: u32, cause: &str) -> Result<String, Alloc
     let mut text = String::new(alloc);
     writeln!(text, "BADINPUT {line} {cause}")?;
     Ok(text)
-}
-
-/// There was no memory.
-#[derive(Clone, Copy, Debug, PartialEq, Eq)]
-pub struct NoMemory;
-
-impl From<AllocError> for NoMemory {
-    fn from(_: AllocError) -> Self {
-        NoMemory
-    }
 }

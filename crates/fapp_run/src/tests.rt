@@ -11,9 +11,14 @@ use std::test::Fail;
 
 const WORDS: &str = "solve --answer-only";
 
+const PLAIN: &str =
+    "DM 1 10\nDM 2 10\nDM 2 20\nDM 2 30\nTR 1 1 1\nTR 2 2 1\nCE 1 2 20 20 20 20 20 20 20 20 20 20 20\n";
+
+const PLAIN_PLAN: &str = "AL 1 10 1\nAL 2 30 1\n";
+
 const CHAIN: &str = "DM 1 10\nDM 2 10\nDM 2 20\nTR 1 1 1\nTR 2 2 1\nCI 1 2 F E 10\n";
 
-const CHAIN_PLAN: &str = "AL 1 10 1\nAL 2 20 1\n";
+const TORN: &str = "DM 1 10\nDM 1 20\nTR 1 1 1\nTR 2 1 1\nCI 1 2 F E 10\nCI 1 2 F I 10\n";
 
 const FALLING: &str =
     "DM 1 10\nDM 2 10\nDM 2 20\nTR 1 1 1\nTR 2 2 1\nCE 1 2 20 18 16 14 12 10 8 6 4 2 0\n";
@@ -33,50 +38,93 @@ const SMALL: &str =
 const LENIENT: &str =
     "TR 1 1 1\r\nTR\t2 2 1\r\n\r\nCE  1 2 20 20 20 20 20 20 20 20 20 20 20\r\nDM 2 30\nDM 2 10\nDM 2 020\nDM 2 30\nDM 1 10";
 
-// Networks and their plans, which no other plan equals.
-const PLANS: [(&str, &str); 7] = [
-    (CHAIN, CHAIN_PLAN),
-    ("", ""),
-    (FALLING, "AL 1 10 1\nAL 2 20 1\n"),
-    (FREE, "AL 1 10 1\nAL 2 10 -1\n"),
-    (TIED, "AL 1 10 1\nAL 2 10 1\n"),
+// Words, an input, the exit status and what is written. Each plan is the only one that costs the least.
+const ENDS: [(&str, &str, u8, &str); 32] = [
+    (WORDS, PLAIN, 0, PLAIN_PLAN),
+    (WORDS, CHAIN, 0, "AL 1 10 1\nAL 2 20 1\n"),
+    (WORDS, "", 0, ""),
     (
+        WORDS,
+        "DM 1 1000000000\nTR 1 1 1\n",
+        0,
+        "AL 1 1000000000 1\n",
+    ),
+    (WORDS, FALLING, 0, "AL 1 10 1\nAL 2 20 1\n"),
+    (WORDS, FREE, 0, "AL 1 10 1\nAL 2 10 -1\n"),
+    (WORDS, TIED, 0, "AL 1 10 1\nAL 2 10 1\n"),
+    (
+        WORDS,
         SMALL,
+        0,
         "AL 1 1000 1\nAL 2 1100 1\nAL 3 1080 1\nAL 4 1180 -1\n",
     ),
-    (LENIENT, "AL 1 10 1\nAL 2 30 1\n"),
-];
-
-// Inputs that are refused, and what is written of them.
-const REFUSALS: [(&str, &str); 16] = [
+    (WORDS, LENIENT, 0, PLAIN_PLAN),
+    (WORDS, TORN, 1, ""),
+    ("solve", PLAIN, 64, "USAGE\n"),
+    ("solve --workers 0", PLAIN, 64, "USAGE\n"),
+    ("solve --workers 33", PLAIN, 64, "USAGE\n"),
+    ("solve --", PLAIN, 64, "USAGE\n"),
+    ("solve --fuel 1 --fuel 1", PLAIN, 64, "USAGE\n"),
+    ("--help", PLAIN, 64, "USAGE\n"),
     (
+        WORDS,
         "DM 1 10\nCE 1 1 0 0 0 0 0 0 0 0 0 0 0\n",
+        65,
         "BADINPUT 2 SelfPair\n",
     ),
     (
+        WORDS,
         "DM 1 10\nDM 2 20\nTR 1 1 1\nTR 2 2 1\nCE 1 2 20 20 20 20 20 20 20 20 20 20\n",
+        65,
         "BADINPUT 5 FieldCount\n",
     ),
     (
+        WORDS,
         "DM 1 10\nDM 2 20\nTR 1 1 1\nTR 2 2 1\nCE 1 2 20 20 20 20 20 20 20 20 20 20 21\n",
+        65,
         "BADINPUT 5 Increasing\n",
     ),
-    ("TR 1 7 1\nCI 1 1 F I 0\n", "BADINPUT 2 SelfPair\n"),
-    ("TR 1 7 1\nCI 1 3 F I 0\n", "BADINPUT 1 UnknownDomain\n"),
     (
+        WORDS,
+        "TR 1 7 1\nCI 1 1 F I 0\n",
+        65,
+        "BADINPUT 2 SelfPair\n",
+    ),
+    (
+        WORDS,
+        "TR 1 7 1\nCI 1 3 F I 0\n",
+        65,
+        "BADINPUT 1 UnknownDomain\n",
+    ),
+    (
+        WORDS,
         "DM 7 5\nTR 1 7 1\nCI 1 3 F I 0\n",
+        65,
         "BADINPUT 3 UnknownPath\n",
     ),
-    ("XX 1\n", "BADINPUT 1 UnknownRecord\n"),
-    ("CI 1 2 G E x\n", "BADINPUT 1 BadWord\n"),
-    ("TR 1 1 2\n", "BADINPUT 1 BadPolarization\n"),
-    ("TR 1 1 1\nTR 1 1 1\n", "BADINPUT 2 DuplicatePath\n"),
-    ("DM 1 1000000001\n", "BADINPUT 1 BadNumber\n"),
-    ("DM 1", "BADINPUT 1 FieldCount\n"),
-    ("DM 1 5\rDM 1 6\n", "BADINPUT 1 FieldCount\n"),
-    ("DM 1 -5\n", "BADINPUT 1 BadNumber\n"),
-    ("TR 1 1 01\n", "BADINPUT 1 BadPolarization\n"),
-    ("CI 1 2 F X 5\n", "BADINPUT 1 BadWord\n"),
+    (WORDS, "XX 1\n", 65, "BADINPUT 1 UnknownRecord\n"),
+    (WORDS, "CI 1 2 G E x\n", 65, "BADINPUT 1 BadWord\n"),
+    (WORDS, "TR 1 1 2\n", 65, "BADINPUT 1 BadPolarization\n"),
+    (
+        WORDS,
+        "TR 1 1 1\nTR 1 1 1\n",
+        65,
+        "BADINPUT 2 DuplicatePath\n",
+    ),
+    (WORDS, "DM 1 1000000001\n", 65, "BADINPUT 1 BadNumber\n"),
+    (WORDS, "DM 1", 65, "BADINPUT 1 FieldCount\n"),
+    (WORDS, "DM 1 5\rDM 1 6\n", 65, "BADINPUT 1 FieldCount\n"),
+    (WORDS, "DM 1 -5\n", 65, "BADINPUT 1 BadNumber\n"),
+    (WORDS, "TR 1 1 01\n", 65, "BADINPUT 1 BadPolarization\n"),
+    (WORDS, "CI 1 2 F X 5\n", 65, "BADINPUT 1 BadWord\n"),
+];
+
+// How many bytes are given and taken in a call over PLAIN, which read or write fails (0: none), the exit status and what
+// is written.
+const FAULTS: [(usize, u64, u64, u8, &str); 3] = [
+    (4096, 1, 0, 66, "READFAULT\n"),
+    (4096, 0, 1, 67, ""),
+    (4, 0, 3, 67, "AL 1 10 "),
 ];
 
 // Networks, and what their least plans cost.
@@ -97,7 +145,7 @@ fn words_of(alloc: Global, line: &str) -> Result<Vec<String>, Fail> {
 }
 
 /// How the program ends on these words and this input, given and taken in pieces, one call failing (0: none).
-fn ended(
+fn end_of(
     alloc: Global,
     words: &str,
     input: &[u8],
@@ -109,51 +157,61 @@ fn ended(
 {
     let bytes = Vec::from_slice(alloc, input)?;
     let mut source = MemSource::new(bytes, pieces, vec![in alloc; failing_read]?);
-    let mut sink = MemSink::new(alloc, 1000, pieces, vec![in alloc; failing_write]?)?;
+    let mut sink = MemSink::new(alloc, 100_000, pieces, vec![in alloc; failing_write]?)?;
     let words = words_of(alloc, words)?;
     let status = run(alloc, &words, &mut source, &mut sink);
     Ok((status, Vec::from_slice(alloc, sink.taken())?))
 }
 
 #[test]
-fn networks_end_with_their_plans(rt: HostRuntime) -> Result<(), Fail> {
-    for (input, output) in PLANS.iter() {
+fn each_input_has_its_end(rt: HostRuntime) -> Result<(), Fail> {
+    for (words, input, code, output) in ENDS.iter() {
         for pieces in [1, 3, 4096] {
-            let (status, written) = ended(rt.alloc(), WORDS, input.as_bytes(), pieces, 0, 0)?;
-            assert_eq!(rt; status.code(), 0, "at {input}");
-            assert_eq!(rt; written.as_slice(), output.as_bytes(), "at {input}");
+            let (status, written) = end_of(rt.alloc(), words, input.as_bytes(), pieces, 0, 0)?;
+            assert_eq!(rt; status.code(), *code, "at {words} {input}");
+            assert_eq!(rt; written.as_slice(), output.as_bytes(), "at {words} {input}");
         }
     }
     Ok(())
 }
 
 #[test]
-fn faulty_inputs_are_refused(rt: HostRuntime) -> Result<(), Fail> {
-    for (input, output) in REFUSALS.iter() {
-        let (status, written) = ended(rt.alloc(), WORDS, input.as_bytes(), 4096, 0, 0)?;
-        assert_eq!(rt; status.code(), 65, "at {input}");
-        assert_eq!(rt; written.as_slice(), output.as_bytes(), "at {input}");
+fn bytes_alone_have_their_answer(rt: HostRuntime) -> Result<(), Fail> {
+    let outcome = answer(rt.alloc(), PLAIN.as_bytes())?;
+    assert_eq!(rt; outcome.status, Status::Best);
+    assert_eq!(rt; outcome.text.as_str(), PLAIN_PLAN);
+    Ok(())
+}
+
+#[test]
+fn each_fault_has_its_end(rt: HostRuntime) -> Result<(), Fail> {
+    let input = PLAIN.as_bytes();
+    for (most, failing_read, failing_write, code, output) in FAULTS.iter() {
+        let pieces = (*most).max(1);
+        let (status, written) = end_of(
+            rt.alloc(),
+            WORDS,
+            input,
+            pieces,
+            *failing_read,
+            *failing_write,
+        )?;
+        assert_eq!(rt; status.code(), *code, "at {failing_read} {failing_write}");
+        assert_eq!(rt;
+            written.as_slice(),
+            output.as_bytes(),
+            "at {failing_read} {failing_write}"
+        );
     }
     Ok(())
 }
 
 #[test]
-fn other_ends_have_their_codes(rt: HostRuntime) -> Result<(), Fail> {
-    let (status, written) = ended(rt.alloc(), "solve", CHAIN.as_bytes(), 7, 0, 0)?;
-    assert_eq!(rt; status.code(), 64);
-    assert_eq!(rt; written.as_slice(), b"USAGE\n".as_slice());
-    let torn = "DM 1 10\nDM 1 20\nTR 1 1 1\nTR 2 1 1\nCI 1 2 F E 10\nCI 1 2 F I 10\n";
-    let (status, written) = ended(rt.alloc(), WORDS, torn.as_bytes(), 7, 0, 0)?;
-    assert_eq!(rt; status.code(), 1);
-    assert_eq!(rt; written.len(), 0);
-    Ok(())
-}
-
-#[test]
-fn each_failing_read_is_told(rt: HostRuntime) -> Result<(), Fail> {
-    // The input is read by 20 calls, the last of which finds its end.
-    for call in 1..21 {
-        let (status, written) = ended(rt.alloc(), WORDS, CHAIN.as_bytes(), 3, call, 0)?;
+fn any_call_may_fail(rt: HostRuntime) -> Result<(), Fail> {
+    let input = PLAIN.as_bytes();
+    // The 90 bytes are read by seven calls, the last of which finds the end.
+    for call in 1..8 {
+        let (status, written) = end_of(rt.alloc(), WORDS, input, 16, call, 0)?;
         assert_eq!(rt; status, Status::ReadFault, "at call {call}");
         assert_eq!(rt;
             written.as_slice(),
@@ -161,20 +219,12 @@ fn each_failing_read_is_told(rt: HostRuntime) -> Result<(), Fail> {
             "at call {call}"
         );
     }
-    Ok(())
-}
-
-#[test]
-fn each_failing_write_leaves_a_front(rt: HostRuntime) -> Result<(), Fail> {
+    // The 20 bytes are written by five.
     for call in 1..6 {
-        let (status, written) = ended(rt.alloc(), WORDS, CHAIN.as_bytes(), 4, 0, call)?;
+        let (status, written) = end_of(rt.alloc(), WORDS, input, 4, 0, call)?;
         assert_eq!(rt; status, Status::WriteFault, "at call {call}");
-        let front = 4 * (call as usize - 1);
-        assert_eq!(rt;
-            Some(written.as_slice()),
-            CHAIN_PLAN.as_bytes().get(..front),
-            "at call {call}"
-        );
+        let front = PLAIN_PLAN.as_bytes().get(..4 * (call as usize - 1));
+        assert_eq!(rt; Some(written.as_slice()), front, "at call {call}");
     }
     Ok(())
 }
@@ -182,11 +232,11 @@ fn each_failing_write_leaves_a_front(rt: HostRuntime) -> Result<(), Fail> {
 #[test]
 fn the_longest_input_is_read(rt: HostRuntime) -> Result<(), Fail> {
     for (length, code, output) in [
-        (67_108_864, 0, ""),
-        (67_108_865, 65, "BADINPUT 0 TooLong\n"),
+        (MAX_INPUT, 0, ""),
+        (MAX_INPUT + 1, 65, "BADINPUT 0 TooLong\n"),
     ] {
         let feeds = vec![in rt.alloc(); b'\n'; length]?;
-        let (status, written) = ended(rt.alloc(), WORDS, &feeds, 4096, 0, 0)?;
+        let (status, written) = end_of(rt.alloc(), WORDS, &feeds, 4096, 0, 0)?;
         assert_eq!(rt; status.code(), code);
         assert_eq!(rt; written.as_slice(), output.as_bytes());
     }
@@ -194,12 +244,18 @@ fn the_longest_input_is_read(rt: HostRuntime) -> Result<(), Fail> {
 }
 
 #[test]
-fn one_path_too_many_is_refused(rt: HostRuntime) -> Result<(), Fail> {
+fn the_most_paths_are_planned(rt: HostRuntime) -> Result<(), Fail> {
     let mut text = String::from_str(rt.alloc(), "DM 1 5\n")?;
-    for number in 1..8194 {
+    let mut lines = String::new(rt.alloc());
+    for number in 1..8193 {
         writeln!(text, "TR {number} 1 1")?;
+        writeln!(lines, "AL {number} 5 1")?;
     }
-    let (status, written) = ended(rt.alloc(), WORDS, text.as_bytes(), 4096, 0, 0)?;
+    let (status, written) = end_of(rt.alloc(), WORDS, text.as_bytes(), 4096, 0, 0)?;
+    assert_eq!(rt; status, Status::Best);
+    assert!(rt; written.as_slice() == lines.as_bytes());
+    writeln!(text, "TR 8193 1 1")?;
+    let (status, written) = end_of(rt.alloc(), WORDS, text.as_bytes(), 4096, 0, 0)?;
     assert_eq!(rt; status.code(), 65);
     assert_eq!(rt;
         written.as_slice(),

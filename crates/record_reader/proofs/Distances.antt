@@ -1,9 +1,11 @@
 -- The numbers of fields, from the front on.
-use Rattle.std.proofs.Common.{◌≡◌, ℕ, suc, ◌+◌, ◌<◌, ◌≤◌, List, [], ◌∷◌, ◌++◌, length, get_or, set, take, drop, Result, Ok, Err, refl, sym, ap, ◌∙◌, drop-cons, append_assoc, append-nil}
-use Rattle.std.proofs.lemmas.List.{drop_all, take_more_set, take_all}
+use Rattle.std.proofs.Common.{◌≡◌, ℕ, suc, ◌+◌, ◌-◌, ◌<◌, ◌≤◌, List, [], ◌∷◌, ◌++◌, length, get_or, set, take, drop, replicate, Result, Ok, Err, refl, sym, ap, ◌∙◌, arith, drop-cons, append_assoc, append-nil}
+use Rattle.std.proofs.lemmas.List.{drop_all, take_more_set, length-take-le, drop-set-lt, drop-drop, drop-replicate, take-append-drop}
+use Rattle.fapp_model.specs.declared.level.TheConstants.{MAX_LEVELS}
+use Rattle.fapp_text.specs.Reading.{◌>>=◌}
 use Rattle.record_reader.specs.declared.cause.Cause.{Cause}
-use Rattle.record_reader.specs.Steps.{◌>>=◌}
 use Rattle.record_reader.specs.Fields.{number, numbers}
+use Rattle.record_reader.specs.Entries.{with_zeros, distances}
 
 -- some numbers before those of a result
 abbrev pub after : List ℕ → Result (List ℕ) Cause → Result (List ℕ) Cause
@@ -41,7 +43,28 @@ one_bad fields dist i k cause all lt e so_far =
     sym (ap (λ xs. after (take i dist) (numbers xs)) (drop-cons fields k [] lt)
     ∙ ap (after (take i dist)) (numbers_err (get_or fields k []) (drop (suc k) fields) cause (sym e))) ∙ so_far
 
-pub all_read : (fields : List (List ℕ)) (dist : List ℕ) (i k : ℕ) (all : Result (List ℕ) Cause) → length fields ≤ k → length dist ≤ i
-    → after (take i dist) (numbers (drop k fields)) ≡ all → Ok dist ≡ all
-all_read fields dist i k all done full so_far =
-    sym (ap (λ xs. after (take i dist) (numbers xs)) (drop_all k fields done) ∙ ap Ok (append-nil (take i dist) ∙ take_all i dist full)) ∙ so_far
+pub all_read : (fields : List (List ℕ)) (dist : List ℕ) (i k : ℕ) (all : Result (List ℕ) Cause) → length fields ≤ k
+    → after (take i dist) (numbers (drop k fields)) ≡ all → Ok (take i dist) ≡ all
+all_read fields dist i k all done so_far =
+    sym (ap (λ xs. after (take i dist) (numbers xs)) (drop_all k fields done) ∙ ap Ok (append-nil (take i dist))) ∙ so_far
+
+-- zeros from a place on
+pub zeros_more : (dist : List ℕ) (i n room : ℕ) → drop i dist ≡ replicate (room - i) 0 → drop (i + 1) (set dist i n) ≡ replicate (room - (i + 1)) 0
+zeros_more dist i n room zeros =
+    drop-set-lt (i + 1) dist i n (omega arith) ∙ sym (drop-drop 1 i dist) ∙ ap (drop 1) zeros ∙ drop-replicate 1 (room - i) 0
+    ∙ ap (λ k. replicate k 0) (let e : room - i - 1 ≡ room - (i + 1) = omega arith in e)
+
+-- all numbers that were read, and zeros
+pub padded : (dist : List ℕ) (i : ℕ) → i ≤ MAX_LEVELS → length dist ≡ MAX_LEVELS → drop i dist ≡ replicate (MAX_LEVELS - i) 0 → with_zeros (take i dist) ≡ dist
+padded dist i within count zeros =
+    ap (λ k. take i dist ++ replicate (MAX_LEVELS - k) 0) (length-take-le i dist (omega (arith, count)))
+    ∙ ap (λ xs. take i dist ++ xs) (sym zeros)
+    ∙ take-append-drop i dist
+
+pub all_padded : (texts : List (List ℕ)) (dist : List ℕ) (i : ℕ) → i ≤ MAX_LEVELS → length dist ≡ MAX_LEVELS → drop i dist ≡ replicate (MAX_LEVELS - i) 0
+    → Ok (take i dist) ≡ numbers texts → Ok dist ≡ distances texts
+all_padded texts dist i within count zeros read =
+    ap Ok (sym (padded dist i within count zeros)) ∙ ap (λ r. r >>= λ ns. Ok (with_zeros ns)) read
+
+pub bad_distance : (texts : List (List ℕ)) (cause : Cause) → Err cause ≡ numbers texts → Err cause ≡ distances texts
+bad_distance texts cause read = ap (λ r. r >>= λ ns. Ok (with_zeros ns)) read

@@ -3,10 +3,12 @@ use Rattle.std.proofs.Common.{◌≡◌, ℕ, Bool, true, false, cond, eqb, ltb,
 use Rattle.std.specs.Ordering.{nat_cmp, match_ordering}
 use Rattle.std.specs.BTreeMap.{BTreeMap, get, is_at}
 use Rattle.std.specs.BTreeSet.{BTreeSet, insert_key}
+use Rattle.std.specs.Option.{unwrap_or}
+use Rattle.std.proofs.lemmas.Bool.{eqb-true}
 use Rattle.std.proofs.lemmas.Bool.Decides.{nat_tests}
 use Rattle.std.proofs.lemmas.List.Sums.{fold_push}
-use Rattle.record_reader.specs.declared.row.DomainRow.{DomainRow}
-use Rattle.record_reader.specs.Networks.{put, put_row, frequencies}
+use Rattle.record_reader.specs.declared.entry.DomainEntry.{DomainEntry}
+use Rattle.record_reader.specs.Instances.{put, put_entry, frequencies}
 use Rattle.record_reader.specs.Readers.{frequencies_in, keys_of}
 use Rattle.record_reader.proofs.Places.{at_eq}
 
@@ -17,34 +19,36 @@ pub put_key : (n : ℕ) (ks : List ℕ) → put n ks ≡ insert_key nat_cmp ks n
 put_key n [] = refl
 put_key n (m ∷ ks) = rw (put_key n ks) (by_order n m (n ∷ m ∷ ks) (m ∷ ks) (m ∷ insert_key nat_cmp ks n))
 
-pub frequencies_push : (rows : List DomainRow) (row : DomainRow) (domain : ℕ) → frequencies (rows ++ row ∷ []) domain ≡ put_row domain (frequencies rows domain) row
-frequencies_push rows row domain = fold_push (put_row domain) [] rows row
+pub frequencies_push : (entries : List DomainEntry) (entry : DomainEntry) (domain : ℕ) → frequencies (entries ++ entry ∷ []) domain ≡ put_entry domain (frequencies entries domain) entry
+frequencies_push entries entry domain = fold_push (put_entry domain) [] entries entry
 
--- a map after a domain's frequencies were taken out
-pub taken_others : (domain : ℕ) (old new : BTreeMap ℕ (BTreeSet ℕ)) → ((q : ℕ) → get nat_cmp new q ≡ cond (is_at (nat_cmp domain) q) None (get nat_cmp old q))
-    → (other : ℕ) → eqb domain other ≡ false → frequencies_in new other ≡ frequencies_in old other
-taken_others domain old new u other apart = ap keys_of (u other ∙ ap (λ b. cond b None (get nat_cmp old other)) (at_eq domain other ∙ apart))
+put_step : (entry : DomainEntry) (domain : ℕ) (same : Bool) (set : BTreeSet ℕ) (old : Option (BTreeSet ℕ)) (own : List ℕ) → eqb entry.domain domain ≡ same
+    → (same ≡ true → own ≡ keys_of old) → set.keys ≡ insert_key nat_cmp own entry.frequency → keys_of (cond same (Some set) old) ≡ put_entry domain (keys_of old) entry
+put_step entry domain true set old own e mine keys = rw (e, ← mine refl) (keys ∙ sym (put_key entry.frequency own))
+put_step entry domain false set old own e mine keys = rw e refl
 
-put_step : (row : DomainRow) (domain : ℕ) (same : Bool) (set : BTreeSet ℕ) (old left : Option (BTreeSet ℕ)) (own : List ℕ) → eqb row.domain domain ≡ same
-    → (same ≡ true → own ≡ keys_of old) → (same ≡ false → keys_of left ≡ keys_of old) → set.keys ≡ insert_key nat_cmp own row.frequency
-    → keys_of (cond same (Some set) left) ≡ put_row domain (keys_of old) row
-put_step row domain true set old left own e mine others keys = rw (e, ← mine refl) (keys ∙ sym (put_key row.frequency own))
-put_step row domain false set old left own e mine others keys = rw e (others refl)
+keys_from : (o : Option (BTreeSet ℕ)) (none : BTreeSet ℕ) → none.keys ≡ [] → (unwrap_or o none).keys ≡ keys_of o
+keys_from None none e = e
+keys_from (Some set) none e = refl
 
-eqb_same : (m n : ℕ) → eqb m n ≡ true → m ≡ n
-eqb_same m n e = grind arith
+-- a map's frequencies of a domain, none at first, and these with another one
+pub record GetsFrequency (entry : DomainEntry) (old : BTreeMap ℕ (BTreeSet ℕ)) (set : BTreeSet ℕ) : Type 0 where
+  pub own : List ℕ
+  pub before : own ≡ frequencies_in old entry.domain
+  pub keys : set.keys ≡ insert_key nat_cmp own entry.frequency
 
--- a map after a domain's frequencies were put back with another one
-pub put_back : (row : DomainRow) (old left new : BTreeMap ℕ (BTreeSet ℕ)) (own : List ℕ) (set : BTreeSet ℕ) → own ≡ frequencies_in old row.domain
-    → ((other : ℕ) → eqb row.domain other ≡ false → frequencies_in left other ≡ frequencies_in old other) → set.keys ≡ insert_key nat_cmp own row.frequency
-    → ((q : ℕ) → get nat_cmp new q ≡ cond (is_at (nat_cmp row.domain) q) (Some set) (get nat_cmp left q)) → (domain : ℕ) → frequencies_in new domain ≡ put_row domain (frequencies_in old domain) row
-put_back row old left new own set mine others keys u domain =
-    ap keys_of (u domain ∙ ap (λ b. cond b (Some set) (get nat_cmp left domain)) (at_eq row.domain domain))
-    ∙ put_step row domain (eqb row.domain domain) set (get nat_cmp old domain) (get nat_cmp left domain) own refl
-    (λ e. mine ∙ ap (frequencies_in old) (eqb_same row.domain domain e)) (λ e. others domain e) keys
+pub gets_frequency : (entry : DomainEntry) (old : BTreeMap ℕ (BTreeSet ℕ)) (none own set : BTreeSet ℕ) → none.keys ≡ []
+    → own ≡ unwrap_or (get nat_cmp old entry.domain) none → set.keys ≡ insert_key nat_cmp own.keys entry.frequency → GetsFrequency entry old set
+gets_frequency entry old none own set empty mine keys = record { own = own.keys; before = ap (λ (s : BTreeSet ℕ). s.keys) mine ∙ keys_from (get nat_cmp old entry.domain) none empty; keys = keys }
 
-pub own_count : (domain : ℕ) (new : BTreeMap ℕ (BTreeSet ℕ)) (left : Option (BTreeSet ℕ)) (set : BTreeSet ℕ) → get nat_cmp new domain ≡ cond (is_at (nat_cmp domain) domain) (Some set) left
-    → length set.keys ≡ length (frequencies_in new domain)
-own_count domain new left set u =
-    let at : is_at (nat_cmp domain) domain ≡ true = at_eq domain domain ∙ (let e : eqb domain domain ≡ true = grind arith in e) in
-    sym (ap (λ o. length (keys_of o)) (u ∙ ap (λ b. cond b (Some set) left) at))
+-- what a map with these then has at a domain
+pub has_then : (entry : DomainEntry) (old : BTreeMap ℕ (BTreeSet ℕ)) (set : BTreeSet ℕ) → GetsFrequency entry old set
+    → (domain : ℕ) (found : Option (BTreeSet ℕ)) → found ≡ cond (is_at (nat_cmp entry.domain) domain) (Some set) (get nat_cmp old domain) → keys_of found ≡ put_entry domain (frequencies_in old domain) entry
+has_then entry old set g domain found u =
+    ap keys_of (u ∙ ap (λ b. cond b (Some set) (get nat_cmp old domain)) (at_eq entry.domain domain))
+    ∙ put_step entry domain (eqb entry.domain domain) set (get nat_cmp old domain) g.own refl
+    (λ e. g.before ∙ ap (frequencies_in old) (eqb-true entry.domain domain e)) g.keys
+
+-- and how many at its own
+pub counted_then : (set : BTreeSet ℕ) (count : ℕ) → count ≡ length set.keys → (found : Option (BTreeSet ℕ)) → found ≡ Some set → count ≡ length (keys_of found)
+counted_then set count counted found u = counted ∙ sym (ap (λ o. length (keys_of o)) u)

@@ -1,31 +1,36 @@
--- The network of some entries of a text, as far as it is built.
+-- The instance of some entries of a text, as far as it is built.
 use Rattle.std.specs.Prelude.{◌≡◌, ℕ, ◌≤◌, List, [], ◌∷◌, ◌++◌, map, sum_by, Option, Some, None, Result, Ok, Err}
 use Rattle.fapp_model.specs.declared.limits.TheConstants.{MAX_CHOICES}
 use Rattle.fapp_model.specs.declared.record.Record.{Record}
-use Rattle.record_reader.specs.declared.cause.BadInput.{BadInput}
-use Rattle.record_reader.specs.declared.cause.ReadError.{ReadError}
-use Rattle.record_reader.specs.declared.cause.ReadError.TheVariants.{Bad, NoMemory}
+use Rattle.fapp_text.specs.declared.failure.LineFault.{LineFault}
+use Rattle.fapp_text.specs.declared.failure.Failure.{Failure}
+use Rattle.fapp_text.specs.declared.failure.Failure.TheVariants.{Bad, NoMemory}
 use Rattle.record_reader.specs.declared.draft.Draft.{Draft}
-use Rattle.record_reader.specs.declared.row.Entry.{Entry}
-use Rattle.record_reader.specs.declared.row.Rule.{Rule}
-use Rattle.record_reader.specs.declared.row.Sheet.{Sheet}
-use Rattle.record_reader.specs.Networks.{paths_of, constraints_of, path_of, record_of, record_between}
-use Rattle.record_reader.specs.Wide.{choice_count, wide, line_of, bad_at}
+use Rattle.record_reader.specs.declared.cause.Cause.{Cause}
+use Rattle.record_reader.specs.declared.entry.Link.{Link}
+use Rattle.record_reader.specs.declared.reader.Reader.{Reader}
+use Rattle.record_reader.specs.declared.entry.Rule.{Rule}
+use Rattle.record_reader.specs.Instances.{paths_of, constraints_of, path_of, record_of, record_between}
+use Rattle.record_reader.specs.Readers.{domains_of}
+use Rattle.record_reader.specs.Links.{choice_count, link_refusal, line_of, fault_at}
 
-pub record IsDraft (sheet : Sheet) (earlier : List Entry) (draft : Draft) : Type 0 where
-  pub paths : draft.paths.items ≡ map (path_of sheet.domains) (paths_of earlier)
-  pub records : draft.records.items ≡ map (record_of (paths_of sheet.entries)) (constraints_of earlier)
-  pub choices : draft.choices ≡ sum_by (choice_count sheet.domains) (paths_of earlier)
+-- what some links are among all that a reader holds
+pub record IsDraft (reader : Reader) (earlier : List Link) (draft : Draft) : Type 0 where
+  pub paths : draft.paths.items ≡ map (path_of (domains_of reader)) (paths_of earlier)
+  pub records : draft.records.items ≡ map (record_of (paths_of reader.links)) (constraints_of earlier)
+  pub choices : draft.choices ≡ sum_by (choice_count (domains_of reader)) (paths_of earlier)
   pub few : draft.choices ≤ MAX_CHOICES
 
-abbrev pub RefusesAs : Option BadInput → ReadError → Type 0
+abbrev pub RefusesAs : Option (LineFault Cause) → Failure (LineFault Cause) → Type 0
 RefusesAs refused (Bad bad) = refused ≡ Some bad
 RefusesAs refused NoMemory = Unit {0}
 
--- one more entry, or why the whole text refuses it
-abbrev pub Grows : Sheet → List Entry → Entry → Result (Unit {0}) ReadError → Draft → Type 0
-Grows sheet earlier entry (Ok done) new = (wide sheet earlier entry ≡ None) × IsDraft sheet (earlier ++ entry ∷ []) new
-Grows sheet earlier entry (Err error) new = RefusesAs (bad_at (line_of entry) (wide sheet earlier entry)) error
+-- a draft of one more link, or why the whole text refuses it
+abbrev pub Grows : Reader → List Link → Link → Result (Unit {0}) (Failure (LineFault Cause)) → Draft → Type 0
+Grows reader earlier link (Ok done) new =
+    (link_refusal (domains_of reader) (paths_of reader.links) earlier link ≡ None) × IsDraft reader (earlier ++ link ∷ []) new
+Grows reader earlier link (Err failure) new =
+    RefusesAs (fault_at (line_of link) (link_refusal (domains_of reader) (paths_of reader.links) earlier link)) failure
 
 -- the record between two positions, where both are known
 abbrev pub record_by : Option ℕ → Option ℕ → Rule → Option Record

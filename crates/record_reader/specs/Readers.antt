@@ -1,43 +1,60 @@
--- What the reader keeps of the rows so far.
+-- What the reader keeps of the lines so far.
 use Rattle.std.specs.Prelude.{◌≡◌, ℕ, List, [], Option, Some, None, Result, Ok, Err, length}
 use Rattle.std.specs.Ordering.{nat_cmp}
 use Rattle.std.specs.BTreeMap.{BTreeMap, get, btree_map_len}
 use Rattle.std.specs.BTreeSet.{BTreeSet}
-use Rattle.record_reader.specs.declared.cause.BadInput.{BadInput}
-use Rattle.record_reader.specs.declared.cause.ReadError.{ReadError}
-use Rattle.record_reader.specs.declared.cause.ReadError.TheVariants.{NoMemory}
-use Rattle.record_reader.specs.declared.row.DomainRow.{DomainRow}
-use Rattle.record_reader.specs.declared.row.Sheet.{Sheet}
+use Rattle.fapp_text.specs.declared.failure.Failure.{Failure}
+use Rattle.fapp_text.specs.declared.failure.LineFault.{LineFault}
+use Rattle.fapp_text.specs.Reading.{Fails}
+use Rattle.record_reader.specs.declared.cause.Cause.{Cause}
+use Rattle.record_reader.specs.declared.entry.DomainEntry.{DomainEntry}
+use Rattle.record_reader.specs.declared.entry.PathEntry.{PathEntry}
 use Rattle.record_reader.specs.declared.reader.Reader.{Reader}
-use Rattle.record_reader.specs.Networks.{put_row, frequencies, paths_of, constraints_of, place_of}
-use Rattle.record_reader.specs.Texts.{FailsAs}
+use Rattle.record_reader.specs.Contents.{Contents, Domains}
+use Rattle.record_reader.specs.Instances.{put_entry, frequencies, paths_of, constraints_of, place_of}
 
 abbrev pub keys_of : Option (BTreeSet ℕ) → List ℕ
 keys_of None = []
 keys_of (Some set) = set.keys
 
--- the frequencies that a map has at a domain
-abbrev pub frequencies_in : BTreeMap ℕ (BTreeSet ℕ) → ℕ → List ℕ
+-- the frequencies that a map has at each domain
+abbrev pub frequencies_in : BTreeMap ℕ (BTreeSet ℕ) → Domains
 frequencies_in domains domain = keys_of (get nat_cmp domains domain)
 
--- each domain has the row's frequency beside its own, if it is the row's domain
-abbrev pub AddsFrequency : DomainRow → BTreeMap ℕ (BTreeSet ℕ) → Result ℕ ReadError → BTreeMap ℕ (BTreeSet ℕ) → Type 0
-AddsFrequency row old (Ok count) new =
-    ((domain : ℕ) → frequencies_in new domain ≡ put_row domain (frequencies_in old domain) row) × (count ≡ length (frequencies_in new row.domain))
-AddsFrequency row old (Err error) new = error ≡ NoMemory
+-- each domain has the entry's frequency beside its own, if it is the entry's domain
+abbrev pub AddsFrequency : DomainEntry → BTreeMap ℕ (BTreeSet ℕ) → ℕ → BTreeMap ℕ (BTreeSet ℕ) → Type 0
+AddsFrequency entry old count new =
+    ((domain : ℕ) → frequencies_in new domain ≡ put_entry domain (frequencies_in old domain) entry)
+    × (count ≡ length (frequencies_in new entry.domain))
 
--- a map has the position of each path, another one each domain's frequencies, and constraints are counted
-pub record IsIndexed (reader : Reader) : Type 0 where
-  pub positions : (number : ℕ) → get nat_cmp reader.positions number ≡ place_of (paths_of reader.sheet.entries) number
-  pub paths : btree_map_len reader.positions ≡ length (paths_of reader.sheet.entries)
-  pub domains : (domain : ℕ) → frequencies_in reader.domains domain ≡ frequencies reader.sheet.domains domain
-  pub constraints : reader.constraints ≡ length (constraints_of reader.sheet.entries)
+abbrev pub domains_of : Reader → Domains
+domains_of reader = frequencies_in reader.domains
 
--- the reader has the rows that reading gives, or reading fails so
-abbrev pub Goes : Result Sheet BadInput → Result (Unit {0}) ReadError → Reader → Type 0
-Goes read (Ok done) new = (read ≡ Ok new.sheet) × IsIndexed new
-Goes read (Err error) new = FailsAs error read
+-- a map has the position of each path
+abbrev pub HasPositions : BTreeMap ℕ ℕ → List PathEntry → Type 0
+HasPositions positions paths = (number : ℕ) → get nat_cmp positions number ≡ place_of paths number
 
-abbrev pub GivesReader : Result Sheet BadInput → Result Reader ReadError → Type 0
-GivesReader read (Ok reader) = (read ≡ Ok reader.sheet) × IsIndexed reader
-GivesReader read (Err error) = FailsAs error read
+-- the links, the positions of their paths, each domain's frequencies, and how many domain records and constraints
+-- there are
+pub record Holds (reader : Reader) (contents : Contents) : Type 0 where
+  pub links : reader.links ≡ contents.links
+  pub positions : HasPositions reader.positions (paths_of contents.links)
+  pub paths : btree_map_len reader.positions ≡ length (paths_of contents.links)
+  pub domains : (domain : ℕ) → frequencies_in reader.domains domain ≡ frequencies contents.domains domain
+  pub domain_records : reader.domain_records ≡ length contents.domains
+  pub constraints : reader.constraints ≡ length (constraints_of contents.links)
+
+-- the reader holds what reading gives, or reading fails so
+abbrev pub HoldsRead : Result Contents (LineFault Cause)
+    → Result (Unit {0}) (Failure (LineFault Cause)) → Reader → Type 0
+HoldsRead read (Ok done) reader = (contents : Contents) × (read ≡ Ok contents) × Holds reader contents
+HoldsRead read (Err failure) reader = Fails failure read
+
+-- what a line makes of each contents that the reader may hold
+abbrev pub Takes : (Contents → Result Contents (LineFault Cause))
+    → Reader → Result (Unit {0}) (Failure (LineFault Cause)) → Reader → Type 0
+Takes read old result new = (contents : Contents) → Holds old contents → HoldsRead (read contents) result new
+
+abbrev pub GivesReader : Result Contents (LineFault Cause) → Result Reader (Failure (LineFault Cause)) → Type 0
+GivesReader read (Ok reader) = (contents : Contents) × (read ≡ Ok contents) × Holds reader contents
+GivesReader read (Err failure) = Fails failure read

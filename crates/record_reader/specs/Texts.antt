@@ -1,34 +1,25 @@
--- The network of a text, or the first line that is refused and why.
-use Rattle.std.specs.Prelude.{◌≡◌, ℕ, List, [], Result, Ok, Err}
+-- The instance of a text, or the first line that is refused and why.
+use Rattle.std.specs.Prelude.{ℕ, List, [], Result}
 use Rattle.fapp_model.specs.declared.instance.Instance.{Instance}
+use Rattle.fapp_text.specs.declared.failure.LineFault.{LineFault}
 use Rattle.fapp_text.specs.Lines.{lines}
-use Rattle.record_reader.specs.declared.cause.BadInput.{BadInput}
-use Rattle.record_reader.specs.declared.cause.ReadError.{ReadError}
-use Rattle.record_reader.specs.declared.cause.ReadError.TheVariants.{Bad, NoMemory}
-use Rattle.record_reader.specs.declared.row.Sheet.{Sheet}
-use Rattle.record_reader.specs.Steps.{◌>>=◌, unless}
-use Rattle.record_reader.specs.Networks.{instance_of}
-use Rattle.record_reader.specs.Sheets.{read_lines}
-use Rattle.record_reader.specs.Wide.{first_wide}
+use Rattle.fapp_text.specs.Reading.{◌>>=◌, unless}
+use Rattle.record_reader.specs.declared.cause.Cause.{Cause}
+use Rattle.record_reader.specs.declared.entry.Link.{Link}
+use Rattle.record_reader.specs.Contents.{Contents, Domains, no_contents}
+use Rattle.record_reader.specs.Instances.{frequencies, paths_of, instance_of}
+use Rattle.record_reader.specs.Links.{first_link_refusal}
+use Rattle.record_reader.specs.LineReading.{read_lines}
 
-abbrev pub no_row : Sheet
-no_row = record { domains = []; entries = [] }
+-- the instance of links over domains, where none of them is refused
+abbrev pub instance_of_links : Domains → List Link → Result Instance (LineFault Cause)
+instance_of_links domains links = unless (first_link_refusal domains (paths_of links) [] links) (instance_of domains links)
 
--- the network of rows, where the whole text refuses none of them
-abbrev pub settled : Sheet → Result Instance BadInput
-settled sheet = unless (first_wide sheet [] sheet.entries) (instance_of sheet)
+abbrev pub instance_of_contents : Contents → Result Instance (LineFault Cause)
+instance_of_contents contents = instance_of_links (frequencies contents.domains) contents.links
 
-abbrev pub instance_of_lines : List (List ℕ) → Result Instance BadInput
-instance_of_lines texts = read_lines no_row 1 texts >>= settled
+abbrev pub instance_of_lines : List (List ℕ) → Result Instance (LineFault Cause)
+instance_of_lines texts = read_lines no_contents 1 texts >>= instance_of_contents
 
-abbrev pub instance_of_text : List ℕ → Result Instance BadInput
+abbrev pub instance_of_text : List ℕ → Result Instance (LineFault Cause)
 instance_of_text text = instance_of_lines (lines text)
-
--- An answer is what reading gives. Want of memory says nothing.
-abbrev pub FailsAs : {Y : Type 0} → ReadError → Result Y BadInput → Type 0
-FailsAs (Bad bad) read = read ≡ Err bad
-FailsAs NoMemory read = Unit {0}
-
-abbrev pub Gives : {X Y : Type 0} → (X → Y) → Result X ReadError → Result Y BadInput → Type 0
-Gives view (Ok x) read = read ≡ Ok (view x)
-Gives view (Err error) read = FailsAs error read

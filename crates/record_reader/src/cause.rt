@@ -1,103 +1,60 @@
 ghost use Rattle.std.specs.Prelude.{◌≡◌};
-ghost use Rattle.record_reader.specs.declared.cause.ReadError.TheVariants.{Bad};
 
-use std::alloc::{AllocError, AllocFailed};
+use fapp_text::{Failure, LineFault};
+use std::error::Error;
+use std::fmt;
 
 /// What a line is refused for. `UnknownDomain`, `UnknownPath` and `TooManyChoices` need the whole text, and stand only
 /// where no line has another cause. The others are found at the line, given the lines before it.
 #[derive(Clone, Copy, Debug, PartialEq, Eq)]
 pub enum Cause {
     /// The first field names no record.
-    UnknownRecord,
+    UnknownRecord = 1,
     /// The line has more or fewer fields than its record.
-    FieldCount,
+    FieldCount = 2,
     /// A field that must be a number is none.
-    BadNumber,
+    BadNumber = 3,
     /// A field of a constraint is none of its two words.
-    BadWord,
+    BadWord = 4,
     /// A path's polarization is not `1`, `-1` or `0`.
-    BadPolarization,
+    BadPolarization = 5,
     /// An earlier path has the same number.
-    DuplicatePath,
+    DuplicatePath = 6,
     /// A path's domain has no frequency.
-    UnknownDomain,
+    UnknownDomain = 7,
     /// A constraint names a number that no path has.
-    UnknownPath,
+    UnknownPath = 8,
     /// A constraint names one path twice.
-    SelfPair,
+    SelfPair = 9,
     /// A distance is greater than the one before it.
-    Increasing,
+    Increasing = 10,
     /// There are more than `MAX_PATHS` paths.
-    TooManyPaths,
+    TooManyPaths = 11,
     /// There are more than `MAX_DOMAIN_RECORDS` frequency records.
-    TooManyValues,
+    TooManyValues = 12,
     /// There are more than `MAX_RECORDS` constraints.
-    TooManyRecords,
+    TooManyRecords = 13,
     /// A domain has more than `MAX_DOMAIN_FREQUENCIES` frequencies.
-    DomainTooLarge,
+    DomainTooLarge = 14,
     /// The paths up to this one have more than `MAX_CHOICES` choices.
-    TooManyChoices,
+    TooManyChoices = 15,
 }
 
-/// Where a text is no network's, and why.
-#[derive(Clone, Copy, Debug, PartialEq, Eq)]
-pub struct BadInput {
-    /// The line, from 1.
-    pub line: u32,
-    pub cause: Cause,
-}
+/// Where a text is no instance's, and why.
+pub type BadInput = LineFault<Cause>;
 
-/// Why a network was not read.
-#[derive(Clone, Copy, Debug, PartialEq, Eq)]
-pub enum ReadError {
-    /// The text is no network's.
-    Bad(BadInput),
-    /// There was no memory.
-    NoMemory,
-}
-
-impl From<BadInput> for ReadError {
-    ghost use Rattle.std.specs.Prelude.{◌≡◌};
-    ghost use Rattle.record_reader.specs.declared.cause.ReadError.TheVariants.{Bad};
-
-    ghost from_gives = { λ bad error. error ≡ Bad bad };
-
-    fn from(bad: BadInput) -> Self {
-        ReadError::Bad(bad)
-    }
-}
-
-impl From<AllocError> for ReadError {
-    ghost use Rattle.std.specs.Prelude.{◌≡◌};
-    ghost use Rattle.record_reader.specs.declared.cause.ReadError.TheVariants.{NoMemory};
-
-    ghost from_gives = { λ _ error. error ≡ NoMemory };
-
-    fn from(_: AllocError) -> Self {
-        ReadError::NoMemory
-    }
-}
-
-impl<T: Drop> From<AllocFailed<T>> for ReadError {
-    ghost use Rattle.std.specs.Prelude.{◌≡◌};
-    ghost use Rattle.record_reader.specs.declared.cause.ReadError.TheVariants.{NoMemory};
-
-    ghost from_gives = { λ _ error. error ≡ NoMemory };
-
-    fn from(_: AllocFailed<T>) -> Self {
-        ReadError::NoMemory
-    }
-}
-
-/// A line that is refused.
-pub(crate) fn bad(line: u32, cause: Cause) -> ReadError
-    ensures { result ≡ Bad (record { line = line; cause = cause }) }
-{
-    ReadError::Bad(BadInput { line, cause })
-}
+/// Why no instance was read: `Bad` with the line that is refused and why, or `NoMemory`.
+pub type ReadError = Failure<BadInput>;
 
 impl Cause {
-    ghost use Rattle.record_reader.specs.Causes.{cause_name};
+    ghost use Rattle.record_reader.specs.Causes.{cause_name, cause_number};
+
+    /// Its number, from 1.
+    pub fn number(self) -> u8
+        ensures { result ≡ cause_number self }
+    {
+        self as u8
+    }
 
     /// Its name, as it is printed.
     pub fn name(self) -> &'static str
@@ -122,3 +79,11 @@ impl Cause {
         }
     }
 }
+
+impl fmt::Display for Cause {
+    fn fmt<W: fmt::Write>(&self, f: &mut fmt::Formatter<W>) -> fmt::Result {
+        write!(f, "{}", self.name())
+    }
+}
+
+impl Error for Cause {}

@@ -1,23 +1,24 @@
 ghost use Rattle.std.specs.Prelude.{◌≡◌, ◌≤◌, List, IfOk};
 ghost use Rattle.std.specs.Ordering.{nat_cmp};
 ghost use Rattle.std.specs.BTreeMap.{get};
-ghost use Rattle.record_reader.specs.declared.row.Entry.{Entry};
-ghost use Rattle.record_reader.specs.declared.row.Entry.TheVariants as entries;
-ghost use Rattle.record_reader.specs.Networks.{path_of, record_between};
-ghost use Rattle.record_reader.specs.Texts.{settled, Gives};
-ghost use Rattle.record_reader.specs.Readers.{IsIndexed, frequencies_in};
+ghost use Rattle.fapp_text.specs.Reading.{Gives};
+ghost use Rattle.record_reader.specs.declared.entry.Link.{Link};
+ghost use Rattle.record_reader.specs.declared.entry.Link.TheVariants as links;
+ghost use Rattle.record_reader.specs.Instances.{paths_of, path_of, record_between};
+ghost use Rattle.record_reader.specs.Texts.{instance_of_links};
+ghost use Rattle.record_reader.specs.Readers.{HasPositions, frequencies_in, domains_of};
 ghost use Rattle.record_reader.specs.Drafts.{IsDraft, Grows, record_by};
-ghost use Rattle.record_reader.specs.Valid.{IsSheet, IsPathRow};
+ghost use Rattle.record_reader.specs.Validity.{AreDomains, AreLinks, IsPathEntry};
 
-use crate::cause::bad;
+use crate::entry::{ConstraintEntry, Link, PathEntry, Rule};
 use crate::reader::Reader;
-use crate::row::{ConstraintRow, Entry, PathRow, Rule};
 use crate::{Cause, ReadError};
 use fapp_model::{Instance, Items, MAX_CHOICES, Path, Record, choice_count};
-use std::alloc::{AllocError, Global};
+use fapp_text::{NoMemory, fault_at};
+use std::alloc::Global;
 use std::collections::{BTreeMap, BTreeSet};
 
-/// The paths and records of some entries, and how many choices the paths have.
+/// The paths and records of some links, and how many choices the paths have.
 #[derive(Drop)]
 pub struct Draft {
     pub paths: Vec<Path>,
@@ -26,49 +27,58 @@ pub struct Draft {
 }
 
 impl Draft {
-    /// Adds the path of a row, if its domain is known and there are not too many choices.
-    fn add_path(&mut self, alloc: Global, reader: &Reader, row: PathRow) -> Result<(), ReadError>
-        requires indexed { IsIndexed reader.now }
-        requires sheet { IsSheet reader.now.sheet }
-        requires row { IsPathRow row }
+    /// Adds the path of an entry, if its domain is known and there are not too many choices.
+    fn add_path(
+        &mut self,
+        alloc: Global,
+        reader: &Reader,
+        entry: PathEntry,
+    ) -> Result<(), ReadError>
+        requires domains { AreDomains (domains_of reader.now) }
+        requires entry { IsPathEntry entry }
         requires few { self.old.choices ≤ MAX_CHOICES }
-        ensures { (earlier : List Entry) → IsDraft reader.now.sheet earlier self.old → Grows reader.now.sheet earlier (entries.Path row) result self.new }
+        ensures { (earlier : List Link) → IsDraft reader.now earlier self.old
+            → Grows reader.now earlier (links.Path entry) result self.new }
     {
-        let path = path_of(alloc, reader, row)?;
+        let path = path_of(alloc, &reader.domains, entry)?;
         if path.freqs.is_empty() {
-            return Err(bad(row.line, Cause::UnknownDomain));
+            return Err(fault_at(entry.line, Cause::UnknownDomain));
         }
         let choices = self.choices + choice_count(&path) as usize;
         if choices > MAX_CHOICES {
-            return Err(bad(row.line, Cause::TooManyChoices));
+            return Err(fault_at(entry.line, Cause::TooManyChoices));
         }
         self.choices = choices;
         self.paths.push(path)?;
         Ok(())
     }
 
-    /// Adds the record of a row, if it names paths that are there.
-    fn add_record(&mut self, reader: &Reader, row: ConstraintRow) -> Result<(), ReadError>
-        requires { IsIndexed reader.now }
-        ensures { (earlier : List Entry) → IsDraft reader.now.sheet earlier self.old → Grows reader.now.sheet earlier (entries.Constraint row) result self.new }
+    /// Adds the record of an entry, if it names paths that are there.
+    fn add_record(&mut self, reader: &Reader, entry: ConstraintEntry) -> Result<(), ReadError>
+        requires { HasPositions reader.now.positions (paths_of reader.now.links) }
+        ensures { (earlier : List Link) → IsDraft reader.now earlier self.old
+            → Grows reader.now earlier (links.Constraint entry) result self.new }
     {
-        match record_of(&reader.positions, &row) {
+        match record_of(&reader.positions, &entry) {
             Some(record) => {
                 self.records.push(record)?;
                 Ok(())
             }
-            None => Err(bad(row.line, Cause::UnknownPath)),
+            None => Err(fault_at(entry.line, Cause::UnknownPath)),
         }
     }
 }
 
-/// The path of a row.
-fn path_of(alloc: Global, reader: &Reader, row: PathRow) -> Result<Path, AllocError>
-    requires { IsIndexed reader.now }
-    ensures { IfOk result (λ path. path ≡ path_of reader.now.sheet.domains row) }
+/// The path of an entry.
+fn path_of(
+    alloc: Global,
+    domains: &BTreeMap<u32, BTreeSet<u32>>,
+    entry: PathEntry,
+) -> Result<Path, NoMemory>
+    ensures { IfOk result (λ path. path ≡ path_of (frequencies_in domains.now) entry) }
 {
-    let freqs = frequencies(alloc, &reader.domains, row.domain)?;
-    Ok(path(row.number, freqs, row.pol))
+    let freqs = frequencies(alloc, domains, entry.domain)?;
+    Ok(path(entry.number, freqs, entry.pol))
 }
 
 fn path(number: u32, freqs: Vec<u32>, pol: i8) -> Path
@@ -86,7 +96,7 @@ fn frequencies(
     alloc: Global,
     domains: &BTreeMap<u32, BTreeSet<u32>>,
     domain: u32,
-) -> Result<Vec<u32>, AllocError>
+) -> Result<Vec<u32>, NoMemory>
     ensures { IfOk result (λ v. v.items ≡ frequencies_in domains.now domain) }
 {
     match domains.get(&domain) {
@@ -95,13 +105,14 @@ fn frequencies(
     }
 }
 
-/// The record of a row, if the paths that it names have positions.
-fn record_of(positions: &BTreeMap<u32, u16>, row: &ConstraintRow) -> Option<Record>
-    ensures { result ≡ record_by (get nat_cmp positions.now row.now.first) (get nat_cmp positions.now row.now.second) row.now.rule }
+/// The record of an entry, if the paths that it names have positions.
+fn record_of(positions: &BTreeMap<u32, u16>, entry: &ConstraintEntry) -> Option<Record>
+    ensures { result ≡ record_by (get nat_cmp positions.now entry.now.first) (get nat_cmp positions.now entry.now.second)
+        entry.now.rule }
 {
-    let first = *positions.get(&row.first)?;
-    let second = *positions.get(&row.second)?;
-    Some(record_between(first, second, row.rule))
+    let first = *positions.get(&entry.first)?;
+    let second = *positions.get(&entry.second)?;
+    Some(record_between(first, second, entry.rule))
 }
 
 /// The record of a rule between the paths at two positions.
@@ -116,21 +127,22 @@ fn record_between(i: u16, j: u16, rule: Rule) -> Record
     }
 }
 
-/// The network of all rows, if the whole text refuses none.
+/// The instance of all links, if the whole text refuses none.
 pub(crate) fn instance_of(alloc: Global, reader: &Reader) -> Result<Instance, ReadError>
-    requires indexed { IsIndexed reader.now }
-    requires sheet { IsSheet reader.now.sheet }
-    ensures { Gives (λ instance. instance) result (settled reader.now.sheet) }
+    requires domains { AreDomains (domains_of reader.now) }
+    requires links { AreLinks reader.now.links }
+    requires positions { HasPositions reader.now.positions (paths_of reader.now.links) }
+    ensures { Gives (λ instance. instance) result (instance_of_links (domains_of reader.now) reader.now.links) }
 {
     let mut draft = Draft {
         paths: Vec::new(alloc),
         records: Vec::new(alloc),
         choices: 0,
     };
-    for entry in reader.sheet.entries.as_slice() {
-        match *entry {
-            Entry::Path(row) => draft.add_path(alloc, reader, row)?,
-            Entry::Constraint(row) => draft.add_record(reader, row)?,
+    for link in reader.links.as_slice() {
+        match *link {
+            Link::Path(entry) => draft.add_path(alloc, reader, entry)?,
+            Link::Constraint(entry) => draft.add_record(reader, entry)?,
         }
     }
     Ok(Instance {

@@ -1,9 +1,9 @@
-ghost use Rattle.std.specs.Prelude.{◌≡◌, ◌<◌, ◌&&◌, ◌==◌, IfOk, map, take, length};
-ghost use Rattle.std.specs.Str.{bytes_eq};
+ghost use Rattle.std.specs.Prelude.{◌≡◌, ◌<◌, IfOk, map, take, length};
 ghost use Rattle.record_reader.specs.Fields.{without_return, fields_of, field, number, numbers, either_word, polarization};
 
 use crate::Cause;
-use fapp_text::Fields;
+use fapp_model::MAX_LEVELS;
+use fapp_text::{Fields, is, sign};
 use std::alloc::{AllocError, Global};
 
 /// A line without the carriage return at its end, where it has one.
@@ -17,7 +17,7 @@ fn without_return(line: &[u8]) -> &[u8]
 }
 
 /// One more field than any record has.
-const MOST_FIELDS: usize = 15;
+const MOST_FIELDS: usize = 4 + MAX_LEVELS as usize;
 
 /// The first fields of a line, which tell as much as all of them.
 pub(crate) fn first_fields(alloc: Global, line: &[u8]) -> Result<Vec<&[u8]>, AllocError>
@@ -40,13 +40,6 @@ pub(crate) fn field_at<'a>(fields: &[&'a [u8]], place: usize) -> &'a [u8]
     ensures { result.now ≡ field (map (λ x. x.now) fields.now) place }
 {
     fields[place]
-}
-
-/// Whether a field is a word.
-pub(crate) fn is(field: &[u8], word: &[u8]) -> bool
-    ensures { result ≡ bytes_eq field.now word.now }
-{
-    field == word
 }
 
 /// The number that a field is.
@@ -88,14 +81,8 @@ pub(crate) fn polarization_at(fields: &[&[u8]], place: usize) -> Result<i8, Caus
     ensures { result ≡ polarization (field (map (λ x. x.now) fields.now) place) }
 {
     let text = field_at(fields, place);
-    if is(text, b"1") {
-        return Ok(1);
-    }
-    if is(text, b"-1") {
-        return Ok(-1);
-    }
     if is(text, b"0") {
         return Ok(0);
     }
-    Err(Cause::BadPolarization)
+    sign(text).ok_or(Cause::BadPolarization)
 }

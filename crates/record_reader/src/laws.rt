@@ -1,16 +1,16 @@
-ghost use Rattle.record_reader.specs.Laws.{OneNetwork, ValidNetwork, FirstRefusal, WideRefusal, LineFeedMore, CarriageReturnMore, Ascending, OwnFrequencies};
+ghost use Rattle.record_reader.specs.Laws.{OneInstance, ValidInstance, FirstRefusal, LinkRefusal, LineFeedMore, CarriageReturnMore, Ascending, OwnFrequencies};
 
-/// A text that is not refused has one network, which is valid.
-pub fn one_network_law()
-    ensures one { OneNetwork }
-    ensures valid { ValidNetwork }
+/// A text that is not refused has one instance, which is valid.
+pub fn one_instance_law()
+    ensures one { OneInstance }
+    ensures valid { ValidInstance }
 {}
 
 /// A line that is refused for itself or for those before it is refused whatever follows it. Where no line is, the
 /// causes that need the whole text decide.
 pub fn refusal_law()
     ensures first { FirstRefusal }
-    ensures wide { WideRefusal }
+    ensures later { LinkRefusal }
 {}
 
 /// A line feed more at the end of a text changes nothing, nor does a carriage return at the end of a line that has
@@ -20,7 +20,7 @@ pub fn line_end_law()
     ensures ret { CarriageReturnMore }
 {}
 
-/// The frequencies of a domain ascend, and are those that its rows give.
+/// The frequencies of a domain ascend, and are those that its entries give.
 pub fn frequencies_law()
     ensures ascending { Ascending }
     ensures own { OwnFrequencies }

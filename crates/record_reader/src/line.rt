@@ -1,12 +1,14 @@
-ghost use Rattle.std.specs.Prelude.{◌≡◌, ◌<◌, ◌∷◌, List, Ok, Err, IsTrue, length, map, drop};
-ghost use Rattle.record_reader.specs.Rows.{kind_of, field_count, row_of, constraint, domain_row, path_row, imperative, imperative_row, compatible, compatible_row, rises, rule_rises};
-ghost use Rattle.record_reader.specs.Fields.{field, numbers};
-ghost use Rattle.record_reader.specs.declared.row.Row.TheVariants as rows;
-ghost use Rattle.record_reader.specs.declared.row.Entry.TheVariants as entries;
+ghost use Rattle.std.specs.Prelude.{◌≡◌, ◌+◌, ◌<◌, ◌≤◌, ◌∷◌, List, Ok, Err, IsTrue, length, map, drop};
+ghost use Rattle.record_reader.specs.Entries.{kind_of, field_count, entry_of, constraint, domain_entry, path_entry, imperative, imperative_entry, compatible, compatible_entry, distances, rises, rule_rises};
+ghost use Rattle.record_reader.specs.Fields.{field};
+ghost use Rattle.record_reader.specs.declared.entry.Entry.TheVariants as entries;
+ghost use Rattle.record_reader.specs.declared.entry.Link.TheVariants as links;
 
 use crate::Cause;
-use crate::field::{field_at, is, number_at, polarization_at, word_at};
-use crate::row::{ConstraintRow, DomainRow, Entry, Kind, PathRow, Row, Rule};
+use crate::entry::{ConstraintEntry, DomainEntry, Entry, Kind, Link, PathEntry, Rule};
+use crate::field::{field_at, number_at, polarization_at, word_at};
+use fapp_model::MAX_LEVELS;
+use fapp_text::is;
 
 /// What the first field of a line names.
 fn kind_of(word: &[u8]) -> Result<Kind, Cause>
@@ -31,30 +33,31 @@ fn kind_of(word: &[u8]) -> Result<Kind, Cause>
 }
 
 /// How many fields a record has.
-fn field_count(kind: Kind) -> usize
-    ensures { result ≡ field_count kind }
+fn field_count(levels: u32, kind: Kind) -> usize
+    requires { levels ≤ MAX_LEVELS }
+    ensures { result ≡ field_count levels kind }
 {
     match kind {
         Kind::Domain => 3,
         Kind::Path => 4,
         Kind::Imperative => 6,
-        Kind::Same | Kind::Other => 14,
+        Kind::Same | Kind::Other => 3 + levels as usize,
     }
 }
 
-fn domain_row(fields: &[&[u8]]) -> Result<Row, Cause>
+fn domain_entry(fields: &[&[u8]]) -> Result<Entry, Cause>
     requires { length fields.now ≡ 3 }
-    ensures { result ≡ domain_row (map (λ x. x.now) fields.now) }
+    ensures { result ≡ domain_entry (map (λ x. x.now) fields.now) }
 {
-    Ok(Row::Domain(DomainRow {
+    Ok(Entry::Domain(DomainEntry {
         domain: number_at(fields, 1)?,
         frequency: number_at(fields, 2)?,
     }))
 }
 
-fn path_row(line: u32, fields: &[&[u8]]) -> Result<Row, Cause>
+fn path_entry(line: u32, fields: &[&[u8]]) -> Result<Entry, Cause>
     requires { length fields.now ≡ 4 }
-    ensures { result ≡ path_row line (map (λ x. x.now) fields.now) }
+    ensures { result ≡ path_entry line (map (λ x. x.now) fields.now) }
 {
     let number = number_at(fields, 1)?;
     let domain = number_at(fields, 2)?;
@@ -62,10 +65,10 @@ fn path_row(line: u32, fields: &[&[u8]]) -> Result<Row, Cause>
     Ok(path(line, number, domain, pol))
 }
 
-fn path(line: u32, number: u32, domain: u32, pol: i8) -> Row
-    ensures { result ≡ rows.Entry (entries.Path (record { line = line; number = number; domain = domain; pol = pol })) }
+fn path(line: u32, number: u32, domain: u32, pol: i8) -> Entry
+    ensures { result ≡ entries.Link (links.Path (record { line = line; number = number; domain = domain; pol = pol })) }
 {
-    Row::Entry(Entry::Path(PathRow {
+    Entry::Link(Link::Path(PathEntry {
         line,
         number,
         domain,
@@ -73,9 +76,9 @@ fn path(line: u32, number: u32, domain: u32, pol: i8) -> Row
     }))
 }
 
-fn imperative_row(line: u32, fields: &[&[u8]]) -> Result<Row, Cause>
+fn imperative_entry(line: u32, fields: &[&[u8]]) -> Result<Entry, Cause>
     requires { length fields.now ≡ 6 }
-    ensures { result ≡ imperative_row line (map (λ x. x.now) fields.now) }
+    ensures { result ≡ imperative_entry line (map (λ x. x.now) fields.now) }
 {
     let first = number_at(fields, 1)?;
     let second = number_at(fields, 2)?;
@@ -96,18 +99,24 @@ fn imperative(of_frequencies: bool, equal: bool, n: u32) -> Rule
     }
 }
 
-fn compatible_row(line: u32, fields: &[&[u8]], of_equal: bool) -> Result<Row, Cause>
-    requires { length fields.now ≡ 14 }
-    ensures { result ≡ compatible_row of_equal line (map (λ x. x.now) fields.now) }
+fn compatible_entry(
+    levels: u32,
+    line: u32,
+    fields: &[&[u8]],
+    of_equal: bool,
+) -> Result<Entry, Cause>
+    requires levels { levels ≤ MAX_LEVELS }
+    requires count { length fields.now ≡ 3 + levels }
+    ensures { result ≡ compatible_entry of_equal line (map (λ x. x.now) fields.now) }
 {
     let first = number_at(fields, 1)?;
     let second = number_at(fields, 2)?;
-    let dist = distances(fields)?;
+    let dist = distances(levels, fields)?;
     constraint(line, first, second, compatible(of_equal, dist))
 }
 
 /// The rule of equal polarizations or that of different ones.
-fn compatible(of_equal: bool, dist: [u32; 11]) -> Rule
+fn compatible(of_equal: bool, dist: [u32; MAX_LEVELS as usize]) -> Rule
     ensures { result ≡ compatible of_equal dist }
 {
     if of_equal {
@@ -117,20 +126,21 @@ fn compatible(of_equal: bool, dist: [u32; 11]) -> Rule
     }
 }
 
-/// The numbers of the eleven fields from the fourth on.
-fn distances(fields: &[&[u8]]) -> Result<[u32; 11], Cause>
-    requires { length fields.now ≡ 14 }
-    ensures { result ≡ numbers (drop 3 (map (λ x. x.now) fields.now)) }
+/// The numbers of the fields from the fourth on, one for each level, and 0 where there is no level.
+fn distances(levels: u32, fields: &[&[u8]]) -> Result<[u32; MAX_LEVELS as usize], Cause>
+    requires levels { levels ≤ MAX_LEVELS }
+    requires count { length fields.now ≡ 3 + levels }
+    ensures { result ≡ distances (drop 3 (map (λ x. x.now) fields.now)) }
 {
-    let mut dist = [0; 11];
-    for level in 0..11 {
+    let mut dist = [0; MAX_LEVELS as usize];
+    for level in 0..levels as usize {
         dist[level] = number_at(fields, level + 3)?;
     }
     Ok(dist)
 }
 
-/// The row of a constraint between two different paths, whose distances do not rise.
-fn constraint(line: u32, first: u32, second: u32, rule: Rule) -> Result<Row, Cause>
+/// The entry of a constraint between two different paths, whose distances do not rise.
+fn constraint(line: u32, first: u32, second: u32, rule: Rule) -> Result<Entry, Cause>
     ensures { result ≡ constraint line first second rule }
 {
     if first == second {
@@ -139,7 +149,7 @@ fn constraint(line: u32, first: u32, second: u32, rule: Rule) -> Result<Row, Cau
     if rule_rises(&rule) {
         return Err(Cause::Increasing);
     }
-    Ok(Row::Entry(Entry::Constraint(ConstraintRow {
+    Ok(Entry::Link(Link::Constraint(ConstraintEntry {
         line,
         first,
         second,
@@ -170,20 +180,21 @@ fn rises(dist: &[u32]) -> bool
     false
 }
 
-/// The record of a line with fields.
-pub(crate) fn row_of(line: u32, fields: &[&[u8]]) -> Result<Row, Cause>
-    requires { 0 < length fields.now }
-    ensures { result ≡ row_of line (map (λ x. x.now) fields.now) }
+/// What a line with fields says, where there are so many levels.
+pub(crate) fn entry_of(levels: u32, line: u32, fields: &[&[u8]]) -> Result<Entry, Cause>
+    requires levels { levels ≤ MAX_LEVELS }
+    requires some { 0 < length fields.now }
+    ensures { result ≡ entry_of levels line (map (λ x. x.now) fields.now) }
 {
     let kind = kind_of(field_at(fields, 0))?;
-    if fields.len() != field_count(kind) {
+    if fields.len() != field_count(levels, kind) {
         return Err(Cause::FieldCount);
     }
     match kind {
-        Kind::Domain => domain_row(fields),
-        Kind::Path => path_row(line, fields),
-        Kind::Imperative => imperative_row(line, fields),
-        Kind::Same => compatible_row(line, fields, true),
-        Kind::Other => compatible_row(line, fields, false),
+        Kind::Domain => domain_entry(fields),
+        Kind::Path => path_entry(line, fields),
+        Kind::Imperative => imperative_entry(line, fields),
+        Kind::Same => compatible_entry(levels, line, fields, true),
+        Kind::Other => compatible_entry(levels, line, fields, false),
     }
 }

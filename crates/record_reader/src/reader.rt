@@ -1,125 +1,126 @@
-ghost use Rattle.std.specs.Prelude.{◌≡◌, ℕ, ◌≤◌, ◌==◌, false, nat_le, length, map};
-ghost use Rattle.record_reader.specs.declared.row.Row.TheVariants as rows;
-ghost use Rattle.record_reader.specs.declared.row.Entry.TheVariants as entries;
-ghost use Rattle.record_reader.specs.Fields.{fields_of};
-ghost use Rattle.record_reader.specs.Sheets.{read_row, read_line, at_line, read_lines};
-ghost use Rattle.record_reader.specs.Texts.{no_row};
-ghost use Rattle.record_reader.specs.Readers.{frequencies_in, AddsFrequency, IsIndexed, Goes, GivesReader};
+ghost use Rattle.std.specs.Prelude.{◌≡◌, ℕ, ◌≤◌, nat_le, length, map, IfOk};
 ghost use Rattle.fapp_text.specs.Lines.{lines};
+ghost use Rattle.fapp_text.specs.Reading.{at_line};
+ghost use Rattle.record_reader.specs.declared.entry.Entry.TheVariants as entries;
+ghost use Rattle.record_reader.specs.declared.entry.Link.TheVariants as links;
+ghost use Rattle.record_reader.specs.Contents.{no_contents};
+ghost use Rattle.record_reader.specs.Fields.{fields_of};
+ghost use Rattle.record_reader.specs.LineReading.{read_entry, read_line, read_lines};
+ghost use Rattle.record_reader.specs.Readers.{AddsFrequency, Holds, Takes, GivesReader};
 
-use crate::cause::bad;
+use crate::entry::{ConstraintEntry, DomainEntry, Entry, Link, PathEntry};
 use crate::field::first_fields;
-use crate::line::row_of;
-use crate::row::{ConstraintRow, DomainRow, Entry, PathRow, Row, Sheet};
+use crate::line::entry_of;
 use crate::{Cause, ReadError};
-use fapp_model::{Items, MAX_DOMAIN_FREQUENCIES, MAX_DOMAIN_RECORDS, MAX_PATHS, MAX_RECORDS};
-use fapp_text::Lines;
+use fapp_model::{
+    Items, LEVELS, MAX_DOMAIN_FREQUENCIES, MAX_DOMAIN_RECORDS, MAX_PATHS, MAX_RECORDS,
+};
+use fapp_text::{Lines, MAX_TEXT, NoMemory, fault_at};
 use std::alloc::Global;
 use std::collections::{BTreeMap, BTreeSet};
 
-/// The rows so far, and what of them later rows are tested against.
+/// What the lines so far say, as later lines are tested against it.
 #[derive(Drop)]
 pub struct Reader {
-    pub sheet: Sheet,
+    /// The paths and constraints, in the order of their lines.
+    pub links: Items<Link>,
     /// The position of each path by its number.
     pub positions: BTreeMap<u32, u16>,
     /// The frequencies of each domain.
     pub domains: BTreeMap<u32, BTreeSet<u32>>,
+    /// How many domain records there are, repeated ones counted.
+    pub domain_records: usize,
     /// How many constraints there are.
     pub constraints: usize,
 }
 
 impl Reader {
-    /// No row.
+    /// No line.
     fn new(alloc: Global) -> Reader
-        ensures rows { result.sheet ≡ no_row }
-        ensures indexed { IsIndexed result }
+        ensures { Holds result no_contents }
     {
         Reader {
-            sheet: Sheet {
-                domains: Items::new(alloc),
-                entries: Items::new(alloc),
-            },
+            links: Items::new(alloc),
             positions: BTreeMap::new(alloc),
             domains: BTreeMap::new(alloc),
+            domain_records: 0,
             constraints: 0,
         }
     }
 
-    /// Takes the row of a line, if the rows before it allow it.
-    fn add(&mut self, alloc: Global, line: u32, row: Row) -> Result<(), ReadError>
-        requires { IsIndexed self.old }
-        ensures { Goes (at_line line (read_row self.old.sheet row)) result self.new }
+    /// Takes what a line says, if the lines before it allow it.
+    fn add(&mut self, alloc: Global, line: u32, entry: Entry) -> Result<(), ReadError>
+        ensures { Takes (λ contents. at_line line (read_entry contents entry)) self.old result self.new }
     {
-        match row {
-            Row::Domain(row) => self.add_domain(alloc, line, row),
-            Row::Entry(Entry::Path(row)) => self.add_path(line, row),
-            Row::Entry(Entry::Constraint(row)) => self.add_constraint(line, row),
+        match entry {
+            Entry::Domain(entry) => self.add_domain(alloc, line, entry),
+            Entry::Link(Link::Path(entry)) => self.add_path(line, entry),
+            Entry::Link(Link::Constraint(entry)) => self.add_constraint(line, entry),
         }
     }
 
-    fn add_domain(&mut self, alloc: Global, line: u32, row: DomainRow) -> Result<(), ReadError>
-        requires { IsIndexed self.old }
-        ensures { Goes (at_line line (read_row self.old.sheet (rows.Domain row))) result self.new }
+    fn add_domain(&mut self, alloc: Global, line: u32, entry: DomainEntry) -> Result<(), ReadError>
+        ensures { Takes (λ contents. at_line line (read_entry contents (entries.Domain entry)))
+            self.old result self.new }
     {
-        if is_full(self.sheet.domains.len(), MAX_DOMAIN_RECORDS) {
-            return Err(bad(line, Cause::TooManyValues));
+        if is_full(self.domain_records, MAX_DOMAIN_RECORDS) {
+            return Err(fault_at(line, Cause::TooManyValues));
         }
-        let count = add_frequency(alloc, &mut self.domains, row)?;
+        let count = add_frequency(alloc, &mut self.domains, entry)?;
         if count > MAX_DOMAIN_FREQUENCIES {
-            return Err(bad(line, Cause::DomainTooLarge));
+            return Err(fault_at(line, Cause::DomainTooLarge));
         }
-        self.sheet.domains.push(row)?;
+        self.domain_records += 1;
         Ok(())
     }
 
-    fn add_path(&mut self, line: u32, row: PathRow) -> Result<(), ReadError>
-        requires { IsIndexed self.old }
-        ensures { Goes (at_line line (read_row self.old.sheet (rows.Entry (entries.Path row)))) result self.new }
+    fn add_path(&mut self, line: u32, entry: PathEntry) -> Result<(), ReadError>
+        ensures { Takes (λ contents. at_line line (read_entry contents (entries.Link (links.Path entry))))
+            self.old result self.new }
     {
-        if self.positions.contains_key(&row.number) {
-            return Err(bad(line, Cause::DuplicatePath));
+        if self.positions.contains_key(&entry.number) {
+            return Err(fault_at(line, Cause::DuplicatePath));
         }
         let place = self.positions.len();
         if is_full(place, MAX_PATHS) {
-            return Err(bad(line, Cause::TooManyPaths));
+            return Err(fault_at(line, Cause::TooManyPaths));
         }
-        self.positions.insert(row.number, place as u16)?;
-        self.sheet.entries.push(Entry::Path(row))?;
+        self.positions.insert(entry.number, place as u16)?;
+        self.links.push(Link::Path(entry))?;
         Ok(())
     }
 
-    fn add_constraint(&mut self, line: u32, row: ConstraintRow) -> Result<(), ReadError>
-        requires { IsIndexed self.old }
-        ensures { Goes (at_line line (read_row self.old.sheet (rows.Entry (entries.Constraint row)))) result self.new }
+    fn add_constraint(&mut self, line: u32, entry: ConstraintEntry) -> Result<(), ReadError>
+        ensures { Takes (λ contents. at_line line (read_entry contents (entries.Link (links.Constraint entry))))
+            self.old result self.new }
     {
         if is_full(self.constraints, MAX_RECORDS) {
-            return Err(bad(line, Cause::TooManyRecords));
+            return Err(fault_at(line, Cause::TooManyRecords));
         }
-        self.sheet.entries.push(Entry::Constraint(row))?;
+        self.links.push(Link::Constraint(entry))?;
         self.constraints += 1;
         Ok(())
     }
 
     /// Takes a line, if the lines before it allow it. One without fields says nothing.
     fn add_line(&mut self, alloc: Global, line: u32, text: &[u8]) -> Result<(), ReadError>
-        requires { IsIndexed self.old }
-        ensures { Goes (at_line line (read_line self.old.sheet line (fields_of text.now))) result self.new }
+        ensures { Takes (λ contents. at_line line (read_line contents line (fields_of text.now)))
+            self.old result self.new }
     {
         let fields = first_fields(alloc, text)?;
         self.add_fields(alloc, line, fields.as_slice())
     }
 
     fn add_fields(&mut self, alloc: Global, line: u32, fields: &[&[u8]]) -> Result<(), ReadError>
-        requires { IsIndexed self.old }
-        ensures { Goes (at_line line (read_line self.old.sheet line (map (λ x. x.now) fields.now))) result self.new }
+        ensures { Takes (λ contents. at_line line (read_line contents line (map (λ x. x.now) fields.now)))
+            self.old result self.new }
     {
         if fields.is_empty() {
             return Ok(());
         }
-        match row_of(line, fields) {
-            Ok(row) => self.add(alloc, line, row),
-            Err(cause) => Err(bad(line, cause)),
+        match entry_of(LEVELS, line, fields) {
+            Ok(entry) => self.add(alloc, line, entry),
+            Err(cause) => Err(fault_at(line, cause)),
         }
     }
 }
@@ -131,40 +132,23 @@ fn is_full(count: usize, most: usize) -> bool
     count >= most
 }
 
-/// The frequencies of a domain, which it has no longer.
-fn take_frequencies(
-    alloc: Global,
-    domains: &mut BTreeMap<u32, BTreeSet<u32>>,
-    domain: u32,
-) -> BTreeSet<u32>
-    ensures taken { result.keys ≡ frequencies_in domains.old domain }
-    ensures others { (other : ℕ) → (domain == other) ≡ false → frequencies_in domains.new other ≡ frequencies_in domains.old other }
-{
-    match domains.remove(&domain) {
-        Some(frequencies) => frequencies,
-        None => BTreeSet::new(alloc),
-    }
-}
-
 /// Adds a frequency to its domain, and says how many distinct ones the domain has then.
 fn add_frequency(
     alloc: Global,
     domains: &mut BTreeMap<u32, BTreeSet<u32>>,
-    row: DomainRow,
-) -> Result<usize, ReadError>
-    ensures { AddsFrequency row domains.old result domains.new }
+    entry: DomainEntry,
+) -> Result<usize, NoMemory>
+    ensures { IfOk result (λ count. AddsFrequency entry domains.old count domains.new) }
 {
-    let mut frequencies = take_frequencies(alloc, domains, row.domain);
-    frequencies.insert(row.frequency)?;
-    let count = frequencies.len();
-    domains.insert(row.domain, frequencies)?;
-    Ok(count)
+    let frequencies = domains.entry(entry.domain)?.or_insert(BTreeSet::new(alloc));
+    frequencies.insert(entry.frequency)?;
+    Ok(frequencies.len())
 }
 
-/// The rows of all lines of a text, if the lines before each one allow it.
-pub(crate) fn read_rows(alloc: Global, bytes: &[u8]) -> Result<Reader, ReadError>
-    requires { length bytes.now ≤ 1073741824 }
-    ensures { GivesReader (read_lines no_row 1 (lines bytes.now)) result }
+/// What all lines of a text say, if the lines before each one allow it.
+pub(crate) fn read_contents(alloc: Global, bytes: &[u8]) -> Result<Reader, ReadError>
+    requires { length bytes.now ≤ MAX_TEXT }
+    ensures { GivesReader (read_lines no_contents 1 (lines bytes.now)) result }
 {
     let mut reader = Reader::new(alloc);
     let mut lines = Lines::new(bytes);

@@ -1,9 +1,10 @@
 use crate::{BadInput, Cause, ReadError, read_instance};
 use fapp_model::Record;
+use fapp_text::MAX_TEXT;
 use std::alloc::{AllocError, Global};
 
 fn refusal(alloc: Global, text: &[u8]) -> Option<(u32, Cause)> {
-    if text.len() > 1 << 30 {
+    if text.len() > MAX_TEXT {
         return None;
     }
     match read_instance(alloc, text) {
@@ -84,7 +85,7 @@ fn reads_lenient_text(rt: HostRuntime) {
 }
 
 /// So many frequencies of one domain, and so many paths of one polarization, but for the last one.
-fn network(alloc: Global, frequencies: u32, paths: u32, last: &str) -> Result<String, AllocError> {
+fn text_of(alloc: Global, frequencies: u32, paths: u32, last: &str) -> Result<String, AllocError> {
     let mut text = String::new(alloc);
     for frequency in 0..frequencies {
         text.push_str(format!(in alloc; "DM 1 {frequency}\n")?.as_str())?;
@@ -98,24 +99,36 @@ fn network(alloc: Global, frequencies: u32, paths: u32, last: &str) -> Result<St
 
 #[test]
 fn keeps_the_limits(rt: HostRuntime) -> Result<(), AllocError> {
-    let most = network(rt.alloc(), 1, 8_192, "1")?;
+    let most = text_of(rt.alloc(), 1, 8_192, "1")?;
     assert_eq!(rt; refusal(rt.alloc(), most.as_bytes()), None);
-    let more = network(rt.alloc(), 1, 8_193, "1")?;
+    let more = text_of(rt.alloc(), 1, 8_193, "1")?;
     assert_eq!(rt;
         refusal(rt.alloc(), more.as_bytes()),
         Some((8_194, Cause::TooManyPaths))
     );
-    let fixed = network(rt.alloc(), 512, 8_192, "1")?;
+    let fixed = text_of(rt.alloc(), 512, 8_192, "1")?;
     assert_eq!(rt; refusal(rt.alloc(), fixed.as_bytes()), None);
-    let free = network(rt.alloc(), 512, 8_192, "0")?;
+    let free = text_of(rt.alloc(), 512, 8_192, "0")?;
     assert_eq!(rt;
         refusal(rt.alloc(), free.as_bytes()),
         Some((8_704, Cause::TooManyChoices))
     );
-    let domain = network(rt.alloc(), 32_769, 1, "1")?;
+    let domain = text_of(rt.alloc(), 32_769, 1, "1")?;
     assert_eq!(rt;
         refusal(rt.alloc(), domain.as_bytes()),
         Some((32_769, Cause::DomainTooLarge))
     );
+    Ok(())
+}
+
+#[test]
+fn prints_refusals(rt: HostRuntime) -> Result<(), AllocError> {
+    let Err(error) = read_instance(rt.alloc(), b"DM 1 10\nTR 1 1 7") else {
+        assert!(rt; false, "not refused");
+        return Ok(());
+    };
+    let text = error.to_string(rt.alloc())?;
+    assert_eq!(rt; text.as_str(), "line 2: BadPolarization");
+    assert_eq!(rt; Cause::TooManyChoices.number(), 15);
     Ok(())
 }

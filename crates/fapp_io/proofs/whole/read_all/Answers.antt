@@ -23,7 +23,7 @@ returns-then-count-limit g c =
     let given = c.in_ok-count.ensures in
     let taken : length c.pieces.bytes.items + c.in_ok-count.count ≡ c.args.limit + 1 =
     omega (arith, given.0, c.pieces.bytes.ok.0, so_far.within, c.read.auto.buf, c.min-room.ensures, length-take {A = ℕ}) in (
-      subst (λ n. Drops (g.S.Source.left c.args.source.now) (g.S.Source.left c.read.new.self) n) taken (drops_more _ _ _ _ _ so_far.given_first given.2),
+      subst (Drops (g.S.Source.moment c.args.source.now).left (g.S.Source.moment c.read.new.self).left) taken (drops_more _ _ _ _ _ so_far.given_first given.2),
       omega (arith, so_far.no_fewer, given.3),
     )
 

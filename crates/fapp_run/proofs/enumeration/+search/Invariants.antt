@@ -1,5 +1,5 @@
 use Rattle.std.proofs.Common.{◌≡◌, ℕ, ◌-◌, ◌<◌, [], ◌∷◌, ◌++◌, length, vec_len}
-use Rattle.fapp_run.specs.Found.{IsFound, Improves, Covers}
+use Rattle.fapp_run.specs.Incumbents.{IsIncumbent, Improves, Covers}
 use Rattle.fapp_run.proofs.enumeration.+search.Given as goal
 
 abbrev pub decreases-search : goal.decreases-search
@@ -9,7 +9,7 @@ decreases-search l = length l.instance.now.paths - vec_len l.plan.now
 abbrev pub invariant-loop-index : goal.invariant-loop-index
 invariant-loop-index l = record {
   same : l.plan.items ≡ l.fn.plan.items;
-  found : IsFound l.instance l.best;
+  incumbent : IsIncumbent l.instance l.best;
   improves : Improves l.fn.best l.best;
-  covered : (k : ℕ) → k < l.index → Covers l.instance (l.fn.plan.items ++ k ∷ []) l.best;
+  covers : (k : ℕ) → k < l.index → Covers l.instance (l.fn.plan.items ++ k ∷ []) l.best;
 }

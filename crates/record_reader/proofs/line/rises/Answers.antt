@@ -1,5 +1,5 @@
 use Rattle.std.proofs.Common.{arith}
-use Rattle.record_reader.proofs.Rising.{rises_first}
+use Rattle.record_reader.proofs.Rises.{rises_first}
 use Rattle.record_reader.proofs.line.rises.Goals as goal
 
 pub loop-distance-init : goal.loop-distance-init

@@ -1,5 +1,5 @@
 use Rattle.std.proofs.Common.{◌≡◌, drop}
-use Rattle.record_reader.specs.Rows.{rises, rises_after}
+use Rattle.record_reader.specs.Entries.{rises, rises_after}
 use Rattle.record_reader.proofs.line.rises.Given as goal
 
 abbrev pub invariant-loop-distance : goal.invariant-loop-distance

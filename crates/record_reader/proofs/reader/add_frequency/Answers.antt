@@ -1,12 +1,12 @@
-use Rattle.record_reader.proofs.Frequencies.{put_back, own_count}
-use Rattle.std.proofs.Common.{◌∙◌}
+use Rattle.std.proofs.Common.{rules, ap, ◌∙◌}
+use Rattle.std.specs.Option.{unwrap_or}
+use Rattle.record_reader.proofs.Frequencies.{gets_frequency, has_then, counted_then}
 use Rattle.record_reader.proofs.reader.add_frequency.Goals as goal
 
 pub returns : goal.returns
 returns c =
-    let own = c.take_frequencies-frequencies.ensures in
-    let more = c.in_ok-insert.ensures in
-    let back = c.in_ok-insert-2.ensures in (
-      put_back c.args.row c.args.domains.now c.take_frequencies-frequencies.new.domains c.insert-2.new.self c.take_frequencies-frequencies.result.keys c.insert.new.self own.taken own.others more.keys back.updates.0,
-      c.len-count.ensures.len ∙ own_count c.args.row.domain c.insert-2.new.self _ c.insert.new.self (back.updates.0 c.args.row.domain),
-    )
+    let found = c.or_insert-frequencies.ensures.value ∙ ap (λ o. unwrap_or o c.new.result) c.in_ok-domains.ensures.value in
+    let gets = gets_frequency c.args.entry c.args.domains.now c.new.result c.or_insert-frequencies.result.now c.insert.new.self c.new.ensures.empty found c.in_ok-insert.ensures.keys in
+    let has = has_then c.args.entry c.args.domains.now c.insert.new.self gets in
+    let counted = counted_then c.insert.new.self c.len.result c.len.ensures.len in
+    (λ domain. search (rules, has), search (rules, counted))

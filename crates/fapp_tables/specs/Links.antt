@@ -1,0 +1,35 @@
+-- Records as seen from each of the paths that they name.
+use Rattle.std.specs.Prelude.{◌≡◌, ◌⊎◌, ◌↔◌, ℕ, ◌+◌, ◌*◌, ◌<◌, ◌≤◌, List, [], ◌∷◌, length, AllPairs, Contains, IsTrue}
+use Rattle.fapp_model.specs.declared.instance.Instance.{Instance}
+use Rattle.fapp_model.specs.Records.{first_path, second_path}
+use Rattle.fapp_tables.specs.declared.links.Link.{Link}
+use Rattle.fapp_tables.specs.Indexes.{record_at, touches}
+
+-- the links of the record at a position: from its first path, and from its second
+abbrev pub links_at : Instance → ℕ → List Link
+links_at instance k =
+    record { path = first_path (record_at instance k); other = second_path (record_at instance k); position = k }
+    ∷ record { path = second_path (record_at instance k); other = first_path (record_at instance k); position = k } ∷ []
+
+-- a record of the instance names both paths
+pub record IsLink (instance : Instance) (a : Link) : Type 0 where
+  pub inside : a.position < length instance.records
+  pub touching : IsTrue (touches a.path a.other (record_at instance a.position))
+
+-- a link's path, other path and position are not above another one's, where the first that differs decides
+abbrev pub IsNotAfter : Link → Link → Type 0
+IsNotAfter a b = (a.path < b.path) ⊎ ((a.path ≡ b.path) × ((a.other < b.other) ⊎ ((a.other ≡ b.other) × (a.position ≤ b.position))))
+
+-- the two paths of a link as one number
+abbrev pub pair_rank : Link → ℕ
+pair_rank a = a.path * 65536 + a.other
+
+-- the place of a link in the order by path, other path and position, as one number
+abbrev pub link_rank : Link → ℕ
+link_rank a = pair_rank a * 4294967296 + a.position
+
+-- all links of an instance, each once, in order
+pub record AreSortedLinks (instance : Instance) (links : List Link) : Type 0 where
+  pub count : length links ≡ 2 * length instance.records
+  pub members : (a : Link) → Contains links a ↔ IsLink instance a
+  pub rising : AllPairs (λ a b. link_rank a < link_rank b) links

@@ -1,0 +1,59 @@
+ghost use Rattle.std.specs.Prelude.{◌≡◌, length, flat_map, IfOk};
+ghost use Rattle.std.specs.List.{AllAdjacentBelow, range_with_len};
+ghost use Rattle.std.specs.List.Sorted.{IsPermutation};
+ghost use Rattle.fapp_model.specs.Instances.{IsInstance};
+ghost use Rattle.fapp_tables.specs.Links.{AreSortedLinks, IsNotAfter, links_at};
+
+use fapp_model::{Instance, NoMemory};
+use std::alloc::Global;
+
+/// A record, as seen from one of the two paths that it names. Links are ordered by path, other path and position.
+#[derive(Clone, Copy, Debug, PartialEq, Eq, PartialOrd, Ord)]
+pub struct Link {
+    pub path: u16,
+    pub other: u16,
+    /// The record's position.
+    pub position: u32,
+}
+
+/// The two links of each record, in order.
+pub fn sorted_links(alloc: Global, instance: &Instance) -> Result<Vec<Link>, NoMemory>
+    requires { IsInstance instance.now }
+    ensures { IfOk result (λ links. AreSortedLinks instance.now links.items) }
+{
+    let mut links = links_of(alloc, instance)?;
+    sort_links(&mut links);
+    Ok(links)
+}
+
+/// The two links of each record, record by record.
+fn links_of(alloc: Global, instance: &Instance) -> Result<Vec<Link>, NoMemory>
+    requires { IsInstance instance.now }
+    ensures { IfOk result (λ links. links.items ≡ flat_map (links_at instance.now) (range_with_len 0 (length instance.now.records))) }
+{
+    let records = instance.records.as_slice();
+    let mut links = Vec::with_capacity(alloc, 2 * records.len())?;
+    for index in 0..records.len() {
+        let (path, other) = (records[index].first_path(), records[index].second_path());
+        let position = index as u32;
+        links.push(Link {
+            path,
+            other,
+            position,
+        })?;
+        links.push(Link {
+            path: other,
+            other: path,
+            position,
+        })?;
+    }
+    Ok(links)
+}
+
+/// Puts links in order.
+fn sort_links(links: &mut [Link])
+    ensures same { IsPermutation links.old links.new }
+    ensures ordered { AllAdjacentBelow IsNotAfter links.new (length links.new) }
+{
+    links.sort_unstable();
+}

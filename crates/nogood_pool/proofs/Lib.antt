@@ -1,0 +1,6 @@
+pub mod Cells
+pub mod Views
+pub mod Keeps
+pub mod Closing
+pub mod Spelling
+pub mod Reading

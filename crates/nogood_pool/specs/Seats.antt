@@ -1,0 +1,48 @@
+-- Words of the contracts: what a seat knows, and which pool it belongs to.
+use Rattle.std.specs.Prelude.{◌≡◌, ◌≢◌, ◌⊎◌, ℕ, ◌<◌, ◌≤◌, List, [], ◌∷◌, length, Contains, Option, Some, None}
+use Rattle.seat_laws.specs.declared.TheConstants.{WHOLE_SHARE}
+use Rattle.fapp_model.specs.declared.instance.Instance.{Instance}
+use Rattle.fapp_model.specs.declared.literal.Literal.{Literal}
+use Rattle.nogood.specs.declared.row.Row.{Row}
+use Rattle.nogood.specs.declared.row.Published.{Published}
+use Rattle.nogood.specs.declared.row.Published.TheVariants.{Home, Full, Busy, TooLong}
+use Rattle.nogood_pool.specs.declared.view.Content.{Content}
+use Rattle.nogood_pool.specs.declared.view.PoolView.{PoolView}
+use Rattle.nogood_pool.specs.declared.seat.Pool.{Pool}
+use Rattle.nogood_pool.specs.declared.seat.PoolSeat.{PoolSeat}
+use Rattle.nogood_pool.specs.Pool.{IsRow, content, content_of, held_row}
+use Rattle.nogood_pool.specs.Steps.{IsBehind, after_count, after_draw, after_miss, after_publish, after_read}
+
+abbrev pub view_of : PoolSeat → PoolView
+view_of s = s.seat.me.0
+
+abbrev pub instance_of : Pool → Instance
+instance_of p = p.table.shared.key.instance.value
+
+pub record IsSeatOf (p : Pool) (s : PoolSeat) : Type 0 where
+  pub table : s.seat.table_id ≡ p.table.shared.table_id
+  pub rows : (view_of s).rows ≡ p.rows
+  pub instance_is : (view_of s).instance ≡ instance_of p
+
+abbrev pub IsSameSeat : PoolSeat → PoolSeat → Type 0
+IsSameSeat s t = (t.seat.table_id ≡ s.seat.table_id) × (t.seat.id ≡ s.seat.id)
+
+-- the load of the counter that begins a call
+abbrev pub Loads : PoolView → ℕ → Type 0
+Loads v n = (n ≤ v.rows) × IsBehind v n × (v.share ≡ WHOLE_SHARE → n ≡ v.counter)
+
+-- what `publish` answers, and what the seat then knows
+abbrev pub Publishes : PoolView → List Literal → ℕ → Published → PoolView → Type 0
+Publishes v lits tag TooLong w = (8 < length lits) × (w ≡ v)
+Publishes v lits tag (Full n) w = (v.rows ≤ n) × Loads v n × (w ≡ after_count v n)
+Publishes v lits tag (Busy n m) w = (n < v.rows) × Loads v n × (n ≢ m) × (v.share ≢ WHOLE_SHARE) × (w ≡ after_miss (after_count v n) n m)
+Publishes v lits tag (Home row) w = (length lits ≤ 8) × (row < v.rows) × Loads v row × (w ≡ after_publish (after_draw (after_count v row) row (content lits tag)) row (content lits tag))
+
+-- what `get` answers of a row, and what the seat then knows
+abbrev pub Reads : PoolView → ℕ → Option Row → PoolView → Type 0
+Reads v row None w = (w ≡ after_read v row 0 []) × ((c : Content) → Contains v.published (held_row row c) ⊎ Contains v.seen (held_row row c) → ⊥)
+Reads v row (Some r) w = IsRow v.instance (content_of r) × (w ≡ after_read v row r.tag.code (held_row row (content_of r) ∷ []))
+
+-- the same where a load of the counter may come first
+abbrev pub Gets : PoolView → ℕ → Option Row → PoolView → Type 0
+Gets v row o w = ((row < v.counter) × Reads v row o w) ⊎ ((v.counter ≤ row) × ((n : ℕ) × Loads v n × Reads (after_count v n) row o w))
