@@ -22,7 +22,7 @@ pub use fault::{AnswerError, BadCert, CertCause};
 pub use laws::{fault_behind, in_parts, no_fault, one_text, reads_back, text_of_answer};
 pub use reading::read_answer;
 pub use reject::{RejectCause, Rejected};
-pub use writing::{head_text, lines_text, verdict_text, write_answer};
+pub use writing::{head_text, lines_text, plan_text, verdict_text, write_answer};
 
 #[cfg(test)]
 mod tests;

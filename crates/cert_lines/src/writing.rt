@@ -37,6 +37,16 @@ pub fn head_text(alloc: Global, instance: &Instance, answer: &Answer) -> Result<
     Ok(out)
 }
 
+/// The lines of a plan that is no longer than the paths. `NoMemory` comes where their room could not be had.
+pub fn plan_text(alloc: Global, instance: &Instance, plan: &[Choice]) -> Result<Vec<u8>, NoMemory>
+    requires { length plan.now ≤ length instance.now.paths }
+    ensures { IfOk result (λ text. text.items ≡ flat_map line_text (plan_lines instance.now.paths plan.now)) }
+{
+    let mut out = Vec::new(alloc);
+    push_plan(&mut out, instance.paths.as_slice(), plan)?;
+    Ok(out)
+}
+
 /// The text of certificate lines. `NoMemory` comes where its room could not be had.
 pub fn lines_text(alloc: Global, lines: &[Line]) -> Result<Vec<u8>, NoMemory>
     ensures { IfOk result (λ text. text.items ≡ lines_text lines.now) }
