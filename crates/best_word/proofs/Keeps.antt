@@ -14,7 +14,7 @@ use Rattle.seat_laws.specs.Shares.{Live}
 use Rattle.seat_laws.proofs.Views.{set_at, each_set, some_set, shared_set, each_split, some_split, shared_split, each_join, some_join, shared_join, part_live, alone}
 use Rattle.seat_laws.proofs.Sums.{one_within}
 use Rattle.best_word.specs.declared.view.BestView.{BestView}
-use Rattle.best_word.specs.Bound.{IsBound, IsCodeFor, Knows, Words, word_of, IsOffered, is_spent, share_of, top_code, kept_half, given_half, united, spent_view, looked, lowered}
+use Rattle.best_word.specs.Bound.{IsBound, IsCodeFor, Knows, Words, word_of, IsOffered, is_spent, share_of, top_code, kept_half, given_half, after_join, spent_view, after_load, after_offer}
 use Rattle.best_word.specs.Steps.{Looks, Lowers, HasPart}
 use Rattle.best_word.specs.Seats.{IsLeastOf}
 
@@ -55,17 +55,17 @@ looks levels slots id me empty un s b _ at _ =
     let v : BestView = me.0 in
     let l : Live is_spent s.views id v = live_me s id v un at in
     let k = b.known id v l in
-    let known : Knows levels n (looked v n) = record {
+    let known : Knows levels n (after_load v n) = record {
       same_levels = k.same_levels;
       below = le_refl n;
       most = b.tag.most;
       offers = All-weaker (λ m. v.least ≤ m) (λ m. n ≤ m) (λ m h. le_trans k.below h) v.offers k.offers;
       found = All-push (λ m. n ≤ m) v.found n (All-weaker (λ m. v.least ≤ m) (λ m. n ≤ m) (λ m h. le_trans k.below h) v.found k.found) (le_refl n);
     } in (
-      looked v n,
+      after_load v n,
       keeps,
       tt,
-      kept levels s b id v (looked v n) n l refl refl b.tag (le_refl n) known (inl refl) (λ c. c),
+      kept levels s b id v (after_load v n) n l refl refl b.tag (le_refl n) known (inl refl) (λ c. c),
       (own-code levels n v k.same_levels b.tag, k.below, refl, refl),
     )
 
@@ -86,17 +86,17 @@ lowers levels slots id k me empty un code small s b _ at _ =
     let mk : m ≤ k = omega arith in
     let offer : IsCodeFor levels k = record { tag = code; most = subst (λ l. k ≤ top_code l) kn.same_levels small } in
     let both : IsCodeFor levels m = lesser-code levels n k b.tag offer in
-    let known : Knows levels m (lowered v k n) = record {
+    let known : Knows levels m (after_offer v k n) = record {
       same_levels = kn.same_levels;
       below = le_refl m;
       most = both.most;
       offers = All-push (λ x. m ≤ x) v.offers k (All-weaker (λ x. v.least ≤ x) (λ x. m ≤ x) (λ x h. le_trans mn (le_trans kn.below h)) v.offers kn.offers) mk;
       found = All-push (λ x. m ≤ x) v.found n (All-weaker (λ x. v.least ≤ x) (λ x. m ≤ x) (λ x h. le_trans mn (le_trans kn.below h)) v.found kn.found) mn;
     } in (
-      lowered v k n,
+      after_offer v k n,
       keeps,
       tt,
-      kept levels s b id v (lowered v k n) m l refl refl both mn known
+      kept levels s b id v (after_offer v k n) m l refl refl both mn known
           (dite (dec_le n k) (λ h. inl (let e : min n k ≡ n = omega arith in e)) (λ h. inr (subst (Contains (v.offers ++ k ∷ [])) (let e : k ≡ min n k = omega arith in e) (Contains-push v.offers k))))
           (λ c. Contains-append_left v.offers (k ∷ []) n c),
       (own-code levels n v kn.same_levels b.tag, kn.below, refl, refl),
@@ -120,9 +120,9 @@ splits levels id v un two s b at =
           (let h : 1 ≤ v.share - v.share / 2 = omega arith in h) (let h : 1 ≤ v.share / 2 = omega arith in h) (let h : v.share - v.share / 2 + v.share / 2 ≡ v.share = omega arith in h);
     }
 
-pub joins : (levels id : ℕ) (v : BestView) (other : ℕ) (w : BestView) → v.spent ≡ false → w.spent ≡ false → Joins (IsBound levels) id v other w (united v w) spent_view
+pub joins : (levels id : ℕ) (v : BestView) (other : ℕ) (w : BestView) → v.spent ≡ false → w.spent ≡ false → Joins (IsBound levels) id v other w (after_join v w) spent_view
 joins levels id v other w unv unw s b at apart at' =
-    let both : BestView = united v w in
+    let both : BestView = after_join v w in
     let l : Live is_spent s.views id v = live_me s id v unv at in
     let r : Live is_spent s.views other w = live_me s other w unw (sym (set_else s.views id other both apart) ∙ at') in
     let ne : id ≢ other = λ e. apart (sym e) in

@@ -63,13 +63,13 @@ abbrev pub given_half : BestView → BestView
 given_half v = record { levels = v.levels; spent = false; share = v.share / 2; least = v.least; offers = []; found = [] }
 
 -- what a seat knows after another was joined into it
-abbrev pub united : BestView → BestView → BestView
-united v w = record { levels = v.levels; spent = false; share = v.share + w.share; least = min v.least w.least; offers = v.offers ++ w.offers; found = v.found ++ w.found }
+abbrev pub after_join : BestView → BestView → BestView
+after_join v w = record { levels = v.levels; spent = false; share = v.share + w.share; least = min v.least w.least; offers = v.offers ++ w.offers; found = v.found ++ w.found }
 
 -- what it knows after a load found n
-abbrev pub looked : BestView → ℕ → BestView
-looked v n = record { levels = v.levels; spent = false; share = v.share; least = n; offers = v.offers; found = v.found ++ n ∷ [] }
+abbrev pub after_load : BestView → ℕ → BestView
+after_load v n = record { levels = v.levels; spent = false; share = v.share; least = n; offers = v.offers; found = v.found ++ n ∷ [] }
 
 -- after an offer of k found n
-abbrev pub lowered : BestView → ℕ → ℕ → BestView
-lowered v k n = record { levels = v.levels; spent = false; share = v.share; least = min n k; offers = v.offers ++ k ∷ []; found = v.found ++ n ∷ [] }
+abbrev pub after_offer : BestView → ℕ → ℕ → BestView
+after_offer v k n = record { levels = v.levels; spent = false; share = v.share; least = min n k; offers = v.offers ++ k ∷ []; found = v.found ++ n ∷ [] }

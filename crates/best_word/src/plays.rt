@@ -44,9 +44,9 @@ impl Split<BestView> for Halve {
 pub struct Unite;
 
 impl Join<BestView> for Unite {
-    ghost use Rattle.best_word.specs.Bound.{united, spent_view};
+    ghost use Rattle.best_word.specs.Bound.{after_join, spent_view};
 
-    ghost both = { united };
+    ghost both = { after_join };
 
     ghost spent = { spent_view };
 }

@@ -1,6 +1,6 @@
 // The calls.
 ghost use Rattle.std.specs.Prelude.{◌≡◌, ◌≤◌, IfOk};
-ghost use Rattle.best_word.specs.Bound.{IsCodeFor, first_view, given_half, kept_half, looked, lowered, top_code, united};
+ghost use Rattle.best_word.specs.Bound.{IsCodeFor, first_view, given_half, kept_half, after_load, after_offer, top_code, after_join};
 ghost use Rattle.best_word.specs.Seats.{view_of, IsSeatOf, IsSameSeat, IsLeastOf};
 
 use crate::plays::{Halve, Look, Lower, Share, Unite};
@@ -53,7 +53,7 @@ impl BestWord {
     pub fn now(&self, seat: &mut BestSeat) -> Tag
         requires { IsSeatOf self.now seat.old }
         ensures same { IsSameSeat seat.old seat.new }
-        ensures view { view_of seat.new ≡ looked (view_of seat.old) result.code }
+        ensures view { view_of seat.new ≡ after_load (view_of seat.old) result.code }
         ensures least { result.code ≤ (view_of seat.old).least }
         ensures tag { IsCodeFor (view_of seat.old).levels result.code }
     {
@@ -69,7 +69,7 @@ impl BestWord {
         requires own { IsSeatOf self.now seat.old }
         requires tag { tag.code ≤ top_code (view_of seat.old).levels }
         ensures same { IsSameSeat seat.old seat.new }
-        ensures view { view_of seat.new ≡ lowered (view_of seat.old) tag.code result.code }
+        ensures view { view_of seat.new ≡ after_offer (view_of seat.old) tag.code result.code }
         ensures least { result.code ≤ (view_of seat.old).least }
         ensures tag { IsCodeFor (view_of seat.old).levels result.code }
     {
@@ -104,7 +104,7 @@ impl BestWord {
     pub fn join(&self, seat: &mut BestSeat, other: BestSeat)
         requires { IsSeatOf self.now seat.old × IsSeatOf self.now other }
         ensures same { IsSameSeat seat.old seat.new }
-        ensures view { view_of seat.new ≡ united (view_of seat.old) (view_of other) }
+        ensures view { view_of seat.new ≡ after_join (view_of seat.old) (view_of other) }
     {
         let BestSeat {
             seat: joined,

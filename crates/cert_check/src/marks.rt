@@ -11,13 +11,14 @@ use cert_lines::Answer;
 use fapp_model::{Instance, Items, MAX_NUMBER, NoMemory};
 use std::alloc::Global;
 
-/// An index of an answer's lines and of its instance's records.
+/// An index of an answer's lines and of its instance's records, made once for all lines. It is only read, so that
+/// several may judge lines by it side by side.
 #[derive(Debug, Drop)]
 pub struct Marks {
     /// By path and choice, the positions of the lines that have this literal alone.
-    pub(crate) ones: Items<Items<Items<u32>>>,
+    pub ones: Items<Items<Items<u32>>>,
     /// By path, the positions of the records that name it.
-    pub(crate) places: Items<Items<u32>>,
+    pub places: Items<Items<u32>>,
 }
 
 impl Marks {

@@ -68,8 +68,9 @@ fn said(alloc: Global, instance: &Instance, text: &str) -> Result<String, Fail>
     if text.len() > 4096 {
         return Ok(String::from_str(alloc, "too long")?);
     }
-    let Ok(answer) = read_answer(alloc, instance, text.as_bytes()) else {
-        return Ok(String::from_str(alloc, "no answer")?);
+    let answer = match read_answer(alloc, instance, text.as_bytes()) {
+        Ok(answer) => answer,
+        Err(error) => return Ok(error.to_string(alloc)?),
     };
     if answer.lines.len() > 4096 {
         return Ok(String::from_str(alloc, "too many lines")?);
@@ -145,7 +146,8 @@ const TORN: [(&str, &str); 20] = [
     ),
 ];
 
-const ALONE: [(&str, &str); 8] = [
+const ALONE: [(&str, &str); 9] = [
+    ("--\nNONE\n", "line 3: NoEnd"),
     ("AL 1 10 1\n--\nBEST 0 0 0\nC 0 0 0 0 0\nEND\n", "accepted"),
     (
         "AL 1 10 1\n--\nBEST 5 1 4\nC 0 0 0 0 0\nEND\n",

@@ -1,5 +1,7 @@
 ghost use Rattle.std.specs.Prelude.{◌≤◌};
 
+mod tables;
+
 use super::*;
 use crate::enumeration::least_plan;
 use fapp_cost::cost;

@@ -9,3 +9,4 @@ pub mod RunLaws
 pub mod IndexLaws
 pub mod PartLaws
 pub mod ClashLaws
+pub mod IndexMembers

@@ -1,5 +1,6 @@
 -- Records as seen from each of the paths that they name.
-use Rattle.std.specs.Prelude.{◌≡◌, ◌⊎◌, ◌↔◌, ℕ, ◌+◌, ◌*◌, ◌<◌, ◌≤◌, List, [], ◌∷◌, length, AllPairs, Contains, IsTrue}
+use Rattle.std.specs.Prelude.{◌≡◌, ◌⊎◌, ◌↔◌, ℕ, ◌+◌, ◌*◌, ◌<◌, ◌≤◌, List, [], ◌∷◌, length, flat_map, AllPairs, Contains, IsTrue}
+use Rattle.std.specs.List.{range_with_len}
 use Rattle.fapp_model.specs.declared.instance.Instance.{Instance}
 use Rattle.fapp_model.specs.Records.{first_path, second_path}
 use Rattle.fapp_tables.specs.declared.links.Link.{Link}
@@ -9,7 +10,12 @@ use Rattle.fapp_tables.specs.Indexes.{record_at, touches}
 abbrev pub links_at : Instance → ℕ → List Link
 links_at instance k =
     record { path = first_path (record_at instance k); other = second_path (record_at instance k); position = k }
-    ∷ record { path = second_path (record_at instance k); other = first_path (record_at instance k); position = k } ∷ []
+    ∷ record { path = second_path (record_at instance k); other = first_path (record_at instance k); position = k }
+    ∷ []
+
+-- the links of all records, record by record
+abbrev pub all_links : Instance → List Link
+all_links instance = flat_map (links_at instance) (range_with_len 0 (length instance.records))
 
 -- a record of the instance names both paths
 pub record IsLink (instance : Instance) (a : Link) : Type 0 where
@@ -18,7 +24,8 @@ pub record IsLink (instance : Instance) (a : Link) : Type 0 where
 
 -- a link's path, other path and position are not above another one's, where the first that differs decides
 abbrev pub IsNotAfter : Link → Link → Type 0
-IsNotAfter a b = (a.path < b.path) ⊎ ((a.path ≡ b.path) × ((a.other < b.other) ⊎ ((a.other ≡ b.other) × (a.position ≤ b.position))))
+IsNotAfter a b = (a.path < b.path)
+    ⊎ ((a.path ≡ b.path) × ((a.other < b.other) ⊎ ((a.other ≡ b.other) × (a.position ≤ b.position))))
 
 -- the two paths of a link as one number
 abbrev pub pair_rank : Link → ℕ

@@ -13,6 +13,8 @@ pub record HasPart {X : Type 0} (starts : List ℕ) (flat : List X) (number : �
 -- the neighbours of each path stand one after another, and so do the records of each path and neighbour, by the
 -- neighbour's place among all
 pub record AreIndexes (instance : Instance) (starts neighbours firsts positions : List ℕ) : Type 0 where
-  pub neighbours_at : (path : ℕ) → path < length instance.paths → HasPart starts neighbours path (neighbours_of instance path)
+  pub neighbours_at : (path : ℕ) → path < length instance.paths →
+      HasPart starts neighbours path (neighbours_of instance path)
   pub records_at : (path place : ℕ) → path < length instance.paths → place < length (neighbours_of instance path) →
-      HasPart firsts positions (slice_index starts path + place) (records_of instance path (slice_index (neighbours_of instance path) place))
+      HasPart firsts positions (slice_index starts path + place)
+      (records_of instance path (slice_index (neighbours_of instance path) place))

@@ -1,5 +1,5 @@
 -- Runs: in a list of links in order, those of one pair of paths stand together.
-use Rattle.std.specs.Prelude.{◌≡◌, ℕ, ◌-◌, ◌<◌, ◌≤◌, Bool, not, ◌||◌, ◌==◌, List, [], ◌∷◌, ◌++◌, length, map, filter, slice_index_or}
+use Rattle.std.specs.Prelude.{◌≡◌, ℕ, ◌+◌, ◌-◌, ◌<◌, ◌≤◌, Bool, not, ◌||◌, ◌==◌, List, [], ◌∷◌, ◌++◌, length, map, filter, slice_index, slice_index_or}
 use Rattle.std.specs.List.{AllWithin, range_with_len}
 use Rattle.fapp_tables.specs.declared.links.Link.{Link}
 use Rattle.fapp_tables.specs.declared.runs.Runs.{Runs as RunsOfLinks}
@@ -30,3 +30,8 @@ pub record IsStart (heads : List Link) (path start : ℕ) : Type 0 where
   pub within : start ≤ length heads
   pub before : AllWithin (λ head. head.path < path) heads 0 start
   pub behind : AllWithin (λ head. path ≤ head.path) heads start (length heads)
+
+-- where each of so many paths starts, and where one more would
+pub record AreStarts (heads : List Link) (paths : ℕ) (starts : List ℕ) : Type 0 where
+  pub whole : length starts ≡ paths + 1
+  pub each : (path : ℕ) → path ≤ paths → IsStart heads path (slice_index starts path)

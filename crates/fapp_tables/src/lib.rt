@@ -2,6 +2,7 @@
 #![tactic(auto)]
 
 mod counts;
+mod laws;
 mod links;
 mod order;
 mod pairs;
@@ -9,5 +10,6 @@ mod runs;
 mod tables;
 
 pub use counts::{Counts, record_counts, record_height};
+pub use laws::{neighbours_share_records, pairs_are_added, records_name_both};
 pub use pairs::{pair_clashes, pair_counts};
 pub use tables::Tables;

@@ -1,8 +1,8 @@
-ghost use Rattle.std.specs.Prelude.{◌≡◌, length, flat_map, IfOk};
-ghost use Rattle.std.specs.List.{AllAdjacentBelow, range_with_len};
+ghost use Rattle.std.specs.Prelude.{◌≡◌, length, IfOk};
+ghost use Rattle.std.specs.List.{AllAdjacentBelow};
 ghost use Rattle.std.specs.List.Sorted.{IsPermutation};
 ghost use Rattle.fapp_model.specs.Instances.{IsInstance};
-ghost use Rattle.fapp_tables.specs.Links.{AreSortedLinks, IsNotAfter, links_at};
+ghost use Rattle.fapp_tables.specs.Links.{AreSortedLinks, IsNotAfter, all_links};
 
 use fapp_model::{Instance, NoMemory};
 use std::alloc::Global;
@@ -29,7 +29,7 @@ pub fn sorted_links(alloc: Global, instance: &Instance) -> Result<Vec<Link>, NoM
 /// The two links of each record, record by record.
 fn links_of(alloc: Global, instance: &Instance) -> Result<Vec<Link>, NoMemory>
     requires { IsInstance instance.now }
-    ensures { IfOk result (λ links. links.items ≡ flat_map (links_at instance.now) (range_with_len 0 (length instance.now.records))) }
+    ensures { IfOk result (λ links. links.items ≡ all_links instance.now) }
 {
     let records = instance.records.as_slice();
     let mut links = Vec::with_capacity(alloc, 2 * records.len())?;

@@ -1,9 +1,9 @@
 ghost use Rattle.std.specs.Prelude.{◌≡◌, length, map, IfOk};
-ghost use Rattle.std.specs.List.{AllAdjacentBelow, range_with_len};
+ghost use Rattle.std.specs.List.{AllAdjacentBelow};
 ghost use Rattle.std.specs.List.Sorted.{IsPermutation};
 ghost use Rattle.fapp_model.specs.Instances.{IsInstance};
-ghost use Rattle.fapp_model.specs.search.WorkOrder.{degree, work_order};
-ghost use Rattle.fapp_tables.specs.Places.{IsNext, place_of};
+ghost use Rattle.fapp_model.specs.search.WorkOrder.{work_order};
+ghost use Rattle.fapp_tables.specs.Places.{IsNext, all_degrees, all_places};
 
 use fapp_model::{Instance, NoMemory};
 use std::alloc::Global;
@@ -36,7 +36,7 @@ fn paths_of(alloc: Global, places: &[Place]) -> Result<Vec<u16>, NoMemory>
 /// The places of all paths, as the paths stand.
 fn places_of(alloc: Global, instance: &Instance) -> Result<Vec<Place>, NoMemory>
     requires { IsInstance instance.now }
-    ensures { IfOk result (λ places. places.items ≡ map (place_of instance.now) (range_with_len 0 (length instance.now.paths))) }
+    ensures { IfOk result (λ places. places.items ≡ all_places instance.now) }
 {
     let degrees = degrees_of(alloc, instance)?;
     let mut places = Vec::with_capacity(alloc, degrees.len())?;
@@ -52,7 +52,7 @@ fn places_of(alloc: Global, instance: &Instance) -> Result<Vec<Place>, NoMemory>
 /// How many records name each path.
 fn degrees_of(alloc: Global, instance: &Instance) -> Result<Vec<u32>, NoMemory>
     requires { IsInstance instance.now }
-    ensures { IfOk result (λ degrees. degrees.items ≡ map (degree instance.now) (range_with_len 0 (length instance.now.paths))) }
+    ensures { IfOk result (λ degrees. degrees.items ≡ all_degrees instance.now) }
 {
     let mut degrees = vec![in alloc; 0u32; instance.paths.len()]?;
     for constraint in instance.records.as_slice() {

@@ -1,6 +1,6 @@
 ghost use Rattle.std.specs.Prelude.{◌≡◌, ◌+◌, ◌*◌, ◌<◌, ◌≤◌, ℕ, length, map, slice_index, IfOk};
 ghost use Rattle.std.specs.List.Sorted.{IsNonDecreasingBy};
-ghost use Rattle.fapp_tables.specs.Runs.{AreRuns, IsStart, begins_run};
+ghost use Rattle.fapp_tables.specs.Runs.{AreRuns, AreStarts, IsStart, begins_run};
 
 use crate::links::Link;
 use fapp_model::{MAX_PATHS, MAX_RECORDS, NoMemory};
@@ -49,8 +49,7 @@ pub fn starts_of(alloc: Global, heads: &[Link], paths: usize) -> Result<Vec<u32>
     requires rising { IsNonDecreasingBy (λ head. head.path) heads.now }
     requires few { length heads.now ≤ 2 * MAX_RECORDS }
     requires paths { paths ≤ MAX_PATHS }
-    ensures whole { IfOk result (λ starts. length starts.items ≡ paths + 1) }
-    ensures each { IfOk result (λ starts. (path : ℕ) → path ≤ paths → IsStart heads.now path (slice_index starts.items path)) }
+    ensures { IfOk result (λ starts. AreStarts heads.now paths starts.items) }
 {
     let mut starts = Vec::with_capacity(alloc, paths + 1)?;
     for path in 0..paths + 1 {

@@ -39,7 +39,8 @@ impl<'a> Model for Tables<'a> {
 
     ghost view = { λ t. t.instance.now };
 
-    ghost invariant = { λ t. IsTables t.instance.now t.order.items t.starts.items t.neighbours.items t.firsts.items t.positions.items };
+    ghost invariant = { λ t. IsTables t.instance.now t.order.items t.starts.items t.neighbours.items
+        t.firsts.items t.positions.items };
 }
 
 impl<'a> Tables<'a> {

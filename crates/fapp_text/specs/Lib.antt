@@ -5,3 +5,4 @@ pub mod Left
 pub mod Laws
 pub mod Reading
 pub mod Signs
+pub mod FaultTexts

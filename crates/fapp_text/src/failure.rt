@@ -64,12 +64,20 @@ impl<F, T: Drop> From<AllocFailed<T>> for Failure<F> {
 }
 
 impl<C: fmt::Display> fmt::Display for LineFault<C> {
+    ghost use Rattle.fapp_text.specs.FaultTexts.{fault_text};
+
+    ghost output = { λ fault. fault_text fault.line (C.output fault.cause) };
+
     fn fmt<W: fmt::Write>(&self, f: &mut fmt::Formatter<W>) -> fmt::Result {
         write!(f, "line {}: {}", self.line, self.cause)
     }
 }
 
 impl<F: fmt::Display> fmt::Display for Failure<F> {
+    ghost use Rattle.fapp_text.specs.FaultTexts.{failure_text};
+
+    ghost output = { λ failure. failure_text F.output failure };
+
     fn fmt<W: fmt::Write>(&self, f: &mut fmt::Formatter<W>) -> fmt::Result {
         match self {
             Failure::Bad(fault) => write!(f, "{fault}"),

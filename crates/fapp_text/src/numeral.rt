@@ -32,6 +32,11 @@ impl NumFault {
 }
 
 impl fmt::Display for NumFault {
+    ghost use Rattle.std.specs.Prelude.{Some};
+    ghost use Rattle.fapp_text.specs.FaultTexts.{num_fault_text};
+
+    ghost output = { λ fault. Some (num_fault_text fault) };
+
     fn fmt<W: fmt::Write>(&self, f: &mut fmt::Formatter<W>) -> fmt::Result {
         match self {
             NumFault::NotDigits => write!(f, "not digits"),

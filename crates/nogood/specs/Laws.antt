@@ -13,7 +13,7 @@ pub record JoinsAreBoth : Type 0 where
 
 -- What is made of an instance's literals has literals of the instance.
 pub record LiteralsStay : Type 0 where
-  pub join : (instance : Instance) (left right joined : List Literal) → AreLiterals instance left → AreLiterals instance right →
-      IsJoin left right joined → AreLiterals instance joined
+  pub join : (instance : Instance) (left right joined : List Literal) → AreLiterals instance left →
+      AreLiterals instance right → IsJoin left right joined → AreLiterals instance joined
   pub without : (instance : Instance) (path : ℕ) (literals : List Literal) → AreLiterals instance literals →
       AreLiterals instance (other_paths path literals)

@@ -4,3 +4,4 @@ pub mod Keeps
 pub mod Closing
 pub mod Spelling
 pub mod Reading
+pub mod Crowding

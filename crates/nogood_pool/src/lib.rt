@@ -6,6 +6,8 @@ mod laws;
 mod plays;
 mod pool;
 mod seat;
+#[cfg(test)]
+mod tests;
 mod view;
 mod words;
 

@@ -4,6 +4,7 @@ use Rattle.std.specs.Prelude.{is_some}
 use Rattle.std.specs.Ordering.{nat_cmp}
 use Rattle.std.specs.BTreeMap.{BTreeMap, get, is_at, Updates}
 use Rattle.std.specs.List.{position_or_len}
+use Rattle.std.proofs.lemmas.Bool.{eqb-true}
 use Rattle.std.proofs.lemmas.Bool.Decides.{nat_tests}
 use Rattle.std.proofs.lemmas.List.{length_push}
 use Rattle.std.proofs.lemmas.List.Sums.{prefix_len-le-length}
@@ -38,13 +39,10 @@ place_same paths entry n e = pushed paths entry n false e ∙ same_step (positio
 place_new : (paths : List PathEntry) (entry : PathEntry) (n : ℕ) → eqb entry.number n ≡ true → is_some (place_of paths n) ≡ false → place_of (paths ++ entry ∷ []) n ≡ Some (length paths)
 place_new paths entry n e none = pushed paths entry n true e ∙ new_step (position_or_len (has n) paths) (length paths) (prefix_len-le-length _ paths) none
 
-eqb_same : (m n : ℕ) → eqb m n ≡ true → m ≡ n
-eqb_same m n e = grind arith
-
 place_step : (paths : List PathEntry) (entry : PathEntry) (n : ℕ) (same : Bool) (old new : Option ℕ) → eqb entry.number n ≡ same → is_some (place_of paths entry.number) ≡ false
     → old ≡ place_of paths n → new ≡ cond same (Some (length paths)) old → new ≡ place_of (paths ++ entry ∷ []) n
 place_step paths entry n true old new e none so_far h =
-    let at : entry.number ≡ n = eqb_same entry.number n e in
+    let at : entry.number ≡ n = eqb-true entry.number n e in
     h ∙ sym (place_new paths entry n e (rw at at none))
 place_step paths entry n false old new e none so_far h = h ∙ so_far ∙ sym (place_same paths entry n e)
 

@@ -16,7 +16,7 @@ use Rattle.seat_laws.specs.Shares.{Live, part_of}
 use Rattle.seat_laws.proofs.Views.{each_set, each_split, each_join, shared_set, shared_split, shared_join, part_live, alone_sum}
 use Rattle.seat_laws.proofs.Sums.{sum_set, sum_more, one_within}
 use Rattle.steal_ring.specs.declared.view.RingView.{RingView}
-use Rattle.steal_ring.specs.Jobs.{Words, IsRing, word, is_spent, share_of, once, times, wins, kept_half, given_half, united, spent_view, taken, missed}
+use Rattle.steal_ring.specs.Jobs.{Words, IsRing, word, is_spent, share_of, once, times, wins, kept_half, given_half, after_join, spent_view, after_win, after_miss}
 use Rattle.steal_ring.specs.Steps.{Takes, HasPart}
 use Rattle.steal_ring.specs.Seats.{IsWhole}
 
@@ -52,7 +52,7 @@ once_at : (q job : ℕ) → ((q ≡ job) × (once q job ≡ 1)) ⊎ ((q ≢ job)
 once_at q job = dite (ℕ_discrete q job) (λ e. inl (e, grind (arith, nat_tests))) (λ ne. inr (ne, grind (arith, nat_tests)))
 
 taken_kept : (jobs : ℕ) (s : Words) (b : IsRing jobs s) (id : ℕ) (v : RingView) (job : ℕ) → Live is_spent s.views id v → job < jobs
-    → (word s job ≡ 0 → IsRing jobs (stepped s job 1 id [] (taken v job) keeps)) × (word s job ≢ 0 → IsRing jobs (stepped s job 1 id [] (missed v job) keeps))
+    → (word s job ≡ 0 → IsRing jobs (stepped s job 1 id [] (after_win v job) keeps)) × (word s job ≢ 0 → IsRing jobs (stepped s job 1 id [] (after_miss v job) keeps))
 taken_kept jobs s b id v job l lt =
     let width = b.width in
     let inside : job < length s.words = omega arith in
@@ -63,13 +63,13 @@ taken_kept jobs s b id v job l lt =
     let now : get_or ws job 0 ≡ 1 = get_or-set_same s.words job 1 0 inside in
     let found : All (λ q. get_or ws q 0 ≡ 1) (v.found ++ job ∷ []) = All-push (λ q. get_or ws q 0 ≡ 1) v.found job
     (All-weaker (λ q. word s q ≡ 1) (λ q. get_or ws q 0 ≡ 1) (λ q h. let more = up q in let most = bits q in let is : get_or s.words q 0 ≡ 1 = h in omega arith) v.found (b.found id v l)) now in (
-      (λ z. kept jobs s b id v (taken v job) ws l refl refl (length-set s.words job 1) bits up
+      (λ z. kept jobs s b id v (after_win v job) ws l refl refl (length-set s.words job 1) bits up
           (λ q. let push = sum_by_push (once q) v.won job in ⊎_elim
           (λ t. ⊎_elim (λ o. let e = t.1 in let f = o.1 in let same : get_or s.words q 0 ≡ 0 = ap (λ (i : ℕ). get_or s.words i 0) t.0 ∙ z in omega arith) (λ o. absurd (o.0 t.0)) (once_at q job))
           (λ t. ⊎_elim (λ o. absurd (t.0 o.0)) (λ o. let e = t.1 in let f = o.1 in omega arith) (once_at q job))
           (one_set s.words job q inside))
           found),
-      (λ nz. kept jobs s b id v (missed v job) ws l refl refl (length-set s.words job 1) bits up
+      (λ nz. kept jobs s b id v (after_miss v job) ws l refl refl (length-set s.words job 1) bits up
           (λ q. ⊎_elim
           (λ t. let e = t.1 in let one : get_or s.words job 0 ≡ 1 = omega arith in let same : get_or s.words q 0 ≡ 1 = ap (λ (i : ℕ). get_or s.words i 0) t.0 ∙ one in omega arith)
           (λ t. let e = t.1 in omega arith)
@@ -83,8 +83,8 @@ takes jobs slots id me job un lt s b _ at _ =
     let l : Live is_spent s.views id v = live_me s id v un at in
     let t = taken_kept jobs s b id v job l lt in
     dite (ℕ_discrete (word s job) 0)
-    (λ z. (taken v job, keeps, tt, t.0 z, (refl, (λ _. refl), λ nz. absurd (nz z))))
-    (λ nz. (missed v job, keeps, tt, t.1 nz, (refl, (λ z. absurd (nz z)), λ _. refl)))
+    (λ z. (after_win v job, keeps, tt, t.0 z, (refl, (λ _. refl), λ nz. absurd (nz z))))
+    (λ nz. (after_miss v job, keeps, tt, t.1 nz, (refl, (λ z. absurd (nz z)), λ _. refl)))
 
 pub splits : (jobs id : ℕ) (v : RingView) → v.spent ≡ false → 2 ≤ v.share → Splits (IsRing jobs) id v (kept_half v) (given_half v)
 splits jobs id v un two s b at =
@@ -100,9 +100,9 @@ splits jobs id v un two s b at =
           (let h : 1 ≤ v.share - v.share / 2 = omega arith in h) (let h : 1 ≤ v.share / 2 = omega arith in h) (let h : v.share - v.share / 2 + v.share / 2 ≡ v.share = omega arith in h);
     }
 
-pub joins : (jobs id : ℕ) (v : RingView) (other : ℕ) (w : RingView) → v.spent ≡ false → w.spent ≡ false → Joins (IsRing jobs) id v other w (united v w) spent_view
+pub joins : (jobs id : ℕ) (v : RingView) (other : ℕ) (w : RingView) → v.spent ≡ false → w.spent ≡ false → Joins (IsRing jobs) id v other w (after_join v w) spent_view
 joins jobs id v other w unv unw s b at apart at' =
-    let both : RingView = united v w in
+    let both : RingView = after_join v w in
     let l : Live is_spent s.views id v = live_me s id v unv at in
     let r : Live is_spent s.views other w = live_me s other w unw (sym (set_else s.views id other both apart) ∙ at') in
     let vs : List RingView = set s.views id both in

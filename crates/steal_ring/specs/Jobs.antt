@@ -55,13 +55,13 @@ abbrev pub given_half : RingView → RingView
 given_half v = record { spent = false; share = v.share / 2; found = []; won = [] }
 
 -- what a seat knows after another was joined into it
-abbrev pub united : RingView → RingView → RingView
-united v w = record { spent = false; share = v.share + w.share; found = v.found ++ w.found; won = v.won ++ w.won }
+abbrev pub after_join : RingView → RingView → RingView
+after_join v w = record { spent = false; share = v.share + w.share; found = v.found ++ w.found; won = v.won ++ w.won }
 
 -- what it knows after a swap found a job's word 0
-abbrev pub taken : RingView → ℕ → RingView
-taken v job = record { spent = false; share = v.share; found = v.found ++ job ∷ []; won = v.won ++ job ∷ [] }
+abbrev pub after_win : RingView → ℕ → RingView
+after_win v job = record { spent = false; share = v.share; found = v.found ++ job ∷ []; won = v.won ++ job ∷ [] }
 
 -- and after a swap found it 1
-abbrev pub missed : RingView → ℕ → RingView
-missed v job = record { spent = false; share = v.share; found = v.found ++ job ∷ []; won = v.won }
+abbrev pub after_miss : RingView → ℕ → RingView
+after_miss v job = record { spent = false; share = v.share; found = v.found ++ job ∷ []; won = v.won }

@@ -1,7 +1,7 @@
 // The end of a ring whose hands come back.
 ghost use Rattle.std.specs.Prelude.{◌≡◌, ℕ, ◌<◌, All};
 ghost use Rattle.seat_laws.specs.declared.TheConstants.{WHOLE_SHARE};
-ghost use Rattle.steal_ring.specs.Jobs.{united};
+ghost use Rattle.steal_ring.specs.Jobs.{after_join};
 ghost use Rattle.steal_ring.specs.Seats.{view_of, IsSeatOf, IsSameSeat};
 ghost use Rattle.steal_ring.specs.Hands.{shares_of, times_given, IsHandOf, IsDone, IsDealt};
 
@@ -23,7 +23,7 @@ impl Ring {
         requires own { IsSeatOf self.now seat.old }
         requires hand { IsHandOf self.now hand }
         ensures same { IsSameSeat seat.old seat.new }
-        ensures view { view_of seat.new ≡ united (view_of seat.old) (view_of hand.seat) }
+        ensures view { view_of seat.new ≡ after_join (view_of seat.old) (view_of hand.seat) }
     {
         self.join(seat, hand.into_seat());
     }

@@ -35,9 +35,9 @@ impl Split<RingView> for Halve {
 pub struct Unite;
 
 impl Join<RingView> for Unite {
-    ghost use Rattle.steal_ring.specs.Jobs.{united, spent_view};
+    ghost use Rattle.steal_ring.specs.Jobs.{after_join, spent_view};
 
-    ghost both = { united };
+    ghost both = { after_join };
 
     ghost spent = { spent_view };
 }

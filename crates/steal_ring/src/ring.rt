@@ -1,7 +1,7 @@
 // The steps on the ring.
 ghost use Rattle.std.specs.Prelude.{◌≡◌, ◌<◌, ◌≤◌, IfOk, MatchBool};
 ghost use Rattle.seat_laws.specs.declared.TheConstants.{WHOLE_SHARE};
-ghost use Rattle.steal_ring.specs.Jobs.{first_view, given_half, kept_half, missed, taken, united};
+ghost use Rattle.steal_ring.specs.Jobs.{first_view, given_half, kept_half, after_miss, after_win, after_join};
 ghost use Rattle.steal_ring.specs.Seats.{view_of, IsSeatOf, IsSameSeat, IsWhole};
 
 use crate::plays::{Halve, Share, Take, Unite};
@@ -41,7 +41,7 @@ impl Ring {
         requires own { IsSeatOf self.now seat.old }
         requires job { job < self.now.jobs }
         ensures same { IsSameSeat seat.old seat.new }
-        ensures view { MatchBool result (view_of seat.new ≡ taken (view_of seat.old) job) (view_of seat.new ≡ missed (view_of seat.old) job) }
+        ensures view { MatchBool result (view_of seat.new ≡ after_win (view_of seat.old) job) (view_of seat.new ≡ after_miss (view_of seat.old) job) }
     {
         self.table
             .shared
@@ -70,7 +70,7 @@ impl Ring {
     pub(crate) fn join(&self, seat: &mut RingSeat, other: RingSeat)
         requires { IsSeatOf self.now seat.old × IsSeatOf self.now other }
         ensures same { IsSameSeat seat.old seat.new }
-        ensures view { view_of seat.new ≡ united (view_of seat.old) (view_of other) }
+        ensures view { view_of seat.new ≡ after_join (view_of seat.old) (view_of other) }
     {
         let RingSeat {
             seat: joined,
