@@ -5,8 +5,8 @@ use Rattle.fapp_model.specs.declared.instance.Instance.{Instance}
 use Rattle.fapp_model.specs.Least.{IsFeasible}
 use Rattle.record_reader.specs.Texts.{instance_of_text}
 use Rattle.fapp_run.specs.declared.outcome.TheConstants.{MAX_INPUT}
-use Rattle.fapp_run.specs.declared.status.Status.{Status}
-use Rattle.fapp_run.specs.declared.status.Status.TheVariants.{Best, NoneFeasible, Usage, BadInput, TooLong, ReadFault, WriteFault, NoMemory}
+use Rattle.answer_writer.specs.declared.status.Status.{Status}
+use Rattle.answer_writer.specs.declared.status.Status.TheVariants.{Best, NoneFeasible, Accepted, Rejected, Usage, BadInput, BadAnswer, TooLong, NoAnswer, ReadFault, WriteFault, NoMemory}
 use Rattle.fapp_run.specs.Answers.{Answers}
 
 pub record IsLong (bytes : List ℕ) (status : Status) : Type 0 where
@@ -42,7 +42,11 @@ kind bytes (BadInput refused) text a = inr (inl (refused, a.0, a.1, refl))
 kind bytes Best text a =
     inr (inr (inl (record { short = a.0; instance = a.1; read = a.2; plan = a.3.0; feasible = a.3.1.feasible; is = refl })))
 kind bytes NoneFeasible text a = inr (inr (inr (record { short = a.0; instance = a.1; read = a.2; none = a.3.0; is = refl })))
+kind bytes Accepted text a = absurd a.3
+kind bytes (Rejected fault) text a = absurd a.3
 kind bytes Usage text a = absurd a.3
+kind bytes (BadAnswer bad) text a = absurd a.3
+kind bytes NoAnswer text a = absurd a.3
 kind bytes ReadFault text a = absurd a.3
 kind bytes WriteFault text a = absurd a.3
 kind bytes NoMemory text a = absurd a.3

@@ -1,3 +1,6 @@
 pub mod AnswerKinds
+pub mod CutLemmas
 pub mod SearchLemmas
-pub mod TextLemmas
+pub mod CheckKinds
+pub mod AnswerSizes
+pub mod RunEnds

@@ -4,14 +4,15 @@ use Rattle.fapp_model.specs.declared.instance.Instance.{Instance}
 use Rattle.fapp_model.specs.Least.{IsFeasible, Least}
 use Rattle.record_reader.specs.Texts.{instance_of_text}
 use Rattle.fapp_run.specs.declared.outcome.TheConstants.{MAX_INPUT}
-use Rattle.fapp_run.specs.declared.status.Status.{Status}
-use Rattle.fapp_run.specs.declared.status.Status.TheVariants.{Best, NoneFeasible, BadInput, TooLong}
-use Rattle.fapp_run.specs.PlanText.{plan_text}
-use Rattle.fapp_run.specs.Statuses.{refusal_line}
+use Rattle.answer_writer.specs.declared.status.Status.{Status}
+use Rattle.answer_writer.specs.declared.status.Status.TheVariants.{Best, NoneFeasible, BadInput, TooLong}
+use Rattle.answer_writer.specs.Refusals.{refusal_line}
+use Rattle.answer_writer.specs.Texts.{plan_text}
+use Rattle.fapp_run.specs.Plans.{shown}
 
 -- an instance's answer: its least plan in lines, or nothing where no plan is feasible
 abbrev pub IsPlanOf : Instance → Status → List ℕ → Type 0
-IsPlanOf instance Best text = (plan : List ℕ) × Least instance plan × (text ≡ plan_text instance plan)
+IsPlanOf instance Best text = (plan : List ℕ) × Least instance plan × (text ≡ plan_text instance (shown instance plan))
 IsPlanOf instance NoneFeasible text = ((plan : List ℕ) → IsFeasible instance plan → ⊥) × (text ≡ [])
 IsPlanOf instance _ text = ⊥
 

@@ -1,9 +1,9 @@
 pub mod Plans
 pub mod Incumbents
-pub mod Statuses
 pub mod Words
-pub mod PlanText
 pub mod Answers
+pub mod Halves
+pub mod Judgements
 pub mod AnswerLaws
 pub mod Outcomes
 pub mod Runs

@@ -1,5 +1,6 @@
 ghost use Rattle.std.specs.Prelude.{◌≤◌};
 
+mod checks;
 mod tables;
 
 use super::*;
@@ -181,7 +182,7 @@ fn each_input_has_its_end(rt: HostRuntime) -> Result<(), Fail> {
 fn bytes_alone_have_their_answer(rt: HostRuntime) -> Result<(), Fail> {
     let outcome = answer(rt.alloc(), PLAIN.as_bytes())?;
     assert_eq!(rt; outcome.status, Status::Best);
-    assert_eq!(rt; outcome.text.as_str(), PLAIN_PLAN);
+    assert_eq!(rt; outcome.text.as_slice(), PLAIN_PLAN.as_bytes());
     Ok(())
 }
 

@@ -1,0 +1,12 @@
+use Rattle.std.proofs.Common.{length, arith, ap}
+use Rattle.fapp_run.proofs.AnswerSizes.{few_lines, fault_low}
+use Rattle.fapp_run.proofs.judgement.judge_text.Goals as goal
+
+pub judge_answer-requires-clause-few : goal.judge_answer-requires-clause-few
+judge_answer-requires-clause-few c =
+    omega (arith, c.requires.text, few_lines c.args.instance.now c.in-Ok.answer c.args.text.now c.in-Ok.ensures.1)
+
+pub fault_behind-requires : goal.fault_behind-requires
+fault_behind-requires c =
+    let low = fault_low c.args.instance.now c.args.text.now c.in-Err-Bad.bad (rw c.in-Err-Bad.field-0-is at c.in-Err-Bad.ensures) in
+    omega (arith, low, c.requires.text, c.requires.before)

@@ -1,0 +1,18 @@
+use Rattle.std.proofs.Common.{inl}
+use Rattle.fapp_run.proofs.RunEnds.{solve_ends, check_ends, accepted_ends}
+use Rattle.fapp_run.proofs.top.run.Goals as goal
+
+pub returns-in-Ok-write_all-clause-completes : goal.returns-in-Ok-write_all-clause-completes
+returns-in-Ok-write_all-clause-completes g c = λ bytes instance named left short read sound.
+    solve_ends c.args.words.now (g.S.Source.moment c.args.source.now) (g.S.Source.moment c.outcome_of.new.source) bytes instance c.in-Ok.outcome.status c.in-Ok.outcome.text.items
+    named left short read sound.0 c.in-Ok.ensures.outcome
+
+pub returns-in-Ok-write_all-clause-completes_check : goal.returns-in-Ok-write_all-clause-completes_check
+returns-in-Ok-write_all-clause-completes_check g c = λ bytes instance answer named left short given accepts sound.
+    inl (check_ends c.args.words.now (g.S.Source.moment c.args.source.now) (g.S.Source.moment c.outcome_of.new.source) bytes instance answer c.in-Ok.outcome.status
+    c.in-Ok.outcome.text.items named left short given accepts sound.0 c.in-Ok.ensures.outcome)
+
+pub returns-in-Ok-write_all-clause-right : goal.returns-in-Ok-write_all-clause-right
+returns-in-Ok-write_all-clause-right g c = λ bytes left e.
+    accepted_ends c.args.words.now (g.S.Source.moment c.args.source.now) (g.S.Source.moment c.outcome_of.new.source) bytes c.in-Ok.outcome.status c.in-Ok.outcome.text.items
+    left e c.in-Ok.ensures.outcome

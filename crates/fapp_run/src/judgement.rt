@@ -1,0 +1,109 @@
+// What is answered to the bytes of the input of a check.
+ghost use Rattle.std.specs.Prelude.{◌≡◌, ◌≤◌, ◌+◌, length, IfOk};
+ghost use Rattle.fapp_model.specs.Instances.{IsInstance};
+ghost use Rattle.fapp_text.specs.Reading.{fault};
+ghost use Rattle.cert_lines.specs.WellFormed.{IsWellFormed};
+ghost use Rattle.fapp_run.specs.Halves.{halves_of};
+ghost use Rattle.fapp_run.specs.Judgements.{Judges, IsJudgedText, IsJudgedAnswer, IsJudgedAlone, IsJudgedInput};
+
+use crate::check_input::{CheckInput, cut};
+use crate::outcome::{Outcome, refusal};
+use answer_writer::{BadCert, Status, accepted_text};
+use cert_check::{CheckError, check};
+use cert_lines::{Answer, AnswerError, read_answer};
+use fapp_io::NoMemory;
+use fapp_model::{Instance, MAX_NUMBER};
+use fapp_text::MAX_TEXT;
+use record_reader::{ReadError, read_instance};
+use std::alloc::Global;
+
+/// The most bytes of the input of a check.
+pub const MAX_CHECK_INPUT: usize = 1_073_741_824;
+
+/// The outcome of a check, for an input given as its bytes: that the answer after the first line `--` is accepted for
+/// the instance before that line, or the first refusal, in this order: `TooLong` for more than `MAX_CHECK_INPUT`
+/// bytes, the instance's first refused line, that no line is `--`, the first fault of the answer's text, the first
+/// fault of the answer. `run` answers just so to what it reads.
+pub fn judge(alloc: Global, bytes: &[u8]) -> Result<Outcome, NoMemory>
+    ensures { IfOk result (λ outcome. Judges bytes.now outcome.status outcome.text.items) }
+{
+    if bytes.len() > MAX_CHECK_INPUT {
+        return refusal(alloc, Status::TooLong);
+    }
+    match cut(bytes) {
+        Some(input) => judge_input(alloc, &input),
+        None => judge_alone(alloc, bytes),
+    }
+}
+
+/// An input without a line `--`.
+fn judge_alone(alloc: Global, bytes: &[u8]) -> Result<Outcome, NoMemory>
+    requires { length bytes.now ≤ MAX_TEXT }
+    ensures { IfOk result (λ outcome. IsJudgedAlone bytes.now outcome.status outcome.text.items) }
+{
+    match read_instance(alloc, bytes) {
+        Ok(_) => refusal(alloc, Status::NoAnswer),
+        Err(ReadError::Bad(bad)) => refusal(alloc, Status::BadInput(bad)),
+        Err(ReadError::NoMemory) => Err(NoMemory),
+    }
+}
+
+/// An input with a line `--`.
+fn judge_input(alloc: Global, input: &CheckInput) -> Result<Outcome, NoMemory>
+    requires instance { length input.now.instance.now ≤ MAX_TEXT }
+    requires divider { input.now.divider ≤ MAX_TEXT }
+    requires answer { length input.now.answer.now ≤ MAX_TEXT }
+    ensures { IfOk result (λ outcome. IsJudgedInput (halves_of input.now) outcome.status outcome.text.items) }
+{
+    match read_instance(alloc, input.instance) {
+        Ok(instance) => judge_text(alloc, &instance, input.answer, input.divider),
+        Err(ReadError::Bad(bad)) => refusal(alloc, Status::BadInput(bad)),
+        Err(ReadError::NoMemory) => Err(NoMemory),
+    }
+}
+
+/// The text of an answer, behind so many lines of the input.
+fn judge_text(
+    alloc: Global,
+    instance: &Instance,
+    text: &[u8],
+    before: u32,
+) -> Result<Outcome, NoMemory>
+    requires instance { IsInstance instance.now }
+    requires text { length text.now ≤ MAX_TEXT }
+    requires before { before ≤ MAX_TEXT }
+    ensures { IfOk result (λ outcome. IsJudgedText instance.now text.now before outcome.status outcome.text.items) }
+{
+    match read_answer(alloc, instance, text) {
+        Ok(answer) => judge_answer(alloc, instance, &answer),
+        Err(AnswerError::Bad(bad)) => refusal(alloc, Status::BadAnswer(fault_behind(bad, before))),
+        Err(AnswerError::NoMemory) => Err(NoMemory),
+    }
+}
+
+/// A fault of a text that stands behind so many lines.
+fn fault_behind(bad: BadCert, before: u32) -> BadCert
+    requires { before + bad.line ≤ u32.MAX }
+    ensures { result ≡ fault (before + bad.line) bad.cause }
+{
+    BadCert {
+        line: before + bad.line,
+        cause: bad.cause,
+    }
+}
+
+fn judge_answer(alloc: Global, instance: &Instance, answer: &Answer) -> Result<Outcome, NoMemory>
+    requires instance { IsInstance instance.now }
+    requires answer { IsWellFormed instance.now answer.now }
+    requires few { length answer.now.lines ≤ MAX_NUMBER }
+    ensures { IfOk result (λ outcome. IsJudgedAnswer instance.now answer.now outcome.status outcome.text.items) }
+{
+    match check(alloc, instance, answer) {
+        Ok(()) => Ok(Outcome {
+            status: Status::Accepted,
+            text: accepted_text(alloc, &answer.verdict)?,
+        }),
+        Err(CheckError::Rejected(fault)) => refusal(alloc, Status::Rejected(fault)),
+        Err(CheckError::NoMemory) => Err(NoMemory),
+    }
+}
