@@ -1,0 +1,5 @@
+pub mod Places
+pub mod CodeOrder
+pub mod Implying
+pub mod Growing
+pub mod Segmenting

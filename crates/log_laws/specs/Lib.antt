@@ -1,0 +1,4 @@
+pub mod Contents
+pub mod GoodLines
+pub mod Segments
+pub mod Laws
