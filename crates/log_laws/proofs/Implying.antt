@@ -50,7 +50,7 @@ has_all-each : (literals cited : List Literal) → has_all literals cited ≡ tr
 has_all-each literals cited h = λ k d l. has-contains literals (get_or cited k d) (AllPass-from_list_all (has literals) cited h k d l)
 
 -- literals of a line are a partial assignment, and so they are with one of a path that they don't name
-lits-partial : (instance : Instance) (literals : List Literal) → AreLiterals instance literals → IsPartial instance literals
+pub lits-partial : (instance : Instance) (literals : List Literal) → AreLiterals instance literals → IsPartial instance literals
 lits-partial instance literals h = record {
   in_range = h.in_range;
   distinct = λ i j d less small same. let below = h.ascending i j d less small in omega arith;

@@ -3,3 +3,4 @@ pub mod CodeOrder
 pub mod Implying
 pub mod Growing
 pub mod Segmenting
+pub mod Examples

@@ -1,3 +1,4 @@
+ghost use Rattle.log_laws.specs.ExampleLog.{ExampleLog};
 ghost use Rattle.log_laws.specs.Laws.{GoodLinesAreImplied, GoodLogIsCut, GoodWithMoreRows, GoodWithOneMoreLine, GoodWithOneMoreSegment};
 
 /// A good log stays good where more rows are known.
@@ -24,4 +25,9 @@ pub fn good_log_is_cut()
 /// line costs less than the line's tag.
 pub fn good_lines_are_implied()
     ensures { GoodLinesAreImplied }
+{}
+
+/// A log of five lines is good, and with a change of each kind it isn't.
+pub fn example_log()
+    ensures { ExampleLog }
 {}

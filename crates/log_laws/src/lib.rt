@@ -6,7 +6,7 @@ mod laws;
 mod line;
 
 pub use laws::{
-    good_lines_are_implied, good_log_is_cut, good_with_more_rows, good_with_one_more_line,
-    good_with_one_more_segment,
+    example_log, good_lines_are_implied, good_log_is_cut, good_with_more_rows,
+    good_with_one_more_line, good_with_one_more_segment,
 };
 pub use line::{ChoiceRef, LogLine, Ref, Segment};
