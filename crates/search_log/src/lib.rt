@@ -7,6 +7,8 @@ mod job;
 mod log;
 mod mem_rows;
 mod shared;
+#[cfg(test)]
+mod tests;
 
 pub use bound::{Bound, PlainBound};
 pub use fuel::Fuel;
