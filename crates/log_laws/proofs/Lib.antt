@@ -1,0 +1,6 @@
+pub mod Places
+pub mod CodeOrder
+pub mod Implying
+pub mod Growing
+pub mod Segmenting
+pub mod Examples

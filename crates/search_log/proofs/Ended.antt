@@ -1,0 +1,12 @@
+-- Where the last segment ends.
+use Rattle.std.proofs.Common.{◌≡◌, ℕ, zero, suc, ◌+◌, List, [], ◌∷◌, length, Some, arith}
+use Rattle.std.specs.List.{slice_get}
+use Rattle.log_laws.specs.declared.line.Segment.{Segment}
+use Rattle.log_laws.specs.Segments.{ended}
+
+pub ended-at : (segments : List Segment) (s : Segment) (n : ℕ) → n + 1 ≡ length segments → slice_get segments n ≡ Some s → ended segments ≡ s.last + 1
+ended-at [] s n e at = absurd (omega arith)
+ended-at (x ∷ []) s zero e at = cc
+ended-at (x ∷ []) s (suc n) e at = absurd (omega arith)
+ended-at (x ∷ y ∷ more) s zero e at = absurd (omega arith)
+ended-at (x ∷ y ∷ more) s (suc n) e at = ended-at (y ∷ more) s n (omega arith) at

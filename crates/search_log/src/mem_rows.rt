@@ -1,0 +1,78 @@
+ghost use Rattle.std.specs.Prelude.{◌≡◌, ◌↔◌, ◌≤◌, ◌^◌, All, IsTrue, false, [], length};
+ghost use Rattle.search_log.specs.Shares.{Fits, IsServed, row_content};
+ghost use Rattle.search_log.specs.NumberedRows.{IsFitting, numbered_rows};
+
+use crate::shared::{Cite, Shared};
+use fapp_model::{Items, Literal, Tag};
+use nogood::{Partial, Published, Row};
+
+/// Rows that were stated, numbered from 0 in their order.
+#[derive(Debug, Drop)]
+pub struct MemRows {
+    rows: Items<Row>,
+    ghost few: { length rows ≤ 2 ^ 32 },
+}
+
+impl MemRows {
+    /// These rows, at most 2^32 of them.
+    pub fn new(rows: Vec<Row>) -> MemRows
+        requires { length rows.items ≤ 2 ^ 32 }
+        ensures { result.rows ≡ rows.items }
+    {
+        MemRows {
+            rows: Items::from_vec(rows),
+        }
+    }
+}
+
+impl Shared for MemRows {
+    ghost use Rattle.search_log.specs.NumberedRows.{numbered-one};
+
+    ghost state = { λ shared. record { copied = numbered_rows shared.rows; published = []; takes = false; refusals = 0 } };
+
+    ghost serves = { λ shared instance. All (λ row. IsServed instance (row_content row)) shared.rows };
+
+    fn lookup(&mut self, part: &Partial, target: Tag) -> Option<Cite> {
+        let rows = self.rows.as_slice();
+        match first_fitting(rows, part, target) {
+            Some(place) => Some(Cite {
+                row: place as u32,
+                content: rows[place],
+            }),
+            None => None,
+        }
+    }
+
+    fn offer(&mut self, lits: &[Literal], _tag: Tag) -> Published {
+        if lits.len() > 8 {
+            Published::TooLong
+        } else {
+            Published::Full(self.rows.len() as u64)
+        }
+    }
+
+    ghost one_content = { λ shared. numbered-one shared.rows };
+}
+
+/// The place of the first row that fits.
+fn first_fitting(rows: &[Row], part: &Partial, target: Tag) -> Option<usize>
+    ensures { IsFitting rows.now part.now target.code result }
+{
+    for (place, row) in rows.iter().enumerate() {
+        if fits(row, part, target) {
+            return Some(place);
+        }
+    }
+    None
+}
+
+/// Whether the part has the row's literals, and the row's tag is at least the target.
+fn fits(row: &Row, part: &Partial, target: Tag) -> bool
+    ensures { IsTrue result ↔ Fits part.now target.code (row_content row.now) }
+{
+    row.tag >= target
+        && row
+            .literals()
+            .iter()
+            .all(|lit| part.get(lit.path) == Some(lit.choice))
+}
