@@ -9,21 +9,20 @@ use Rattle.std.specs.List.{All, Contains}
 use Rattle.std.specs.List.{All, AllPairs, Contains, sum_by}
 use Rattle.std.proofs.Common.{Option, Some, IfSome}
 use Rattle.nogood_pool.specs.declared.view.RowInWriting.{RowInWriting}
-use Rattle.std.proofs.lemmas.List.Elements.{All-nil, All-head, All-tail, All-append, All-contains, All-weaker, All-contains_itself, Contains-append_left, Contains-append_right}
+use Rattle.std.proofs.lemmas.List.Elements.{All-nil, All-append, All-contains, All-weaker, All-contains_itself, Contains-append_left, Contains-append_right}
 use Rattle.std.proofs.lemmas.List.Sums.{sum_by-cons, sum_by_push, sum_by-append}
 use Rattle.atomic_table.specs.Table.{step, keeps, opening, Allows, Splits, Joins, Final, Seen}
 use Rattle.atomic_table.proofs.Lists.{at_set, at_snoc, at_longer, set_else}
 use Rattle.fapp_model.specs.declared.instance.Instance.{Instance}
-use Rattle.fapp_model.specs.declared.literal.Literal.{Literal}
 use Rattle.nogood.specs.declared.row.Row.{Row}
-use Rattle.nogood_pool.specs.declared.view.Content.{Content}
 use Rattle.nogood_pool.specs.declared.view.HeldRow.{HeldRow}
 use Rattle.nogood_pool.specs.declared.view.PoolView.{PoolView}
-use Rattle.nogood_pool.specs.Pool.{Words, IsPool, IsHeld, IsWriting, Fits, cell, Live, is_spent, share_of, counter_of, times, written, once, held_row, word_at, literal_word, first_view, kept_half, given_half, after_join, spent_view}
+use Rattle.nogood_pool.specs.Pool.{Words, IsPool, IsHeld, IsWriting, Fits, cell, Live, is_spent, share_of, counter_of, times, written, once, held_row, first_view, kept_half, given_half, after_join, spent_view}
 use Rattle.nogood_pool.specs.Steps.{Mine, HasPart}
 use Rattle.nogood_pool.specs.Ends.{IsWhole, RowsAreImplied, RowsStay}
 use Rattle.nogood_pool.proofs.Cells.{once_same, times_live, not_below, below_most}
 use Rattle.nogood_pool.proofs.Views.{alone}
+use Rattle.nogood_pool.proofs.Contents.{one_content}
 use Rattle.seat_laws.specs.Shares.{part_of}
 use Rattle.seat_laws.proofs.Views.{same_view, set_at, live_set, live_else, part_live, shared_split, shared_join}
 use Rattle.nogood_pool.proofs.Keeps.{live_me, looked}
@@ -183,33 +182,6 @@ has_part rows instance slots id me un s b _ at _ =
     let part = part_live is_spent share_of v un in
     let sum = b.shares.sum in
     (v, keeps, tt, looked rows instance s b id v v l un refl (b.fits id v l) (le_refl v.counter) refl refl 0, (omega arith, refl))
-
--- two lists of literals with the same words are one
-same_literals : (xs ys : List Literal) → All (λ a. (a.path < 65536) × (a.choice < 65536)) xs → All (λ a. (a.path < 65536) × (a.choice < 65536)) ys → (n : ℕ) → length xs ≤ n → length ys ≤ n
-    → ((k : ℕ) → k < n → word_at xs k ≡ word_at ys k) → xs ≡ ys
-same_literals [] [] p q n a c same = refl
-same_literals [] (y ∷ ys) p q zero a c same = absurd (omega arith)
-same_literals [] (y ∷ ys) p q (suc n) a c same = let e : 0 ≡ literal_word y = same 0 (omega arith) in absurd (omega arith)
-same_literals (x ∷ xs) [] p q zero a c same = absurd (omega arith)
-same_literals (x ∷ xs) [] p q (suc n) a c same = let e : literal_word x ≡ 0 = same 0 (omega arith) in absurd (omega arith)
-same_literals (x ∷ xs) (y ∷ ys) p q zero a c same = absurd (omega arith)
-same_literals (x ∷ xs) (y ∷ ys) p q (suc n) a c same =
-    let narrow : Literal → Type 0 = λ z. (z.path < 65536) × (z.choice < 65536) in
-    let nx = All-head narrow x xs p in
-    let ny = All-head narrow y ys q in
-    let e : literal_word x ≡ literal_word y = same 0 (omega arith) in
-    let path : x.path ≡ y.path = omega arith in
-    let choice : x.choice ≡ y.choice = omega arith in
-    let head : x ≡ y = λ i. record { path = path i; choice = choice i } in
-    let tail : xs ≡ ys = same_literals xs ys (All-tail narrow x xs p) (All-tail narrow y ys q) n (omega arith) (omega arith) (λ k h. same (suc k) (omega arith)) in
-    ap (λ (z : Literal). z ∷ xs) head ∙ ap (λ (zs : List Literal). y ∷ zs) tail
-
--- a row holds one content
-one_content : (instance : Instance) (ws : List ℕ) (h : HeldRow) (c : Content) → IsHeld instance ws h → IsHeld instance ws (held_row h.row c) → held_row h.row c ≡ h
-one_content instance ws h c a d =
-    let tag : c.tag ≡ h.content.tag = sym d.tag ∙ a.tag in
-    let lits : c.lits ≡ h.content.lits = same_literals c.lits h.content.lits d.short.narrow a.short.narrow 8 d.short.most a.short.most (λ k lt. sym (d.lits k lt) ∙ a.lits k lt) in
-    λ i. record { row = h.row; content = record { lits = lits i; tag = tag i } }
 
 pub closes : (rows : ℕ) (instance : Instance) (id : ℕ) (v : PoolView) (words : List ℕ) (slots : List Row) → v.spent ≡ false → v.share ≡ WHOLE_SHARE → Final (Seen (IsPool rows instance) id v) words slots → IsWhole v
 closes rows instance id v words slots un all f =

@@ -1,5 +1,5 @@
 -- Each step on the pool keeps the rule.
-use Rattle.std.proofs.Common.{◌≡◌, ◌≢◌, inl, inr, ⊎_elim, ℕ, suc, ◌+◌, ◌*◌, ◌<◌, ◌≤◌, eqb, eq-eqb, ne_eqb, false, List, [], ◌∷◌, ◌++◌, get_or, set, length, map, sym, refl, ap, ◌∙◌, subst, arith, le_refl, length-set, get_or-set_same}
+use Rattle.std.proofs.Common.{◌≡◌, ◌≢◌, ◌⊎◌, inl, inr, ⊎_elim, ℕ, suc, ◌+◌, ◌*◌, ◌<◌, ◌≤◌, eqb, eq-eqb, ne_eqb, false, List, [], ◌∷◌, ◌++◌, get_or, set, length, map, sym, refl, ap, ◌∙◌, subst, arith, le_refl, length-set, get_or-set_same}
 use Rattle.seat_laws.specs.declared.TheConstants.{WHOLE_SHARE}
 use Rattle.std.proofs.lemmas.List.{set-get_or, length-map}
 use mathlib.Core.Logic.{dite}
@@ -19,9 +19,10 @@ use Rattle.nogood_pool.specs.declared.view.Content.{Content}
 use Rattle.nogood_pool.specs.declared.view.HeldRow.{HeldRow}
 use Rattle.nogood_pool.specs.declared.view.PoolView.{PoolView}
 use Rattle.nogood_pool.specs.Pool.{Words, IsPool, IsHeld, IsWriting, IsRow, IsShort, Fits, Live, cell, counter_of, times, below, written, once, held_row, content_of, word_at, literal_word}
-use Rattle.nogood_pool.specs.Steps.{Mine, Counts, Draws, Stores, StoresTag, LoadsTag, ReadsTag, ReadsLiteral, after_count, after_draw, after_miss, writing_at, after_publish, after_read}
+use Rattle.nogood_pool.specs.Steps.{Mine, Counts, Draws, Stores, StoresTag, LoadsTag, ReadsTag, ReadsLiteral, IsOnlyContent, after_count, after_draw, after_miss, writing_at, after_publish, after_read}
 use Rattle.nogood_pool.proofs.Cells.{cell_here, cell_else, cell_counter, counter_else, once_same, Beside, helds_kept, fits_kept, times_live, past, one_more, not_below, below_most}
 use Rattle.nogood_pool.proofs.Views.{kept, alone}
+use Rattle.nogood_pool.proofs.Contents.{one_content}
 use Rattle.seat_laws.proofs.Sums.{one_within, two_within}
 
 pub live_me : (s : Words) (id : ℕ) (v : PoolView) → v.spent ≡ false → get_elem? s.views id ≡ some v → Live s.views id v
@@ -115,6 +116,7 @@ draws rows instance slots id me next said un idle lt valid short s b _ at _ =
     let hit_view : PoolView = after_draw v next c in
     let miss_view : PoolView = after_miss v next n in
     let f : Fits rows instance s.words v = b.fits id v l in
+    let few : n ≤ v.rows = subst (λ (r : ℕ). n ≤ r) (sym f.rows_are) b.counter in
     let miss_fits : Fits rows instance s.words miss_view = record { instance_is = f.instance_is; rows_are = f.rows_are; counter = le_refl n; writing = f.writing; published = f.published; seen = f.seen } in
     dite (ℕ_discrete n next)
     (λ e. (
@@ -122,14 +124,14 @@ draws rows instance slots id me next said un idle lt valid short s b _ at _ =
       keeps,
       tt,
       subst (λ x. IsPool rows instance (stepped s 0 (either x (next + 1) n) id [] hit_view keeps)) (sym (eq-eqb n next e)) (drawn_kept rows instance s b id v next c l idle e lt valid short),
-      ((λ _. refl), (λ ne. absurd (ne e)), refl, λ all. whole_counter rows instance s b id v l all),
+      ((λ _. refl), (λ ne. absurd (ne e)), refl, f.counter, few, λ all. whole_counter rows instance s b id v l all),
     ))
     (λ ne. (
       miss_view,
       keeps,
       tt,
       subst (λ x. IsPool rows instance (stepped s 0 (either x (next + 1) n) id [] miss_view keeps)) (sym (ne_eqb n next ne)) (looked rows instance s b id v miss_view l refl refl miss_fits f.counter refl refl 0),
-      ((λ e. absurd (ne e)), (λ _. refl), refl, λ all. whole_counter rows instance s b id v l all),
+      ((λ e. absurd (ne e)), (λ _. refl), refl, f.counter, few, λ all. whole_counter rows instance s b id v l all),
     ))
 
 some_is : (a b : RowInWriting) → Some a ≡ Some b → a ≡ b
@@ -253,7 +255,7 @@ stores rows instance slots id me w word n un e lt at_word is_n s b _ at _ =
       tt,
       subst (λ (i : ℕ). IsPool rows instance (record { words = set s.words i n; homes = s.homes; views = set s.views id v' })) (sym at_word)
           (subst (λ (m : ℕ). IsPool rows instance (record { words = set s.words (1 + 9 * w.row + (1 + w.stored)) m; homes = s.homes; views = set s.views id v' })) (sym is_n) (stored_kept rows instance s b id v w l e lt)),
-      (refl, λ x ex. let same : w ≡ x = some_is w x (sym e ∙ ex) in ap (λ (y : RowInWriting). writing_at v y.row y.content (y.stored + 1)) same),
+      (refl, λ x ex. let same : w ≡ x = some_is w x (sym e ∙ ex) in (at_word ∙ ap (λ (y : RowInWriting). 1 + 9 * y.row + (1 + y.stored)) same, ap (λ (y : RowInWriting). writing_at v y.row y.content (y.stored + 1)) same)),
     )
 
 pub publishes : (rows : ℕ) (instance : Instance) (slots id : ℕ) (me : Mine) (w : RowInWriting) (word n : ℕ) → me.0.spent ≡ false → me.0.writing ≡ Some w → w.stored ≡ length w.content.lits
@@ -269,7 +271,7 @@ publishes rows instance slots id me w word n un e full at_word is_n s b _ at _ =
       tt,
       subst (λ (i : ℕ). IsPool rows instance (record { words = set s.words i n; homes = s.homes; views = set s.views id v' })) at'
           (subst (λ (m : ℕ). IsPool rows instance (record { words = set s.words (1 + 9 * w.row + 0) m; homes = s.homes; views = set s.views id v' })) (sym is_n) (finished_kept rows instance s b id v w l e full)),
-      (refl, λ x ex. let same : w ≡ x = some_is w x (sym e ∙ ex) in ap (λ (y : RowInWriting). after_publish v y.row y.content) same),
+      (refl, λ x ex. let same : w ≡ x = some_is w x (sym e ∙ ex) in (at_word ∙ ap (λ (y : RowInWriting). 1 + 9 * y.row) same, ap (λ (y : RowInWriting). after_publish v y.row y.content) same)),
     )
 
 -- the tag word of a row is read
@@ -284,6 +286,9 @@ tag_read rows instance s b id me row l lt i =
     record { instance_is = f.instance_is; rows_are = f.rows_are; counter = f.counter; writing = f.writing; published = f.published; seen = All-append (IsHeld instance s.words) v.seen more f.seen all } in
     let keep : (more : List HeldRow) → All (IsHeld instance s.words) more → IsPool rows instance (stepped s i (get_or s.words i 0) id [] (after more) keeps) = λ more all.
     looked rows instance s b id v (after more) l refl refl (fits more all) (le_refl v.counter) refl refl i in
+    let known : (d : Content) → Contains v.published (held_row row d) ⊎ Contains v.seen (held_row row d) → IsHeld instance s.words (held_row row d) = λ d has.
+    ⊎_elim (λ p. All-contains (IsHeld instance s.words) v.published (held_row row d) f.published p) (λ p. All-contains (IsHeld instance s.words) v.seen (held_row row d) f.seen p) has in
+    let only_one : (c : Content) → IsHeld instance s.words (held_row row c) → IsOnlyContent v row c = λ c is d has. ap (λ (h : HeldRow). h.content) (one_content instance s.words (held_row row c) d is (known d has)) in
     dite (ℕ_discrete n 0)
     (λ z. (
       after [],
@@ -300,7 +305,7 @@ tag_read rows instance s b id me row l lt i =
     let is : IsHeld instance s.words (held_row row c) = All-contains (IsHeld instance s.words) o.1.published (held_row row c) (b.fits o.0 o.1 o.2).published o.4 in (
       after (held_row row c ∷ []),
       keep (held_row row c ∷ []) (All-cons (IsHeld instance s.words) (held_row row c) [] is (All-nil (IsHeld instance s.words))),
-      inr (c, is.tag, subst (λ (x : Instance). IsRow x c) (sym f.instance_is) is.valid, is.short, refl),
+      inr (c, is.tag, subst (λ (x : Instance). IsRow x c) (sym f.instance_is) is.valid, is.short, only_one c is, refl),
     ))
 
 pub reads : (rows : ℕ) (instance : Instance) (slots id : ℕ) (me : Mine) (row word : ℕ) → me.0.spent ≡ false → row < rows → word ≡ 1 + 9 * row

@@ -1,5 +1,6 @@
 pub mod Cells
 pub mod Views
+pub mod Contents
 pub mod Keeps
 pub mod Closing
 pub mod Spelling

@@ -11,7 +11,7 @@ use Rattle.nogood_pool.specs.declared.view.PoolView.{PoolView}
 use Rattle.nogood_pool.specs.declared.seat.Pool.{Pool}
 use Rattle.nogood_pool.specs.declared.seat.PoolSeat.{PoolSeat}
 use Rattle.nogood_pool.specs.Pool.{IsRow, content, content_of, held_row}
-use Rattle.nogood_pool.specs.Steps.{IsBehind, after_count, after_draw, after_miss, after_publish, after_read}
+use Rattle.nogood_pool.specs.Steps.{IsBehind, IsOnlyContent, after_count, after_draw, after_miss, after_publish, after_read}
 
 abbrev pub view_of : PoolSeat → PoolView
 view_of s = s.seat.me.0
@@ -34,14 +34,14 @@ Loads v n = (n ≤ v.rows) × IsBehind v n × (v.share ≡ WHOLE_SHARE → n ≡
 -- what `publish` answers, and what the seat then knows
 abbrev pub Publishes : PoolView → List Literal → ℕ → Published → PoolView → Type 0
 Publishes v lits tag TooLong w = (8 < length lits) × (w ≡ v)
-Publishes v lits tag (Full n) w = (v.rows ≤ n) × Loads v n × (w ≡ after_count v n)
-Publishes v lits tag (Busy n m) w = (n < v.rows) × Loads v n × (n ≢ m) × (v.share ≢ WHOLE_SHARE) × (w ≡ after_miss (after_count v n) n m)
+Publishes v lits tag (Full n) w = (length lits ≤ 8) × (v.rows ≤ n) × Loads v n × (w ≡ after_count v n)
+Publishes v lits tag (Busy n m) w = (length lits ≤ 8) × (n < v.rows) × Loads v n × (n < m) × (m ≤ v.rows) × (v.share ≢ WHOLE_SHARE) × (w ≡ after_miss (after_count v n) n m)
 Publishes v lits tag (Home row) w = (length lits ≤ 8) × (row < v.rows) × Loads v row × (w ≡ after_publish (after_draw (after_count v row) row (content lits tag)) row (content lits tag))
 
 -- what `get` answers of a row, and what the seat then knows
 abbrev pub Reads : PoolView → ℕ → Option Row → PoolView → Type 0
 Reads v row None w = (w ≡ after_read v row 0 []) × ((c : Content) → Contains v.published (held_row row c) ⊎ Contains v.seen (held_row row c) → ⊥)
-Reads v row (Some r) w = IsRow v.instance (content_of r) × (w ≡ after_read v row r.tag.code (held_row row (content_of r) ∷ []))
+Reads v row (Some r) w = IsRow v.instance (content_of r) × IsOnlyContent v row (content_of r) × (w ≡ after_read v row r.tag.code (held_row row (content_of r) ∷ []))
 
 -- the same where a load of the counter may come first
 abbrev pub Gets : PoolView → ℕ → Option Row → PoolView → Type 0

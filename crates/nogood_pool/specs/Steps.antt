@@ -53,19 +53,25 @@ abbrev pub Counts : Step Row → Mine → ℕ → Mine → Type 0
 Counts st me n me' = (me'.0 ≡ after_count me.0 n) × (me'.1 ≡ me.1) × (n ≤ me.0.rows) × IsBehind me.0 n × (me.0.share ≡ WHOLE_SHARE → n ≡ me.0.counter)
 
 abbrev pub Draws : Step Row → Mine → ℕ → Mine → Type 0
-Draws st me n me' = (n ≡ st.first → me'.0 ≡ after_draw me.0 st.first (said_content st.said)) × (n ≢ st.first → me'.0 ≡ after_miss me.0 st.first n) × (me'.1 ≡ me.1) × (me.0.share ≡ WHOLE_SHARE → n ≡ me.0.counter)
+Draws st me n me' = (n ≡ st.first → me'.0 ≡ after_draw me.0 st.first (said_content st.said)) × (n ≢ st.first → me'.0 ≡ after_miss me.0 st.first n) × (me'.1 ≡ me.1) × (me.0.counter ≤ n) × (n ≤ me.0.rows) × (me.0.share ≡ WHOLE_SHARE → n ≡ me.0.counter)
 
 abbrev pub Stores : Step Row → Mine → ℕ → Mine → Type 0
-Stores st me n me' = (me'.1 ≡ me.1) × ((w : RowInWriting) → me.0.writing ≡ Some w → me'.0 ≡ writing_at me.0 w.row w.content (w.stored + 1))
+Stores st me n me' = (me'.1 ≡ me.1) × ((w : RowInWriting) → me.0.writing ≡ Some w →
+    (st.word ≡ 1 + 9 * w.row + (1 + w.stored)) × (me'.0 ≡ writing_at me.0 w.row w.content (w.stored + 1)))
 
 abbrev pub StoresTag : Step Row → Mine → ℕ → Mine → Type 0
-StoresTag st me n me' = (me'.1 ≡ me.1) × ((w : RowInWriting) → me.0.writing ≡ Some w → me'.0 ≡ after_publish me.0 w.row w.content)
+StoresTag st me n me' = (me'.1 ≡ me.1) × ((w : RowInWriting) → me.0.writing ≡ Some w →
+    (st.word ≡ 1 + 9 * w.row) × (me'.0 ≡ after_publish me.0 w.row w.content))
+
+-- each content that a view published or saw in a row is this one
+abbrev pub IsOnlyContent : PoolView → ℕ → Content → Type 0
+IsOnlyContent v row c = (d : Content) → Contains v.published (held_row row d) ⊎ Contains v.seen (held_row row d) → d ≡ c
 
 -- where the tag word was 0 no content was known; else the content of the row is seen
 abbrev pub ReadsTag : PoolView → ℕ → ℕ → PoolView → Type 0
 ReadsTag v row n w =
     ((n ≡ 0) × (w ≡ after_read v row n []) × ((c : Content) → Contains v.published (held_row row c) ⊎ Contains v.seen (held_row row c) → ⊥))
-    ⊎ ((c : Content) × (n ≡ c.tag) × IsRow v.instance c × IsShort c.lits × (w ≡ after_read v row n (held_row row c ∷ [])))
+    ⊎ ((c : Content) × (n ≡ c.tag) × IsRow v.instance c × IsShort c.lits × IsOnlyContent v row c × (w ≡ after_read v row n (held_row row c ∷ [])))
 
 abbrev pub LoadsTag : Step Row → Mine → ℕ → Mine → Type 0
 LoadsTag st me n me' = (me'.1 ≡ me.1) × ((row : ℕ) → st.word ≡ 1 + 9 * row → ReadsTag me.0 row n me'.0)

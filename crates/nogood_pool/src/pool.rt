@@ -34,14 +34,14 @@ impl Pool {
     }
 
     /// How many rows were drawn, at most the number of rows, by one load of the counter.
-    pub fn count(&self, seat: &mut PoolSeat) -> u32
+    pub fn count(&self, seat: &mut PoolSeat) -> u64
         requires { IsSeatOf self.now seat.old }
         ensures same { IsSameSeat seat.old seat.new }
         ensures view { view_of seat.new ≡ after_count (view_of seat.old) result }
         ensures found { Loads (view_of seat.old) result }
         ensures few { result ≤ self.now.rows }
     {
-        self.load_counter(seat) as u32
+        self.load_counter(seat)
     }
 
     /// One load of the counter.
@@ -64,6 +64,7 @@ impl Pool {
         ensures same { (seat.new.table_id ≡ seat.old.table_id) × (seat.new.id ≡ seat.old.id) × (seat.new.me.1 ≡ []) }
         ensures hit { result ≡ next → seat.new.me.0 ≡ after_draw seat.old.me.0 next (content_of said.now) }
         ensures miss { result ≢ next → seat.new.me.0 ≡ after_miss seat.old.me.0 next result }
+        ensures most { (seat.old.me.0.counter ≤ result) × (result ≤ seat.old.me.0.rows) }
         ensures alone { seat.old.me.0.share ≡ WHOLE_SHARE → result ≡ seat.old.me.0.counter }
     {
         self.table

@@ -205,14 +205,14 @@ fn are_rows(
     pool: &Pool,
     seat: &mut PoolSeat,
     rows: &[u32],
-    count: u32,
+    count: u64,
 ) -> Result<bool, NoMemory>
     requires own { IsSeatOf pool.now seat.old }
     requires count { count ≤ pool.now.rows }
 {
     let mut once = vec![in alloc; false; count as usize]?;
     for row in rows {
-        if *row >= count || once[*row as usize] {
+        if u64::from(*row) >= count || once[*row as usize] {
             return Ok(false);
         }
         once[*row as usize] = true;

@@ -137,10 +137,13 @@ module _ {V : Type 0} (spent : V → Bool) (share : V → ℕ) where
       let sum = b.sum in
       omega arith
 
-  pub alone : (whole : ℕ) → WholeIsAlone spent share whole
-  alone whole views b i j u v lu all lv = dite (ℕ_discrete i j)
-      (λ e. same_view spent views i j u v e lu lv)
+  pub alone-seat : (whole : ℕ) → WholeIsAlone spent share whole
+  alone-seat whole views b i j u v lu all lv = dite (ℕ_discrete i j)
+      (λ e. e)
       (λ ne. let two = within_whole whole views b i j u v ne lu lv in let some = b.parts j v lv in absurd (omega arith))
+
+  pub alone : (whole : ℕ) (views : List V) → IsShared spent share whole views → (i j : ℕ) (u v : V) → Live spent views i u → share u ≡ whole → Live spent views j v → u ≡ v
+  alone whole views b i j u v lu all lv = same_view spent views i j u v (alone-seat whole views b i j u v lu all lv) lu lv
 
   -- what is counted over the live views is the count of the one that has the whole share
   pub alone_sum : (count : V → ℕ) (whole : ℕ) (views : List V) → IsShared spent share whole views → (id : ℕ) (v : V) → Live spent views id v → share v ≡ whole → sum_by (part_of spent count) views ≡ count v

@@ -27,7 +27,7 @@ module _ {V : Type 0} (spent : V → Bool) (share : V → ℕ) where
     pub parts : EachLive spent (λ v. 1 ≤ share v) views
     pub sum : sum_by part_of views ≡ whole
 
-  -- A live view that has the whole share is every live view.
+  -- The seat of a live view that has the whole share is the only one whose view is live.
   abbrev pub WholeIsAlone : ℕ → Type 0
   WholeIsAlone whole = (views : List V) → IsShared whole views →
-      (i j : ℕ) (u v : V) → Live spent views i u → share u ≡ whole → Live spent views j v → u ≡ v
+      (i j : ℕ) (u v : V) → Live spent views i u → share u ≡ whole → Live spent views j v → i ≡ j

@@ -1,6 +1,11 @@
 -- The list of a hand: the jobs whose numbers leave the hand's number when they are divided by the number of workers.
-use Rattle.std.specs.Prelude.{◌≡◌, ℕ, ◌+◌, ◌<◌, ◌%◌, ◌&&◌, ◌==◌, Bool, nat_le, nat_lt, cond, List, [], ◌∷◌, ◌++◌, Option, Some, None}
+use Rattle.std.specs.Prelude.{◌≡◌, ℕ, ◌+◌, ◌<◌, ◌%◌, ◌&&◌, ◌==◌, Bool, nat_le, nat_lt, cond, if◌then◌else◌, List, [], ◌∷◌, ◌++◌, Option, Some, None}
 use Rattle.steal_ring.specs.Jobs.{times}
+
+-- the number of a hand's neighbour: the next hand, and the first one for the last. A single hand has no neighbour: no
+-- job stands in the list of the number that is given to it.
+abbrev pub neighbour_of : ℕ → ℕ → ℕ
+neighbour_of workers number = if workers == 1 then 1 else ((number + 1) % workers)
 
 -- the job stands in a list, from one place on and before another
 abbrev pub is_between : ℕ → ℕ → ℕ → ℕ → ℕ → Bool

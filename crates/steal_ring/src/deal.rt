@@ -2,6 +2,7 @@
 ghost use Rattle.std.specs.Prelude.{◌≡◌, ℕ, ◌*◌, ◌<◌, ◌≤◌, [], length, All, IfOk};
 ghost use Rattle.seat_laws.specs.declared.TheConstants.{WHOLE_SHARE};
 ghost use Rattle.steal_ring.specs.Jobs.{times};
+ghost use Rattle.steal_ring.specs.Lists.{neighbour_of};
 ghost use Rattle.steal_ring.specs.Seats.{view_of};
 ghost use Rattle.steal_ring.specs.Hands.{won_of, found_of, share_of_hand, shares_of, IsHandOf, IsListed, IsDealt};
 
@@ -24,13 +25,13 @@ impl Hand {
     ) -> Result<Hand, NoMemory>
         requires seat { ((view_of seat).found ≡ []) × ((view_of seat).won ≡ []) }
         requires number { (number < workers) × (workers ≤ MAX_WORKERS) }
-        ensures { IfOk result (λ hand. (hand.seat ≡ seat) × (hand.number ≡ number) × (hand.workers ≡ workers) × (hand.jobs ≡ jobs)) }
+        ensures { IfOk result (λ hand. (hand.seat ≡ seat) × (hand.number ≡ number) × (hand.workers ≡ workers) × (hand.jobs ≡ jobs) × (hand.neighbour ≡ neighbour_of workers number)) }
     {
         let taken = Vec::with_capacity(alloc, 2 * jobs as usize)?;
-        let neighbour = if number + 1 == workers && workers > 1 {
-            0
+        let neighbour = if workers == 1 {
+            1
         } else {
-            number + 1
+            (number + 1) % workers
         };
         Ok(Hand {
             seat,
@@ -80,6 +81,7 @@ impl Ring {
         ensures workers { IfOk result (λ made. length made.1.items ≡ workers) }
         ensures hands { IfOk result (λ made. All (IsHandOf made.0) made.1.items × IsDealt jobs made.1.items) }
         ensures new { IfOk result (λ made. All (λ hand. (won_of hand ≡ []) × (found_of hand ≡ [])) made.1.items) }
+        ensures parts { IfOk result (λ made. All (λ hand. 1 ≤ share_of_hand hand) made.1.items) }
         ensures shares { IfOk result (λ made. shares_of made.1.items ≡ WHOLE_SHARE) }
     {
         let (ring, mut seat) = Ring::free(alloc, jobs)?;

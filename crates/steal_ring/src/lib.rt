@@ -14,6 +14,7 @@ mod seat;
 mod tests;
 mod view;
 
+pub use deal::MAX_WORKERS;
 pub use hand::Hand;
 pub use laws::won_once;
 pub use seat::{Ring, RingSeat};

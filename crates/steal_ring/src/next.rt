@@ -1,5 +1,5 @@
 // How a hand takes jobs.
-ghost use Rattle.std.specs.Prelude.{◌≡◌, ◌<◌, ◌≤◌, ◌∷◌, ◌++◌, [], IfNone, IfSome, MatchOption};
+ghost use Rattle.std.specs.Prelude.{◌≡◌, ◌⊎◌, ℕ, ◌<◌, ◌≤◌, ◌%◌, ◌∷◌, ◌++◌, [], IfNone, IfSome, MatchOption};
 ghost use Rattle.steal_ring.specs.Jobs.{times};
 ghost use Rattle.steal_ring.specs.Lists.{IsGiven, IsSwapped};
 ghost use Rattle.steal_ring.specs.Seats.{view_of, IsSeatOf, IsSameSeat};
@@ -28,13 +28,15 @@ impl Ring {
         (self.jobs, None)
     }
 
-    /// The next job that was free, of the hand's own list or else of its neighbour's. A hand swaps the word of a job
-    /// at most once. None comes exactly where each job of both lists was given to this hand before, or was found
-    /// taken by it.
+    /// The next job that was free, of the hand's own list, and once that is at its end of its neighbour's. A hand swaps
+    /// the word of a job at most once, and goes on in each list where its last call stopped. None comes exactly where
+    /// each job of both lists was given to this hand before, or was found taken by it.
     pub fn next(&self, hand: &mut Hand) -> Option<u32>
         requires { IsHandOf self.now hand.old }
         ensures same { IsHandOf self.now hand.new × IsSameHand hand.old hand.new }
         ensures some { IfSome result (λ job. (job < self.now.jobs) × IsListed hand.old job × (won_of hand.new ≡ won_of hand.old ++ job ∷ [])) }
+        ensures grows { (job : ℕ) → times job (found_of hand.old) ≤ times job (found_of hand.new) }
+        ensures first { IfSome result (λ job. (job % hand.old.workers ≡ hand.old.number) ⊎ ((other : ℕ) → other < self.now.jobs → other % hand.old.workers ≡ hand.old.number → 0 < times other (found_of hand.new))) }
         ensures once { IfSome result (λ job. times job (found_of hand.old) ≡ 0) }
         ensures none { IfNone result ((won_of hand.new ≡ won_of hand.old) × IsDone hand.new) }
     {

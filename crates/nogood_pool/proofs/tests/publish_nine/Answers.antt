@@ -1,4 +1,4 @@
-use Rattle.std.proofs.Common.{[], ◌∷◌, refl}
+use Rattle.std.proofs.Common.{[], ◌∷◌}
 use Rattle.nogood_pool.specs.Examples.{first_choices}
 use Rattle.nogood_pool.proofs.Crowding.{crowded-row-by, nine-first}
 use Rattle.nogood_pool.proofs.tests.publish_nine.Goals as goal

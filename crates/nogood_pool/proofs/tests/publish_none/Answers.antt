@@ -1,5 +1,4 @@
-use Rattle.std.proofs.Common.{[], ◌∷◌, refl}
-use Rattle.nogood_pool.specs.Examples.{first_choices}
+use Rattle.std.proofs.Common.{[], refl}
 use Rattle.nogood_pool.proofs.Crowding.{crowded-row-by, no-literals}
 use Rattle.nogood_pool.proofs.tests.publish_none.Goals as goal
 

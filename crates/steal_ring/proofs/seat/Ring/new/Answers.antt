@@ -1,10 +1,11 @@
-use Rattle.std.proofs.Common.{arith, ◌≡◌, ℕ, ◌-◌, ◌<◌, List, [], ◌∷◌, All, length, sum_by, slice_index_or, ap, sym, ◌∙◌, subst}
+use Rattle.std.proofs.Common.{arith, ◌≡◌, ℕ, ◌-◌, ◌^◌, ◌<◌, ◌≤◌, List, [], ◌∷◌, All, length, sum_by, slice_index_or, ap, sym, ◌∙◌, subst}
+use Rattle.std.proofs.Math.Nat.{one-le-pow}
 use Rattle.std.proofs.lemmas.List.{length-append}
 use Rattle.std.proofs.lemmas.List.Elements.{All-push}
 use Rattle.std.proofs.lemmas.List.Sums.{sum_by_push}
 use Rattle.steal_ring.specs.declared.hand.Hand.{Hand}
 use Rattle.steal_ring.specs.Seats.{view_of}
-use Rattle.steal_ring.specs.Hands.{found_of, won_of, IsHandOf}
+use Rattle.steal_ring.specs.Hands.{found_of, won_of, share_of_hand, IsHandOf}
 use Rattle.steal_ring.specs.declared.seat.RingSeat.{RingSeat}
 use Rattle.steal_ring.specs.declared.view.RingView.{RingView}
 use Rattle.steal_ring.specs.Jobs.{given_half}
@@ -17,6 +18,10 @@ IsFresh h = (won_of h ≡ []) × (found_of h ≡ [])
 
 fresh-is : (h : Hand) (seat : RingSeat) (v : RingView) → h.seat ≡ seat → view_of seat ≡ given_half v → IsFresh h
 fresh-is h seat v e given = (ap (λ s. (view_of s).won) e ∙ ap (λ v. v.won) given, ap (λ s. (view_of s).found) e ∙ ap (λ v. v.found) given)
+
+-- a hand with a part of the whole share
+abbrev IsPart : Hand → Type 0
+IsPart h = 1 ≤ share_of_hand h
 
 pub split-given-requires-clause-share : goal.split-given-requires-clause-share
 split-given-requires-clause-share c = (halve _ c.loop-number.number c.loop-number.invariant.share (let w = c.requires.workers.1 in let t = c.loop-number-test.true in omega arith)).0
@@ -44,6 +49,7 @@ loop-number-preserved c =
       hands = subst (All (IsHandOf c.in_ok-ring.ring)) (sym items) (All-push (IsHandOf c.in_ok-ring.ring) hands hand was.hands (record { table = ap (λ s. s.seat.table_id) is.0 ∙ same.1; all = is.3 ∙ sym was.jobs }));
       dealt = subst (All (λ (h : Hand). (h.workers ≡ c.args.workers) × (h.jobs ≡ c.args.jobs))) (sym items) (All-push (λ (h : Hand). (h.workers ≡ c.args.workers) × (h.jobs ≡ c.args.jobs)) hands hand was.dealt (is.2, is.3));
       places = subst (λ (hs : List Hand). (i : ℕ) (d : Hand) → i < length hs → (slice_index_or hs i d).number ≡ i) (sym items) (placed_more (λ (h : Hand). h.number) hands hand c.loop-number.number was.room.0 is.1 was.places);
+      parts = subst (All IsPart) (sym items) (All-push IsPart hands hand was.parts (let b = ap (λ s. (view_of s).share) is.0 ∙ ap (λ v. v.share) given in omega arith));
       sum = let s = was.sum in let p = ap (sum_by (λ (h : Hand). (view_of h.seat).share)) items ∙ sum_by_push (λ (h : Hand). (view_of h.seat).share) hands hand in
           let a = ap (λ v. v.share) kept in let b = ap (λ s. (view_of s).share) is.0 ∙ ap (λ v. v.share) given in omega arith;
     }
@@ -75,3 +81,12 @@ returns-clause-hands c =
         places = subst (λ (hs : List Hand). (i : ℕ) (d : Hand) → i < length hs → (slice_index_or hs i d).number ≡ i) (sym items) (placed_more (λ (h : Hand). h.number) hands hand c.loop-number.number was.room.0 (is.1 ∙ sym end) was.places);
       },
     )
+
+pub returns-clause-parts : goal.returns-clause-parts
+returns-clause-parts c =
+    let was = c.loop-number.invariant in
+    let hand = c.in_ok-begin-2.field-0 in
+    let is = c.in_ok-begin-2.ensures in
+    let one : 1 ≤ 2 ^ (32 - c.loop-number.number) = one-le-pow (32 - c.loop-number.number) 2 (omega arith) in
+    subst (All IsPart) (sym c.push_reserved-2.ensures.items)
+    (All-push IsPart c.loop-number.hands.items hand was.parts (let s = was.share in let b = ap (λ s. (view_of s).share) is.0 in omega arith))

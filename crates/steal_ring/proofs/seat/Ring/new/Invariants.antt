@@ -3,7 +3,7 @@ use Rattle.std.specs.Vec.{vec_capacity}
 use Rattle.steal_ring.specs.declared.hand.Hand.{Hand}
 use Rattle.seat_laws.specs.declared.TheConstants.{WHOLE_SHARE}
 use Rattle.steal_ring.specs.Seats.{view_of, IsSeatOf}
-use Rattle.steal_ring.specs.Hands.{found_of, won_of, IsHandOf}
+use Rattle.steal_ring.specs.Hands.{found_of, won_of, share_of_hand, IsHandOf}
 use Rattle.steal_ring.proofs.seat.Ring.new.Given as goal
 
 -- the hands so far, and the seat with what is left of the share
@@ -18,5 +18,6 @@ invariant-loop-number l = record {
   hands : All (IsHandOf l.ring) l.hands.items;
   dealt : All (λ h. (h.workers ≡ l.workers) × (h.jobs ≡ l.jobs)) l.hands.items;
   places : (i : ℕ) (d : Hand) → i < length l.hands.items → (slice_index_or l.hands.items i d).number ≡ i;
+  parts : All (λ h. 1 ≤ share_of_hand h) l.hands.items;
   sum : (view_of l.seat).share + sum_by (λ h. (view_of h.seat).share) l.hands.items ≡ WHOLE_SHARE;
 }
