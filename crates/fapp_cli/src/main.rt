@@ -1,4 +1,5 @@
-//! Plans a radio network: reads it from standard input and writes its least plan to standard output.
+//! Plans a radio network, or checks an answer to one: reads it from standard input, and writes its least plan, or
+//! whether the answer is accepted, to standard output.
 #![tactic(auto)]
 
 use fapp_io::{StdSink, StdSource};

@@ -1,5 +1,5 @@
 -- The ways in which a check can end, of which an input has one: the step at which it ends.
-use Rattle.std.proofs.Common.{◌≡◌, ℕ, ◌+◌, ◌<◌, ◌≤◌, Bool, true, false, List, length, Option, Some, None, Result, Ok, Err, refl, sym, ap, ◌∙◌, subst, ltb, arith, if◌then◌else◌}
+use Rattle.std.proofs.Common.{◌≡◌, ℕ, ◌+◌, ◌<◌, ◌≤◌, List, length, Option, Some, None, Result, Ok, Err, refl, sym, ap, ◌∙◌, ltb, arith, if◌then◌else◌}
 use Rattle.fapp_model.specs.declared.instance.Instance.{Instance}
 use Rattle.fapp_model.specs.Instances.{IsInstance}
 use Rattle.fapp_text.specs.declared.failure.LineFault.{LineFault}
@@ -9,7 +9,7 @@ use Rattle.record_reader.specs.Texts.{instance_of_text}
 use Rattle.record_reader.proofs.LawProofs.{valid_text}
 use Rattle.cert_lines.specs.declared.answer.Answer.{Answer}
 use Rattle.cert_lines.specs.declared.reject.Rejected.{Rejected as Fault}
-use Rattle.cert_lines.specs.Reading.{TextFault, reading, first_fault, fault_in}
+use Rattle.cert_lines.specs.Reading.{TextFault, reading, fault_in}
 use Rattle.cert_lines.specs.Spelling.{answer_text}
 use Rattle.cert_lines.specs.WellFormed.{IsWellFormed}
 use Rattle.cert_lines.specs.acceptance.Accepts.{Accepts, answer_fault}

@@ -1,10 +1,9 @@
 -- A text, cut at its first line `--`, line by line.
-use Rattle.std.proofs.Common.{◌≡◌, ℕ, ◌+◌, ◌-◌, ◌<◌, ◌≤◌, Bool, true, false, not, cond, List, [], ◌∷◌, length, take, drop, Option, Some, None, refl, sym, ap, ◌∙◌, subst, ltb, add-one, arith}
+use Rattle.std.proofs.Common.{◌≡◌, ℕ, ◌+◌, ◌-◌, ◌<◌, ◌≤◌, Bool, true, false, not, cond, List, [], ◌∷◌, length, take, Option, Some, None, refl, sym, ap, ◌∙◌, ltb, add-one, arith}
 use Rattle.std.specs.List.{after_first, position, position_or_len}
 use Rattle.std.specs.Option.{option_map}
 use Rattle.fapp_text.specs.Lines.{is_line_feed, lines}
-use Rattle.fapp_run.specs.declared.check_input.CheckInput.{CheckInput}
-use Rattle.fapp_run.specs.Halves.{Halves, is_divider, after_lines, first_lines, cut_at, halves}
+use Rattle.fapp_run.specs.Halves.{is_divider, after_lines, cut_at, halves}
 
 -- so many lines of the text are passed, none of them a divider, and this is left
 pub record IsAt (bytes rest : List ℕ) (divider : ℕ) : Type 0 where

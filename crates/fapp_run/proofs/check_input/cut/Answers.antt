@@ -1,5 +1,5 @@
 use Rattle.std.proofs.Common.{sym, ◌∙◌}
-use Rattle.fapp_run.proofs.CutLemmas.{starts, one_more, here, nowhere}
+use Rattle.fapp_run.proofs.CutLemmas.{one_more}
 use Rattle.fapp_run.proofs.check_input.cut.Goals as goal
 
 pub loop-rest-preserved : goal.loop-rest-preserved

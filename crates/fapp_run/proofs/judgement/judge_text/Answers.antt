@@ -1,4 +1,4 @@
-use Rattle.std.proofs.Common.{length, arith, ap}
+use Rattle.std.proofs.Common.{arith}
 use Rattle.fapp_run.proofs.AnswerSizes.{few_lines, fault_low}
 use Rattle.fapp_run.proofs.judgement.judge_text.Goals as goal
 
