@@ -1,4 +1,4 @@
-ghost use Rattle.std.specs.Prelude.{◌≡◌, ◌≤◌, ◌^◌, length, IfOk, false};
+ghost use Rattle.std.specs.Prelude.{◌≤◌};
 
 use super::*;
 use fapp_model::{Items, Literal, NoMemory, Tag, Triple, tag_of};
