@@ -1,20 +1,18 @@
 -- Lines of removed choices, and why each is good.
-use Rattle.std.proofs.Common.{◌≡◌, ◌≢◌, ◌⊎◌, ℕ, ◌+◌, ◌-◌, ◌*◌, ◌<◌, ◌≤◌, Bool, true, false, cond, ◌&&◌, ◌||◌, not, eqb, leb, List, [], ◌∷◌, ◌++◌, length, take, get_or, fold, refl, sym, ap, ◌∙◌, subst, inl, inr, arith, IsTrue, All, AllPairs, Contains, Option, Some, None, is_none}
+use Rattle.std.proofs.Common.{◌≡◌, ◌≢◌, ◌⊎◌, ℕ, ◌+◌, ◌-◌, ◌<◌, ◌≤◌, Bool, true, false, cond, ◌&&◌, not, eqb, leb, List, [], ◌∷◌, ◌++◌, length, take, get_or, fold, refl, sym, ap, ◌∙◌, subst, inl, inr, arith, Contains, Option, Some, None, is_none}
 use Rattle.std.specs.List.{list_any, range_with_len}
 use Rattle.std.specs.Option.{option_map}
 use Rattle.std.proofs.lemmas.List.{get_or_append_left, get_or_push, length_push, take-append-le, take_at}
 use Rattle.std.proofs.lemmas.List.Elements.{All-contains, All-push, Contains-append_left, Contains-get_or, Contains-push}
 use Rattle.std.proofs.lemmas.List.Quantifiers.{all_pairs_push}
-use Rattle.std.proofs.lemmas.Bool.{and_cases, and_from, and_left, and_right, or_left, or_right, both_ways, cases_Bool, cases_lt, false_from_ne_true, le-leb, not-false, not_from_false, eq-eqb, ne_eqb, or_cases, or_from}
+use Rattle.std.proofs.lemmas.Bool.{and_cases, and_from, and_left, and_right, or_left, or_right, both_ways, cases_lt, le-leb, not-false, not_from_false, eq-eqb, ne_eqb, or_cases, or_from}
 use Rattle.fapp_model.specs.declared.instance.Instance.{Instance}
-use Rattle.fapp_model.specs.declared.level.TheConstants.{MAX_LEVELS}
-use Rattle.fapp_model.specs.declared.limits.TheConstants.{S_SPAN, V_SPAN}
 use Rattle.fapp_model.specs.declared.literal.Literal.{Literal}
 use Rattle.fapp_model.specs.declared.triple.Triple.{Triple}
 use Rattle.fapp_model.specs.declared.tag.Tag.{Tag}
 use Rattle.fapp_model.specs.Assignments.{count_at}
 use Rattle.fapp_model.specs.Tags.{code_of, mode_level, triple_from}
-use Rattle.fapp_model.specs.search.Clashes.{blocks, clashes, clashes_with, shares_record}
+use Rattle.fapp_model.specs.search.Clashes.{blocks, clashes, clashes_with}
 use Rattle.fapp_model.specs.search.Pairs.{Pair}
 use Rattle.fapp_model.specs.search.Partials.{literal, names, IsLiteral}
 use Rattle.fapp_model.specs.search.Weights.{added_pair}
@@ -22,16 +20,13 @@ use Rattle.fapp_model.proofs.Anys.{any-member}
 use Rattle.fapp_model.proofs.Members.{All-from_members, at_front, behind, from-range, in-range}
 use Rattle.cert_lines.specs.declared.answer.Line.{Line}
 use Rattle.cert_lines.specs.declared.answer.Rule.{Rule}
-use Rattle.cert_lines.specs.declared.answer.Rule.TheVariants.{Count}
-use Rattle.cert_lines.specs.declared.reject.RejectCause.{RejectCause}
 use Rattle.cert_lines.specs.declared.reject.RejectCause.TheVariants.{NotDead}
-use Rattle.cert_lines.specs.declared.reject.Rejected.{Rejected}
 use Rattle.cert_lines.specs.acceptance.Contained.{is_same}
 use Rattle.cert_lines.specs.acceptance.Excluded.{line_at, no_line, is_excluded, is_marked, is_cited, is_only}
 use Rattle.cert_lines.specs.acceptance.Judged.{has_clash, is_over, is_stuck, judged_dead, least_pair, lesser, remains, with_choice}
-use Rattle.cert_lines.specs.acceptance.LineFaults.{IsGood, fault_at, line_fault, is_dead, rejected_at, rule_fault}
+use Rattle.cert_lines.specs.acceptance.LineFaults.{IsGood, line_fault, is_dead, rejected_at, rule_fault}
 use Rattle.arc_levels.specs.Marks.{IsLonelyFrom, arc_of, is_partner, mark_at}
-use Rattle.arc_levels.specs.Removals.{AreLines, IsLineAt, IsLineHere, IsRemoval, marked, plain_tag}
+use Rattle.arc_levels.specs.Removals.{AreLines, IsLineAt, IsLineHere, marked, plain_tag}
 use Rattle.arc_levels.proofs.MarkLaws.{mark_either, mark_same}
 
 -- ---- what the choices before a line exclude

@@ -1,5 +1,5 @@
 -- What removing choices does to the arcs.
-use Rattle.std.proofs.Common.{◌≡◌, ◌⊎◌, ℕ, ◌+◌, ◌<◌, ◌≤◌, Bool, true, false, ◌&&◌, not, cond, List, [], length, get_or, set, refl, sym, ap, ◌∙◌, subst, inl, inr, arith, count_by, IsTrue, leb}
+use Rattle.std.proofs.Common.{◌≡◌, ◌⊎◌, ℕ, ◌+◌, ◌<◌, ◌≤◌, Bool, true, false, not, cond, List, [], length, get_or, set, refl, sym, ap, ◌∙◌, subst, inl, inr, arith, count_by, IsTrue, leb}
 use Rattle.std.specs.List.{range_with_len}
 use Rattle.std.proofs.lemmas.Bool.{and_parts, and_from, both_ways, not-true, not_from_false, cases_eq, cases_lt, leb-true, le-leb}
 use Rattle.std.proofs.lemmas.List.{get_or_past, get_or-set_other, get_or-set_same, length-set}
@@ -13,7 +13,7 @@ use Rattle.dead_laws.specs.ArcLaws.{IsArcs}
 use Rattle.fapp_model.proofs.Anys.{sum_by-lt-member}
 use Rattle.fapp_model.proofs.Members.{All-range, in-range}
 use Rattle.fapp_model.proofs.Sums.{count_by-le-members, cond-le}
-use Rattle.arc_levels.specs.Marks.{AreMarks, Falls, IsLonelyFrom, IsPartnerAt, IsServed, IsWideAt, arc_of, is_partner, mark_at, mark_of, no_mark, size_of}
+use Rattle.arc_levels.specs.Marks.{AreMarks, Falls, IsLonelyFrom, IsPartnerAt, IsServed, IsWideAt, arc_of, mark_at, mark_of, no_mark, size_of}
 use Rattle.arc_levels.specs.Removals.{marked}
 use Rattle.fapp_model.specs.declared.level.TheConstants.{MAX_LEVELS}
 

@@ -1,6 +1,6 @@
 -- What the loops keep while choices are removed.
-use Rattle.std.proofs.Common.{leb, ◌≡◌, ℕ, ◌+◌, ◌<◌, ◌≤◌, Bool, true, false, ◌||◌, List, [], ◌∷◌, ◌++◌, length, get_or, refl, sym, ◌∙◌, subst, inl, inr, arith, IsTrue}
-use Rattle.std.proofs.lemmas.Bool.{both_ways, cases_lt, or_cases, or_parts, false_from_ne_true, le-leb, leb-true}
+use Rattle.std.proofs.Common.{◌≡◌, ℕ, ◌+◌, ◌<◌, ◌≤◌, Bool, true, false, ◌||◌, List, [], ◌∷◌, ◌++◌, length, get_or, refl, sym, ◌∙◌, subst, inl, inr, arith, IsTrue}
+use Rattle.std.proofs.lemmas.Bool.{both_ways, cases_lt, or_cases, or_parts, false_from_ne_true, leb-true}
 use Rattle.std.specs.List.{range_with_len}
 use Rattle.std.proofs.lemmas.List.{get_or_default}
 use Rattle.std.proofs.lemmas.List.Elements.{All-contains}
@@ -17,10 +17,10 @@ use Rattle.fapp_model.proofs.Members.{in-filter, in-range}
 use Rattle.dead_laws.proofs.RecordEnds.{joins-ends, shares-range}
 use Rattle.fapp_tables.specs.Indexes.{neighbours_of}
 use Rattle.cert_lines.specs.declared.answer.Line.{Line}
-use Rattle.arc_levels.specs.Marks.{mark_at, AreMarks, Falls, IsLonelyFrom, IsPartnerAt, IsServed, IsWideAt, arc_of, size_of}
-use Rattle.arc_levels.specs.Removals.{AreRemovals, IsLineAt, IsPathTurn, IsRemoval, IsRevision, IsSweep, IsTurn, marked}
+use Rattle.arc_levels.specs.Marks.{mark_at, Falls, IsLonelyFrom, IsServed, arc_of, size_of}
+use Rattle.arc_levels.specs.Removals.{AreRemovals, IsPathTurn, IsRemoval, IsRevision, IsSweep, IsTurn, marked}
 use Rattle.arc_levels.proofs.LineLaws.{lines_more, no_fault}
-use Rattle.arc_levels.proofs.MarkLaws.{falls_both, falls_marked, falls_none, fewer, mark_either, mark_same, marks_still, partner_found, partner_still, wide_still, within_before, within_range}
+use Rattle.arc_levels.proofs.MarkLaws.{falls_both, falls_marked, falls_none, fewer, mark_same, marks_still, partner_still, wide_still, within_before, within_range}
 
 pub shares_apart : (instance : Instance) → IsInstance instance → (p q : ℕ) → IsTrue (shares_record instance p q) → q ≡ p → ⊥
 shares_apart instance v p q h same =

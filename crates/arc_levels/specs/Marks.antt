@@ -1,5 +1,5 @@
 -- Marks of choices: at which level each was removed from the arcs.
-use Rattle.std.specs.Prelude.{◌≡◌, ◌⊎◌, ℕ, ◌+◌, ◌<◌, ◌≤◌, nat_le, Bool, true, false, not, ◌&&◌, IsTrue, List, [], length, slice_index_or, sum_by, count_by}
+use Rattle.std.specs.Prelude.{◌≡◌, ◌⊎◌, ◌↔◌, ℕ, ◌+◌, ◌<◌, ◌≤◌, nat_le, Bool, false, not, ◌&&◌, IsTrue, List, [], length, slice_index_or, sum_by, count_by}
 use Rattle.std.specs.List.{range_with_len}
 use Rattle.fapp_model.specs.declared.instance.Instance.{Instance}
 use Rattle.fapp_model.specs.declared.level.TheConstants.{MAX_LEVELS}
@@ -73,3 +73,21 @@ pub record AreArcs (instance : Instance) (rows : List (List ℕ)) : Type 0 where
   pub marks : AreMarks instance rows
   pub low : (a : Literal) → IsLiteral instance a → mark_at rows a.path a.choice ≤ levels_of instance + 1
   pub arcs : (level : ℕ) → level ≤ levels_of instance → IsArcs instance level (arc_of rows level)
+
+-- the least mark of a path's first choices, or one more than the number of levels where that is less: below it each of
+-- them is outside the arcs
+pub record IsLeastMark (instance : Instance) (rows : List (List ℕ)) (path count least : ℕ) : Type 0 where
+  pub few : least ≤ levels_of instance + 1
+  pub below : (level : ℕ) → level ≤ levels_of instance →
+      ((index : ℕ) → index < count → level < mark_at rows path index) ↔ (level < least)
+
+-- a path with each choice outside the arcs
+pub record IsOutsidePath (instance : Instance) (rows : List (List ℕ)) (count level : ℕ) : Type 0 where
+  pub path : ℕ
+  pub inside : path < count
+  pub outside : (index : ℕ) → index < count_at instance path → level < mark_at rows path index
+
+-- the greatest such mark of the first paths: below it one of them has each choice outside the arcs
+pub record IsGreatestLeast (instance : Instance) (rows : List (List ℕ)) (count greatest : ℕ) : Type 0 where
+  pub few : greatest ≤ levels_of instance + 1
+  pub below : (level : ℕ) → level ≤ levels_of instance → IsOutsidePath instance rows count level ↔ (level < greatest)

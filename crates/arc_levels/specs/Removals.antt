@@ -1,15 +1,17 @@
 -- Choices that were removed from the arcs, in the order of removal.
-use Rattle.std.specs.Prelude.{◌≡◌, ◌≢◌, ◌⊎◌, ℕ, ◌+◌, ◌<◌, ◌≤◌, Bool, true, false, IsTrue, List, [], ◌∷◌, ◌++◌, length, take, slice_index_or, slice_set, All, AllPairs, Contains, None}
+use Rattle.std.specs.Prelude.{◌≡◌, ◌≢◌, ℕ, ◌+◌, ◌<◌, ◌≤◌, Bool, true, false, IsTrue, List, [], ◌∷◌, ◌++◌, length, slice_index_or, slice_set, All, AllPairs, Contains, replicate}
 use Rattle.fapp_model.specs.declared.instance.Instance.{Instance}
 use Rattle.fapp_model.specs.declared.literal.Literal.{Literal}
 use Rattle.fapp_model.specs.declared.triple.Triple.{Triple}
+use Rattle.fapp_model.specs.Assignments.{count_at}
+use Rattle.fapp_model.specs.Instances.{IsInstance}
 use Rattle.fapp_model.specs.search.Clashes.{shares_record}
-use Rattle.fapp_model.specs.search.Partials.{literal, IsLiteral}
+use Rattle.fapp_model.specs.search.Partials.{IsLiteral}
 use Rattle.fapp_model.specs.Tags.{code_of, triple_from}
 use Rattle.cert_lines.specs.declared.answer.Line.{Line}
 use Rattle.cert_lines.specs.declared.answer.Rule.TheVariants.{Count}
 use Rattle.cert_lines.specs.acceptance.LineFaults.{IsGood}
-use Rattle.arc_levels.specs.Marks.{AreMarks, Falls, IsServed, IsWideAt, mark_at, size_of}
+use Rattle.arc_levels.specs.Marks.{AreArcs, AreMarks, Falls, IsServed, IsWideAt, mark_at, size_of}
 
 -- (k, 0, 0)
 abbrev pub plain_tag : ℕ → Triple
@@ -78,3 +80,14 @@ pub record IsSweep (instance : Instance) (level : ℕ) (old new : List (List ℕ
   pub turn : IsTurn instance level old new changed
   pub served : changed ≡ false → (path other : ℕ) → IsTrue (shares_record instance path other) →
       IsServed instance level new path other
+
+-- what a table of the arcs keeps
+pub record IsArcTable (instance : Instance) (rows : List (List ℕ)) (lines : List Line) : Type 0 where
+  pub valid : IsInstance instance
+  pub arcs : AreArcs instance rows
+  pub lined : AreLines instance rows lines
+
+-- a mark of 0 for each choice of so many paths
+pub record AreBlank (instance : Instance) (rows : List (List ℕ)) (count : ℕ) : Type 0 where
+  pub paths : length rows ≡ count
+  pub blank : (path : ℕ) → path < count → slice_index_or rows path [] ≡ replicate (count_at instance path) 0

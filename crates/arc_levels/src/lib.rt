@@ -2,9 +2,12 @@
 #![tactic(auto)]
 
 mod laws;
+mod levels;
 mod marks;
 mod removals;
 mod rounds;
+mod table;
 
 pub use cert_lines::{Line, Rule};
 pub use laws::outside_at_lower_levels;
+pub use table::ArcTable;

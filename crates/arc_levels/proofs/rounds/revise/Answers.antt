@@ -1,12 +1,11 @@
-use Rattle.std.proofs.Common.{◌+◌, ◌≡◌, ℕ, Bool, List, true, sym, ap, ◌∙◌, arith}
+use Rattle.std.proofs.Common.{◌+◌, true, sym, ap, ◌∙◌, arith}
 use Rattle.std.proofs.lemmas.Bool.{both_ways}
 use Rattle.fapp_model.specs.declared.instance.Instance.{Instance}
 use Rattle.fapp_model.specs.Assignments.{count_at}
 use Rattle.fapp_model.specs.search.Partials.{literal}
-use Rattle.cert_lines.specs.declared.answer.Line.{Line}
 use Rattle.arc_levels.specs.declared.removals.Removals.{Removals}
 use Rattle.arc_levels.proofs.MarkLaws.{partner_found}
-use Rattle.arc_levels.proofs.StepLaws.{IsRevised, revised_as, revised_kept, revised_less}
+use Rattle.arc_levels.proofs.StepLaws.{revised_as, revised_kept, revised_less}
 use Rattle.arc_levels.proofs.rounds.revise.Goals.{then-is_in+in-Some, then-is_in+in-None+in_ok-remove-in-None, else-is_in}
 use Rattle.arc_levels.proofs.rounds.revise.Goals as goal
 

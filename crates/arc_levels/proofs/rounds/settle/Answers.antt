@@ -1,4 +1,3 @@
-use Rattle.std.proofs.Common.{◌∙◌}
 use Rattle.arc_levels.proofs.MarkLaws.{arcs_at_last}
 use Rattle.arc_levels.proofs.rounds.settle.Goals as goal
 

@@ -1,6 +1,6 @@
-use Rattle.std.proofs.Common.{◌||◌, ◌+◌, ◌<◌, ℕ, Bool, sym, ap, ◌∙◌, subst, arith}
+use Rattle.std.proofs.Common.{◌||◌, ◌+◌, sym, ap, ◌∙◌, subst}
 use Rattle.std.proofs.lemmas.Bool.{or_left}
-use Rattle.arc_levels.proofs.StepLaws.{IsSwept, swept_all, swept_more}
+use Rattle.arc_levels.proofs.StepLaws.{IsSwept, swept_more}
 use Rattle.arc_levels.proofs.rounds.sweep.Goals.{then-lost, else-lost}
 use Rattle.arc_levels.proofs.rounds.sweep.Goals as goal
 
