@@ -25,7 +25,7 @@ const ORDERS: [(&str, &[u16]); 5] = [
     (TURNED, &[0, 1, 2]),
 ];
 
-fn read(alloc: Global, text: &str) -> Result<Instance, Fail>
+pub fn read(alloc: Global, text: &str) -> Result<Instance, Fail>
     requires { length text.now ≤ 1000 }
     ensures { IfOk result IsInstance }
 {
@@ -35,7 +35,7 @@ fn read(alloc: Global, text: &str) -> Result<Instance, Fail>
     }
 }
 
-fn is_literal(instance: &Instance, path: u16, choice: u16) -> bool
+pub fn is_literal(instance: &Instance, path: u16, choice: u16) -> bool
     requires { IsInstance instance.now }
     ensures { IsTrue result → IsLiteral instance.now (literal path choice) }
 {

@@ -1,0 +1,4 @@
+pub mod MarkLaws
+pub mod LineLaws
+pub mod StepLaws
+pub mod LevelLaws

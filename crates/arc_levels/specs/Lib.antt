@@ -1,0 +1,4 @@
+pub mod Outside
+pub mod ArcLines
+pub mod Marks
+pub mod Removals

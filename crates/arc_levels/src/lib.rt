@@ -1,0 +1,13 @@
+//! Which choices are outside the arcs of each level, and certificate lines that prove it.
+#![tactic(auto)]
+
+mod laws;
+mod levels;
+mod marks;
+mod removals;
+mod rounds;
+mod table;
+
+pub use cert_lines::{Line, Rule};
+pub use laws::outside_at_lower_levels;
+pub use table::ArcTable;
