@@ -115,7 +115,7 @@ const BEST: &str = "BEST 11 1 10\n";
 const GOOD: &str = "B 11 1 10 0 0 0\nEND\n";
 
 /// Whole inputs, the exit status and what is written.
-const INPUTS: [(&str, u8, &str); 9] = [
+const INPUTS: [(&str, u8, &str); 12] = [
     (TIED, 65, "BADANSWER 0 NoAnswer\n"),
     ("", 65, "BADANSWER 0 NoAnswer\n"),
     ("XX 1\n", 65, "BADINPUT 1 UnknownRecord\n"),
@@ -133,6 +133,13 @@ const INPUTS: [(&str, u8, &str); 9] = [
     ),
     ("--\n--\r\n", 65, "BADANSWER 2 BadKind\n"),
     ("--", 65, "BADANSWER 2 NoEnd\n"),
+    ("--\n--\n--\n", 65, "BADANSWER 3 BadKind\n"),
+    ("DM 1 5\nTR 1 2 1\n--\n", 65, "BADINPUT 2 UnknownDomain\n"),
+    (
+        "--\n--\nOPEN 12 0 0 LOWER 0 0 0 AT 11 0\nC 0 0 0 0 0\nEND\n",
+        0,
+        "ACCEPTED OPEN 12 0 0 LOWER 0 0 0 AT 11 0\n",
+    ),
 ];
 
 /// What a check writes of the answer to TORN.
@@ -168,5 +175,14 @@ fn each_input_of_a_check_has_its_end(rt: HostRuntime) -> Result<(), Fail> {
     let (status, written) = end_of(rt.alloc(), "check", input.as_bytes(), 4096, 0, 0)?;
     assert_eq!(rt; status, Status::Accepted);
     assert_eq!(rt; written.as_slice(), output.as_bytes());
+    Ok(())
+}
+
+#[test]
+fn an_input_over_the_limit_is_too_long(rt: HostRuntime) -> Result<(), Fail> {
+    let feeds = vec![in rt.alloc(); b'\n'; MAX_CHECK_INPUT + 1]?;
+    let outcome = judge(rt.alloc(), feeds.as_slice())?;
+    assert_eq!(rt; outcome.status, Status::TooLong);
+    assert_eq!(rt; outcome.text.as_slice(), b"BADINPUT 0 TooLong\n".as_slice());
     Ok(())
 }
