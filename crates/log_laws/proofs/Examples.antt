@@ -302,8 +302,11 @@ no-such-choice h = let own = h.lits.in_range 0 (literal 0 2) (omega arith) in om
 literals-out-of-order : Third (count_line (literal 1 0 ∷ literal 0 0 ∷ []) []) → ⊥
 literals-out-of-order h = let up = h.lits.ascending 0 1 (literal 0 0) (omega arith) (omega arith) in omega arith
 
-no-such-child : Third (branch_line (literal 0 0 ∷ []) 1 (by 0 (Own 0) ∷ by 2 (Own 0) ∷ [])) → ⊥
-no-such-child h = let small = h.refs.in_range 1 (by 2 (Own 0)) (omega arith) in omega (arith, two-choices 1 (omega arith))
+no-such-child : Third (branch_line (literal 0 0 ∷ []) 1 (by 0 (Own 0) ∷ by 2 (Row 7) ∷ [])) → ⊥
+no-such-child h = let small = h.refs.in_range 1 (by 2 (Row 7)) (omega arith) in omega (arith, two-choices 1 (omega arith))
+
+no-such-path : Third (branch_line [] 3 []) → ⊥
+no-such-path h = omega (arith, h.refs.path_in_range, three-paths)
 
 children-out-of-order : Third (branch_line [] 0 (by 1 (Row 4) ∷ by 0 (Own 1) ∷ [])) → ⊥
 children-out-of-order h = let up = h.refs.ascending 0 1 (by 0 (Own 1)) (omega arith) (omega arith) in omega arith
@@ -317,13 +320,19 @@ cites-unknown h = let n = named (count_line (literal 1 0 ∷ []) (by 0 (Row 5) �
 same-lits : (ls ms : List Literal) (test : List Literal → Bool) → ls ≡ ms → test ms ≡ false → test ls ≡ true → ⊥
 same-lits ls ms test e fails passes = true≢false (sym passes ∙ (ap test e ∙ fails))
 
-two-outside : Third (count_line (literal 2 0 ∷ []) (by 0 (Own 0) ∷ [])) → ⊥
+two-outside : Third (count_line (literal 2 0 ∷ []) (by 0 (Own 0) ∷ by 0 (Row 7) ∷ by 0 (Row 4) ∷ [])) → ⊥
 two-outside h =
-    let n = named (count_line (literal 2 0 ∷ []) (by 0 (Own 0) ∷ [])) h (by 0 (Own 0)) (0, omega arith, refl) in
+    let n = named (count_line (literal 2 0 ∷ []) (by 0 (Own 0) ∷ by 0 (Row 7) ∷ by 0 (Row 4) ∷ [])) h (by 0 (Own 0)) (0, omega arith, refl) in
     let is : n.2.0 ≡ alike = sym (some-same alike n.2.0 n.2.1) in
     let lits : n.0.lits ≡ alike.lits = ap (λ (c : Content). c.lits) n.2.2 ∙ ap (λ (l : LogLine). l.lits) is in
     let test = All-contains (λ (c : Content). IsTrue (has_all_but_one (literal 2 0 ∷ []) c.lits)) h.contents n.0 (h.passes (omega arith)).contained n.1 in
     same-lits n.0.lits alike.lits (has_all_but_one (literal 2 0 ∷ [])) lits refl test
+
+outside-named : Third (count_line (literal 0 1 ∷ literal 1 1 ∷ []) (by 0 (Row 7) ∷ [])) → ⊥
+outside-named h =
+    let n = named (count_line (literal 0 1 ∷ literal 1 1 ∷ []) (by 0 (Row 7) ∷ [])) h (by 0 (Row 7)) (0, omega arith, refl) in
+    let test = All-contains (λ (c : Content). IsTrue (has_all_but_one (literal 0 1 ∷ literal 1 1 ∷ []) c.lits)) h.contents n.0 (h.passes (omega arith)).contained n.1 in
+    same-lits n.0.lits (literal 0 0 ∷ []) (has_all_but_one (literal 0 1 ∷ literal 1 1 ∷ [])) ((is-known 7 n.0 n.2).3 refl) refl test
 
 another-choice : Third (branch_line [] 0 (by 0 (Row 4) ∷ by 1 (Row 4) ∷ [])) → ⊥
 another-choice h = by-contents h.contents h.cites (h.passes (omega arith)).contained
@@ -382,11 +391,13 @@ example-log = record {
   good = log-good;
   no_such_choice = wrong-third (count_line (literal 0 2 ∷ []) []) no-such-choice;
   literals_out_of_order = wrong-third (count_line (literal 1 0 ∷ literal 0 0 ∷ []) []) literals-out-of-order;
-  no_such_child = wrong-third (branch_line (literal 0 0 ∷ []) 1 (by 0 (Own 0) ∷ by 2 (Own 0) ∷ [])) no-such-child;
+  no_such_child = wrong-third (branch_line (literal 0 0 ∷ []) 1 (by 0 (Own 0) ∷ by 2 (Row 7) ∷ [])) no-such-child;
+  no_such_path = wrong-third (branch_line [] 3 []) no-such-path;
   children_out_of_order = wrong-third (branch_line [] 0 (by 1 (Row 4) ∷ by 0 (Own 1) ∷ [])) children-out-of-order;
   cites_itself = wrong-third (count_line (literal 1 0 ∷ []) (by 0 (Own 2) ∷ [])) cites-itself;
   cites_an_unknown_row = wrong-third (count_line (literal 1 0 ∷ []) (by 0 (Row 5) ∷ [])) cites-unknown;
-  two_literals_outside = wrong-third (count_line (literal 2 0 ∷ []) (by 0 (Own 0) ∷ [])) two-outside;
+  two_literals_outside = wrong-third (count_line (literal 2 0 ∷ []) (by 0 (Own 0) ∷ by 0 (Row 7) ∷ by 0 (Row 4) ∷ [])) two-outside;
+  outside_of_a_named_path = wrong-third (count_line (literal 0 1 ∷ literal 1 1 ∷ []) (by 0 (Row 7) ∷ [])) outside-named;
   child_of_another_choice = wrong-third (branch_line [] 0 (by 0 (Row 4) ∷ by 1 (Row 4) ∷ [])) another-choice;
   cited_tag_too_low = wrong-third (count_line (literal 1 0 ∷ []) (by 0 (Own 1) ∷ by 0 (Row 2) ∷ [])) tag-too-low;
   path_is_named = wrong-third (branch_line (literal 0 0 ∷ []) 0 (by 0 (Own 1) ∷ by 1 (Row 4) ∷ [])) path-named;

@@ -1,5 +1,6 @@
 ghost use Rattle.std.specs.Prelude.{◌≡◌, ◌↔◌, ◌≤◌, ◌^◌, All, IsTrue, false, [], length};
-ghost use Rattle.search_log.specs.Shares.{Fits, IsServed, row_content};
+ghost use Rattle.fapp_model.specs.declared.instance.Instance.{Instance};
+ghost use Rattle.search_log.specs.Shares.{Fits, IsCiteOf, IsOffer, IsServed, Looks, Offered, row_content};
 ghost use Rattle.search_log.specs.NumberedRows.{IsFitting, numbered_rows};
 
 use crate::shared::{Cite, Shared};
@@ -32,7 +33,12 @@ impl Shared for MemRows {
 
     ghost serves = { λ shared instance. All (λ row. IsServed instance (row_content row)) shared.rows };
 
-    fn lookup(&mut self, part: &Partial, target: Tag) -> Option<Cite> {
+    fn lookup(&mut self, part: &Partial, target: Tag) -> Option<Cite>
+        ensures looks { Looks (⟦<MemRows as Shared>⟧.state self.old) (⟦<MemRows as Shared>⟧.state self.new) part.now target.code result }
+        ensures serves { (instance : Instance) → ⟦<MemRows as Shared>⟧.serves self.old instance ↔ ⟦<MemRows as Shared>⟧.serves self.new instance }
+        ensures implied { (instance : Instance) → ⟦<MemRows as Shared>⟧.serves self.old instance → IsCiteOf instance result }
+        ensures held { self.new.rows ≡ self.old.rows }
+    {
         let rows = self.rows.as_slice();
         match first_fitting(rows, part, target) {
             Some(place) => Some(Cite {
@@ -43,7 +49,12 @@ impl Shared for MemRows {
         }
     }
 
-    fn offer(&mut self, lits: &[Literal], _tag: Tag) -> Published {
+    fn offer(&mut self, lits: &[Literal], tag: Tag) -> Published
+        requires { (instance : Instance) × ⟦<MemRows as Shared>⟧.serves self.old instance × IsOffer instance lits.now tag.code }
+        ensures offered { Offered (⟦<MemRows as Shared>⟧.state self.old) (⟦<MemRows as Shared>⟧.state self.new) lits.now tag.code result }
+        ensures serves { (instance : Instance) → ⟦<MemRows as Shared>⟧.serves self.old instance ↔ ⟦<MemRows as Shared>⟧.serves self.new instance }
+        ensures held { self.new.rows ≡ self.old.rows }
+    {
         if lits.len() > 8 {
             Published::TooLong
         } else {
