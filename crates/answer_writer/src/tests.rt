@@ -4,7 +4,7 @@ use fapp_model::{Choice, Instance, Items, Path, Triple};
 use std::test::Fail;
 
 // Statuses, with their codes and the lines that tell of them.
-const ENDS: [(Status, u8, &str); 9] = [
+const ENDS: [(Status, u8, &str); 14] = [
     (Status::Best, 0, ""),
     (Status::Accepted, 0, ""),
     (Status::NoneFeasible, 1, ""),
@@ -43,8 +43,23 @@ const ENDS: [(Status, u8, &str); 9] = [
         65,
         "BADANSWER 12 BadNumber\n",
     ),
+    (
+        Status::Rejected(Rejected {
+            line: 0,
+            cause: RejectCause::RootTagTooLow {
+                claimed: tag_of(Triple { k: 12, v: 0, s: 0 }),
+                found: tag_of(Triple { k: 5, v: 1, s: 4 }),
+            },
+        }),
+        3,
+        "REJECTED 0 RootTagTooLow 12 0 0 5 1 4\n",
+    ),
+    (Status::Usage, 64, "USAGE\n"),
+    (Status::TooLong, 65, "BADINPUT 0 TooLong\n"),
     (Status::NoAnswer, 65, "BADANSWER 0 NoAnswer\n"),
+    (Status::ReadFault, 66, "READFAULT\n"),
     (Status::WriteFault, 67, ""),
+    (Status::NoMemory, 68, ""),
 ];
 
 #[test]

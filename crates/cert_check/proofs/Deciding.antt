@@ -20,6 +20,10 @@ split_test false true true y = refl
 split_test false true false y = refl
 split_test false false x y = refl
 
+or-true : (b : Bool) → (b || true) ≡ true
+or-true true = refl
+or-true false = refl
+
 -- the elements with a mark, and those without
 any-split : {X : Type 0} (n s : X → Bool) (xs : List X) → (list_any (λ x. n x && s x) xs || list_any (λ x. not (n x) && s x) xs) ≡ list_any s xs
 any-split n s [] = refl
@@ -50,12 +54,13 @@ module _ (scene : Scene) (literals : List Literal) where
     pub by-clash : has_clash instance scene.level literals ≡ true → true ≡ dead
     by-clash h = sym (test-by e ∙ ap (λ b. b || (list_any (excluded_by scene literals) literals || (any_stuck || over_by))) h)
 
+    pub by-excluded : list_any (excluded_by scene literals) literals ≡ true → true ≡ dead
+    by-excluded h = sym (test-by e ∙ (ap (λ b. has_clash instance scene.level literals || (b || (any_stuck || over_by))) h
+        ∙ or-true (has_clash instance scene.level literals)))
+
     module _ (calm : has_clash instance scene.level literals ≡ false) where
       after-clash : dead ≡ (list_any (excluded_by scene literals) literals || (any_stuck || over_by))
       after-clash = test-by e ∙ ap (λ b. b || (list_any (excluded_by scene literals) literals || (any_stuck || over_by))) calm
-
-      pub by-excluded : list_any (excluded_by scene literals) literals ≡ true → true ≡ dead
-      by-excluded h = sym (after-clash ∙ ap (λ b. b || (any_stuck || over_by)) h)
 
       module _ (kept : list_any (excluded_by scene literals) literals ≡ false) (near : List Bool) where
         after-excluded : dead ≡ ((near_stuck scene literals near || far_stuck scene literals near) || over_by)
@@ -70,11 +75,7 @@ module _ (scene : Scene) (literals : List Literal) where
           after-near = after-excluded ∙ ap (λ b. (b || far_stuck scene literals near) || over_by) loose
 
           pub by-over : over_by ≡ true → true ≡ dead
-          by-over h = sym (after-near ∙ (ap (λ b. far_stuck scene literals near || b) h ∙ or_true (far_stuck scene literals near)))
-            where
-              or_true : (b : Bool) → (b || true) ≡ true
-              or_true true = refl
-              or_true false = refl
+          by-over h = sym (after-near ∙ (ap (λ b. far_stuck scene literals near || b) h ∙ or-true (far_stuck scene literals near)))
 
           pub by-far : over_by ≡ false → far_stuck scene literals near ≡ dead
           by-far h = sym (after-near ∙ (ap (λ b. far_stuck scene literals near || b) h ∙ or_false (far_stuck scene literals near)))

@@ -209,12 +209,12 @@ pub(crate) fn is_dead(alloc: Global, scene: Scene, literals: &[Literal]) -> Resu
     requires few { length literals.now ≤ 2 ^ 14 }
     ensures { IfOk result (λ dead. dead ≡ dead_by scene.entry literals.now) }
 {
-    let Some(own) = own_weight(alloc, scene, literals)? else {
-        return Ok(true);
-    };
     if any_excluded(scene, literals) {
         return Ok(true);
     }
+    let Some(own) = own_weight(alloc, scene, literals)? else {
+        return Ok(true);
+    };
     let near = near_paths(alloc, scene, literals)?;
     if triple_of(scene.tag).v == 0 {
         return any_stuck(alloc, scene, literals, near.as_slice());

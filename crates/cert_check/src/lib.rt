@@ -25,6 +25,3 @@ pub use fapp_model::NoMemory;
 pub use marks::Marks;
 pub use plan::judge_plan;
 pub use root::judge_root;
-
-#[cfg(test)]
-mod tests;

@@ -39,11 +39,13 @@ const TIED: &str =
 const SMALL: &str =
     "DM 1 1000\nDM 1 1040\nDM 2 1100\nDM 2 1140\nDM 2 1180\nDM 3 1000\nDM 3 1040\nDM 3 1080\nTR 1 1 1\nTR 2 2 1\nTR 3 3 1\nTR 4 2 0\nCI 1 2 F E 100\nCI 3 4 F E 100\nCI 1 3 F I 0\nCE 1 3 100 95 90 85 80 75 70 65 60 55 50\nCD 1 3 60 56 52 48 44 40 36 32 28 24 20\nCE 2 4 100 95 90 85 80 75 70 65 60 55 50\nCD 2 4 60 56 52 48 44 40 36 32 28 24 20\n";
 
+const CHECKED: &str = "--\n--\nBEST 0 0 0\nC 0 0 0 0 0\nEND\n";
+
 const LENIENT: &str =
     "TR 1 1 1\r\nTR\t2 2 1\r\n\r\nCE  1 2 20 20 20 20 20 20 20 20 20 20 20\r\nDM 2 30\nDM 2 10\nDM 2 020\nDM 2 30\nDM 1 10";
 
 // Words, an input, the exit status and what is written. Each plan is the only one that costs the least.
-const ENDS: [(&str, &str, u8, &str); 32] = [
+const ENDS: [(&str, &str, u8, &str); 34] = [
     (WORDS, PLAIN, 0, PLAIN_PLAN),
     (WORDS, CHAIN, 0, "AL 1 10 1\nAL 2 20 1\n"),
     (WORDS, "", 0, ""),
@@ -70,6 +72,8 @@ const ENDS: [(&str, &str, u8, &str); 32] = [
     ("solve --", PLAIN, 64, "USAGE\n"),
     ("solve --fuel 1 --fuel 1", PLAIN, 64, "USAGE\n"),
     ("--help", PLAIN, 64, "USAGE\n"),
+    ("check x", CHECKED, 64, "USAGE\n"),
+    ("check --", CHECKED, 64, "USAGE\n"),
     (
         WORDS,
         "DM 1 10\nCE 1 1 0 0 0 0 0 0 0 0 0 0 0\n",
@@ -123,12 +127,15 @@ const ENDS: [(&str, &str, u8, &str); 32] = [
     (WORDS, "CI 1 2 F X 5\n", 65, "BADINPUT 1 BadWord\n"),
 ];
 
-// How many bytes are given and taken in a call over PLAIN, which read or write fails (0: none), the exit status and what
-// is written.
-const FAULTS: [(usize, u64, u64, u8, &str); 3] = [
-    (4096, 1, 0, 66, "READFAULT\n"),
-    (4096, 0, 1, 67, ""),
-    (4, 0, 3, 67, "AL 1 10 "),
+// Words, an input, how many bytes are given and taken in a call, which read or write fails (0: none), the exit status
+// and what is written.
+const FAULTS: [(&str, &str, usize, u64, u64, u8, &str); 6] = [
+    (WORDS, PLAIN, 4096, 1, 0, 66, "READFAULT\n"),
+    (WORDS, PLAIN, 4096, 0, 1, 67, ""),
+    (WORDS, PLAIN, 4, 0, 3, 67, "AL 1 10 "),
+    ("check", CHECKED, 4096, 1, 0, 66, "READFAULT\n"),
+    ("check", CHECKED, 4096, 0, 1, 67, ""),
+    ("check", CHECKED, 4, 0, 3, 67, "ACCEPTED"),
 ];
 
 // Networks, and what their least plans cost.
@@ -189,22 +196,24 @@ fn bytes_alone_have_their_answer(rt: HostRuntime) -> Result<(), Fail> {
 
 #[test]
 fn each_fault_has_its_end(rt: HostRuntime) -> Result<(), Fail> {
-    let input = PLAIN.as_bytes();
-    for (most, failing_read, failing_write, code, output) in FAULTS.iter() {
-        let pieces = (*most).max(1);
+    for (words, input, most, failing_read, failing_write, code, output) in FAULTS.iter() {
         let (status, written) = end_of(
             rt.alloc(),
-            WORDS,
-            input,
-            pieces,
+            words,
+            input.as_bytes(),
+            (*most).max(1),
             *failing_read,
             *failing_write,
         )?;
-        assert_eq!(rt; status.code(), *code, "at {failing_read} {failing_write}");
+        assert_eq!(rt;
+            status.code(),
+            *code,
+            "at {words} {failing_read} {failing_write}"
+        );
         assert_eq!(rt;
             written.as_slice(),
             output.as_bytes(),
-            "at {failing_read} {failing_write}"
+            "at {words} {failing_read} {failing_write}"
         );
     }
     Ok(())

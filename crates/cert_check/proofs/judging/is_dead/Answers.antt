@@ -18,8 +18,7 @@ returns-in_default c =
 
 pub returns-then-any_excluded : goal.returns-then-any_excluded
 returns-then-any_excluded c =
-    let own = subst (IsOwn c.args.scene.instance.now c.args.scene.level c.args.literals.now) c.in-Some.is c.in_ok-own.ensures in
-    by-excluded c.args.scene c.args.literals.now c.requires.level own.0 (sym c.any_excluded.ensures ∙ c.if-any_excluded.true)
+    by-excluded c.args.scene c.args.literals.now c.requires.level (sym c.any_excluded.ensures ∙ c.if-any_excluded.true)
 
 pub returns-then-triple_of-eq0 : goal.returns-then-triple_of-eq0
 returns-then-triple_of-eq0 c =
