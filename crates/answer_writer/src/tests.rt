@@ -1,10 +1,10 @@
 use super::*;
 use cert_lines::{Answer, Verdict};
-use fapp_model::{Choice, Instance, Items, Path, Triple};
+use fapp_model::{Choice, Instance, Items, Path, Triple, tag_of};
 use std::test::Fail;
 
 // Statuses, with their codes and the lines that tell of them.
-const ENDS: [(Status, u8, &str); 14] = [
+const ENDS: [(Status, u8, &str); 13] = [
     (Status::Best, 0, ""),
     (Status::Accepted, 0, ""),
     (Status::NoneFeasible, 1, ""),
@@ -43,17 +43,6 @@ const ENDS: [(Status, u8, &str); 14] = [
         65,
         "BADANSWER 12 BadNumber\n",
     ),
-    (
-        Status::Rejected(Rejected {
-            line: 0,
-            cause: RejectCause::RootTagTooLow {
-                claimed: tag_of(Triple { k: 12, v: 0, s: 0 }),
-                found: tag_of(Triple { k: 5, v: 1, s: 4 }),
-            },
-        }),
-        3,
-        "REJECTED 0 RootTagTooLow 12 0 0 5 1 4\n",
-    ),
     (Status::Usage, 64, "USAGE\n"),
     (Status::TooLong, 65, "BADINPUT 0 TooLong\n"),
     (Status::NoAnswer, 65, "BADANSWER 0 NoAnswer\n"),
@@ -71,6 +60,22 @@ fn each_status_has_its_code_and_line(rt: HostRuntime) -> Result<(), Fail> {
             line.as_bytes()
         );
     }
+    Ok(())
+}
+
+#[test]
+fn both_tags_are_written_where_they_differ(rt: HostRuntime) -> Result<(), Fail> {
+    let status = Status::Rejected(Rejected {
+        line: 0,
+        cause: RejectCause::RootTagTooLow {
+            claimed: tag_of(Triple { k: 12, v: 0, s: 0 }),
+            found: tag_of(Triple { k: 5, v: 1, s: 4 }),
+        },
+    });
+    assert_eq!(rt;
+        refusal_text(rt.alloc(), &status)?.as_slice(),
+        b"REJECTED 0 RootTagTooLow 12 0 0 5 1 4\n".as_slice()
+    );
     Ok(())
 }
 
