@@ -1,3 +1,5 @@
+pub mod GapLaws
+pub mod LeftLaws
 pub mod MarkLaws
 pub mod LineLaws
 pub mod StepLaws

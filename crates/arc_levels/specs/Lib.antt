@@ -1,3 +1,5 @@
+pub mod Gaps
+pub mod Left
 pub mod Outside
 pub mod ArcLines
 pub mod Marks

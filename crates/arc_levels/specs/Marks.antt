@@ -47,6 +47,11 @@ abbrev pub IsLonelyFrom : Instance → ℕ → List (List ℕ) → Literal → �
 IsLonelyFrom instance level rows a other start = (index : ℕ) → start ≤ index → index < count_at instance other →
     is_partner instance level rows a (literal other index) ≡ false
 
+-- a choice is within the arcs, and no choice of another path is a partner of it
+pub record IsLonely (instance : Instance) (level : ℕ) (rows : List (List ℕ)) (a : Literal) (other : ℕ) : Type 0 where
+  pub within : IsTrue (arc_of rows level a)
+  pub alone : IsLonelyFrom instance level rows a other 0
+
 -- the choices of each supported family are within the arcs
 abbrev pub IsWideAt : Instance → ℕ → List (List ℕ) → Type 0
 IsWideAt instance level rows = (family : Literal → Bool) → IsSupported instance level family →

@@ -63,17 +63,21 @@ pub record IsTurn (instance : Instance) (level : ℕ) (old new : List (List ℕ)
   pub stays : changed ≡ false → new ≡ old
   pub loses : changed ≡ true → size_of instance level new < size_of instance level old
 
--- a turn after which each choice of a path has a partner on another one
+-- a turn that removes choices of one path alone, after which each that it keeps has a partner on another one
 pub record IsRevision (instance : Instance) (level path other : ℕ) (old new : List (List ℕ)) (changed : Bool) : Type 0 where
   pub turn : IsTurn instance level old new changed
+  pub others : (p index : ℕ) → p ≢ path → mark_at new p index ≡ mark_at old p index
   pub served : IsServed instance level new path other
 
--- a turn after which each choice of a path has a partner on each path that shares a record with it, or that changed
--- something
-pub record IsPathTurn (instance : Instance) (level path : ℕ) (old new : List (List ℕ)) (changed : Bool) : Type 0 where
-  pub turn : IsTurn instance level old new changed
-  pub served : changed ≡ false → (other : ℕ) → IsTrue (shares_record instance path other) →
-      IsServed instance level new path other
+-- whether choices of a path may have been removed since those of its neighbours had partners on it
+abbrev pub is_stale : List Bool → ℕ → Bool
+is_stale stale path = slice_index_or stale path true
+
+-- where none may have been, each choice of the neighbours has a partner on the path
+pub record AreFresh (instance : Instance) (level : ℕ) (rows : List (List ℕ)) (stale : List Bool) : Type 0 where
+  pub whole : length stale ≡ length instance.paths
+  pub served : (path other : ℕ) → IsTrue (shares_record instance path other) → is_stale stale other ≡ false →
+      IsServed instance level rows path other
 
 -- a turn after which each choice has its partners, or that changed something
 pub record IsSweep (instance : Instance) (level : ℕ) (old new : List (List ℕ)) (changed : Bool) : Type 0 where

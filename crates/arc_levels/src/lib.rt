@@ -1,7 +1,9 @@
 //! Which choices are outside the arcs of each level, and certificate lines that prove it.
 #![tactic(auto)]
 
+mod gaps;
 mod laws;
+mod left;
 mod levels;
 mod marks;
 mod removals;

@@ -27,13 +27,6 @@ impl Marks {
         Marks { marks }
     }
 
-    /// How many marks there are.
-    pub fn len(&self) -> usize
-        ensures { result ≡ length self.now }
-    {
-        self.marks.len()
-    }
-
     /// The mark at an index.
     pub fn get(&self, index: usize) -> u8
         requires { index < length self.now }

@@ -84,7 +84,8 @@ fn greatest_least(instance: &Instance, removals: &Removals) -> u32
 }
 
 impl<'a> ArcTable<'a> {
-    /// Finds the arcs of each level.
+    /// Finds the arcs of each level. While it runs it takes four bytes for each choice of one path besides, and a byte a
+    /// path. `NoMemory` comes where room could not be had.
     pub fn build(alloc: Global, tables: &Tables<'a>) -> Result<ArcTable<'a>, NoMemory>
         ensures { IfOk result (λ arcs. arcs ≡ tables.now) }
     {

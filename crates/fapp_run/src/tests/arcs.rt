@@ -5,8 +5,8 @@ use fapp_model::{Literal, Triple, triple_of};
 use fapp_tables::Tables;
 use std::test::Fail;
 
-// Texts; at how many levels some path has no choice in the arcs; the choices that are outside some level's arcs in the
-// order of their lines, with the number of these levels before the path and the choice; and choices within all arcs.
+// Texts; at how many levels some path has no choice in the arcs; the choices that are outside some level's arcs, with
+// the number of these levels before the path and the choice; and choices within all arcs.
 const ARCS: [(&str, u32, &[(u32, u16, u16)], &[(u16, u16)]); 6] = [
     (TIED, 11, &[(12, 1, 0), (11, 0, 0), (11, 1, 1)], &[]),
     (
@@ -34,14 +34,15 @@ fn choices_outside_the_arcs_have_lines(rt: HostRuntime) -> Result<(), Fail> {
         let arcs = ArcTable::build(rt.alloc(), &tables)?;
         assert_eq!(rt; triple_of(arcs.root_tag()), plain(*root), "at {text}");
         assert_eq!(rt; arcs.lines().len(), removed.len(), "at {text}");
-        for (line, (k, path, choice)) in arcs.lines().iter().zip(removed.iter()) {
-            let literal = Literal {
-                path: *path,
-                choice: *choice,
-            };
-            assert_eq!(rt; triple_of(line.tag), plain(*k), "at {text}");
-            assert_eq!(rt; line.lits.as_slice(), [literal].as_slice(), "at {text}");
+        for line in arcs.lines() {
+            assert_eq!(rt; line.lits.len(), 1, "at {text}");
+            let Literal { path, choice } = line.lits.as_slice()[0];
+            let k = triple_of(line.tag).k;
+            assert!(rt; removed.contains(&(k, path, choice)), "at {text}");
+            assert_eq!(rt; triple_of(line.tag), plain(k), "at {text}");
             assert!(rt; matches!(&line.rule, Rule::Count { cites } if cites.is_empty()));
+        }
+        for (k, path, choice) in removed.iter() {
             assert!(rt; is_literal(&instance, *path, *choice));
             assert_eq!(rt;
                 triple_of(arcs.tag_at(*path, *choice)),
