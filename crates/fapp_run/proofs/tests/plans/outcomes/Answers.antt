@@ -1,4 +1,4 @@
-use Rattle.std.proofs.Common.{◌≡◌, ◌≢◌, ◌<◌, get_or, set, All, Some, None, ap, subst, sym, ◌∙◌, arith, length, get_or-set_other}
+use Rattle.std.proofs.Common.{◌≡◌, ◌≢◌, get_or, All, Some, None, ap, subst, sym, ◌∙◌, arith, length, get_or-set_other}
 use Rattle.std.proofs.lemmas.List.{length-set}
 use Rattle.std.proofs.lemmas.List.Elements.{All-set}
 use Rattle.fapp_plan.specs.Outcomes.{IsPlacedFor}
