@@ -2,6 +2,7 @@ ghost use Rattle.std.specs.Prelude.{◌≤◌};
 
 mod arcs;
 mod checks;
+mod plans;
 mod tables;
 
 use super::*;

@@ -1,0 +1,6 @@
+use Rattle.fapp_plan.specs.Outcomes.{refuted_at}
+use Rattle.fapp_plan.proofs.collected.Collected.refuted_at.Goals as goal
+
+pub returns : goal.returns
+unfolding refuted_at
+returns c = rw (c.outcomes.ensures, c.levels.ensures.levels, c.instance.ensures.value) at c.greatest_tag.ensures

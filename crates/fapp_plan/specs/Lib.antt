@@ -1,0 +1,6 @@
+pub mod Steps
+pub mod Plans
+pub mod Sorting
+pub mod Outcomes
+pub mod VerdictRule
+pub mod Laws

@@ -1,0 +1,145 @@
+// The verdict that follows from what became of the jobs.
+ghost use Rattle.std.specs.Prelude.{◌≡◌, ◌*◌, ◌+◌, ◌<◌, ◌≤◌, max, min, length, map, slice_range, All, IsTrue, IfOk};
+ghost use Rattle.fapp_model.specs.InstanceTags.{IsTagFor};
+ghost use Rattle.fapp_model.specs.Levels.{levels_of};
+ghost use Rattle.fapp_model.specs.Tags.{triple_from};
+ghost use Rattle.fapp_model.specs.search.Jobs.{job_count, prefixes};
+ghost use Rattle.cert_lines.specs.WellFormed.{IsVerdict, is_shown};
+ghost use Rattle.fapp_plan.specs.Outcomes.{IsPlacedFor, greatest_of, refuted_at, refuted_code, refuted_everywhere};
+ghost use Rattle.fapp_plan.specs.VerdictRule.{IsFirstOpen, IsVerdictOf, open_level, settled};
+
+use crate::collected::Collected;
+use crate::jobs::Plan;
+use crate::sorting::sorted_by_path;
+use cert_lines::Verdict;
+use fapp_model::{Instance, NoMemory, Tag, Triple, levels, triple_of};
+use search_log::Outcome;
+use std::alloc::Global;
+
+/// The greatest tag of the Refuted ones among some outcomes, or (0, 0, 0).
+fn greatest_tag(outcomes: &[Option<(u32, Outcome)>]) -> Tag
+    ensures { result.code ≡ greatest_of (map refuted_code outcomes.now) }
+{
+    let mut greatest = Tag { code: 0 };
+    for outcome in outcomes {
+        greatest = greater(greatest, refuted_tag(outcome));
+    }
+    greatest
+}
+
+/// The tag of an outcome where it is Refuted, else (0, 0, 0).
+fn refuted_tag(outcome: &Option<(u32, Outcome)>) -> Tag
+    ensures { result.code ≡ refuted_code outcome.now }
+{
+    match outcome {
+        Some((_, Outcome::Refuted { tag, .. })) => *tag,
+        _ => Tag { code: 0 },
+    }
+}
+
+/// The greater of two tags.
+fn greater(t: Tag, u: Tag) -> Tag
+    ensures { result.code ≡ max t.code u.code }
+{
+    if t.code < u.code { u } else { t }
+}
+
+/// The lesser of two tags.
+fn lesser(t: Tag, u: Tag) -> Tag
+    ensures { result.code ≡ min t.code u.code }
+{
+    if t.code < u.code { t } else { u }
+}
+
+/// The verdict on a bound that nothing costs less than.
+fn settled(instance: &Instance, best: Triple) -> Verdict
+    ensures { result ≡ settled instance.now best }
+{
+    if best.k == levels(instance) + 1 {
+        Verdict::NoneFeasible
+    } else {
+        Verdict::Best(best)
+    }
+}
+
+/// The level of a bound, or the last level where the bound is the top.
+fn open_level(instance: &Instance, best: Triple) -> u32
+    ensures { result ≡ open_level instance.now best }
+{
+    let last = levels(instance);
+    if best.k == last + 1 { last } else { best.k }
+}
+
+impl Collected {
+    /// The greatest tag at which a prefix is refuted, or (0, 0, 0).
+    pub fn refuted_at(&self, plan: &Plan, place: u32) -> Tag
+        requires planned { length self.now ≡ job_count plan.now.instance plan.now.split }
+        requires place { place < length (prefixes plan.now.instance plan.now.split) }
+        ensures { result.code ≡ refuted_at plan.now.instance self.now place }
+    {
+        let jobs = levels(plan.instance()) as usize + 1;
+        let first = place as usize * jobs;
+        greatest_tag(&self.outcomes()[first..first + jobs])
+    }
+
+    /// The least of these over all prefixes.
+    fn refuted_everywhere(&self, plan: &Plan) -> Tag
+        requires { length self.now ≡ job_count plan.now.instance plan.now.split }
+        ensures { result.code ≡ refuted_everywhere plan.now.instance plan.now.split self.now }
+    {
+        let count = plan.prefix_count();
+        let mut least = self.refuted_at(plan, 0);
+        for place in 1..count {
+            least = lesser(least, self.refuted_at(plan, place));
+        }
+        least
+    }
+
+    /// The first prefix that is refuted below a tag only.
+    fn first_open(&self, plan: &Plan, word: Tag) -> u32
+        requires planned { length self.now ≡ job_count plan.now.instance plan.now.split }
+        requires open { refuted_everywhere plan.now.instance plan.now.split self.now < word.code }
+        ensures { IsFirstOpen plan.now.instance plan.now.split self.now word.code result }
+    {
+        for place in 0..plan.prefix_count() {
+            if self.refuted_at(plan, place) < word {
+                return place;
+            }
+        }
+        unreachable!()
+    }
+
+    /// The verdict that follows from all outcomes, the last bound, and a tag that no assignment costs less than.
+    ///
+    /// With r the greater of that tag and the least, over the prefixes, of the greatest tag at which the prefix is
+    /// refuted: none feasible where the bound and r are (`levels + 1`, 0, 0), best where the bound is below and r is
+    /// at least it, and else open, with the first prefix that is refuted below the bound only.
+    pub fn verdict(
+        &self,
+        alloc: Global,
+        plan: &Plan,
+        word: Tag,
+        arcs: Tag,
+    ) -> Result<Verdict, NoMemory>
+        requires planned { length self.now ≡ job_count plan.now.instance plan.now.split }
+        requires outcomes { All (IsPlacedFor plan.now.instance) self.now }
+        requires word { IsTrue (is_shown (levels_of plan.now.instance) (triple_from word.code)) }
+        requires arcs { IsTagFor plan.now.instance arcs }
+        ensures rule { IfOk result (IsVerdictOf plan.now.instance plan.now.split self.now word.code arcs.code) }
+        ensures formed { IfOk result (IsVerdict plan.now.instance) }
+    {
+        let best = triple_of(word);
+        let lower = greater(arcs, self.refuted_everywhere(plan));
+        if lower.code >= word.code {
+            return Ok(settled(plan.instance(), best));
+        }
+        let place = self.first_open(plan, word);
+        let prefix = plan.prefix(alloc, place)?;
+        Ok(Verdict::Open {
+            best,
+            lower,
+            level: open_level(plan.instance(), best),
+            prefix: sorted_by_path(alloc, prefix.as_slice())?,
+        })
+    }
+}
