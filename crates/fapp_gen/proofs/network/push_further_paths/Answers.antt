@@ -1,0 +1,9 @@
+use Rattle.std.proofs.Common.{◌+◌, ◌-◌, arith}
+use Rattle.fapp_gen.specs.Generated.{path_line}
+use Rattle.fapp_gen.proofs.Texts.{line_more}
+use Rattle.fapp_gen.proofs.network.push_further_paths.Goals as goal
+
+pub loop-path-preserved : goal.loop-path-preserved
+loop-path-preserved c =
+    let path = c.loop-path.path in
+    line_more (λ path. path_line path 2) 3 (path - 3) path (path + 1 - 3) c.args.out.now.items c.loop-path.out.items c.push_path.new.out.items (omega (arith, c.loop-path.auto.path)) (omega (arith, c.loop-path.auto.path)) c.loop-path.invariant c.in_ok-push_path.ensures
