@@ -1,0 +1,10 @@
+pub mod BuiltProgram
+pub mod SolveWalk
+pub mod SolveRows
+pub mod SolveFaults
+pub mod SolveLevel
+pub mod SolveValues
+pub mod FormLemmas
+pub mod ReadingLemmas
+pub mod MakerLevel
+pub mod RequestLemmas

@@ -1,0 +1,4 @@
+pub mod Commands
+pub mod Solving
+pub mod Options
+pub mod Promises

@@ -1,0 +1,16 @@
+//! The words of a command line, and what they ask for.
+#![tactic(auto)]
+
+mod commands;
+mod forms;
+mod options;
+mod reading;
+mod request;
+
+pub use fapp_text::NoMemory;
+pub use options::SolveOptions;
+pub use reading::read_words;
+pub use request::{Request, Seed};
+
+#[cfg(test)]
+mod tests;

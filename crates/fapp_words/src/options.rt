@@ -1,0 +1,68 @@
+//! The options of a command and their ranges.
+
+ghost use Rattle.std.specs.Prelude.{◌≡◌, option_map};
+ghost use Rattle.fapp_words.specs.Options.{ranged, options_in, seed_in};
+
+use crate::request::Seed;
+use fapp_text::number;
+
+/// How `solve` is to work.
+#[derive(Clone, Copy, Debug, PartialEq, Eq)]
+pub struct SolveOptions {
+    /// The threads that search side by side, 1 to 32.
+    pub workers: u32,
+    /// The ticks of a job, 0 to 1,000,000. `None` where no fuel is named.
+    pub fuel: Option<u32>,
+    /// The most prefixes that the search is split into, 1 to 4,096.
+    pub split: u32,
+    /// The rows of the pool of nogoods, 0 to 65,536.
+    pub pool: u32,
+    /// Whether the plan is written alone.
+    pub answer_only: bool,
+}
+
+/// The options for their values, where each number is in its range.
+pub(crate) fn options_in(
+    workers: Option<&str>,
+    fuel: Option<&str>,
+    split: Option<&str>,
+    pool: Option<&str>,
+    answer_only: bool,
+) -> Option<SolveOptions>
+    ensures { result ≡ options_in (option_map (λ s. s.now) workers.entry) (option_map (λ s. s.now) fuel.entry)
+        (option_map (λ s. s.now) split.entry) (option_map (λ s. s.now) pool.entry) answer_only }
+{
+    let workers = ranged(1, 32, workers)?;
+    let fuel = ranged(0, 1_000_000, fuel)?;
+    let split = ranged(1, 4096, split)?;
+    let pool = ranged(0, 65_536, pool)?;
+    Some(SolveOptions {
+        workers: workers.unwrap_or(4),
+        fuel,
+        split: split.unwrap_or(64),
+        pool: pool.unwrap_or(4096),
+        answer_only,
+    })
+}
+
+/// What a network is made from, for its two values, where each is in its range.
+pub(crate) fn seed_in(number: Option<&str>, paths: Option<&str>) -> Option<Seed>
+    ensures { result ≡ seed_in (option_map (λ s. s.now) number.entry) (option_map (λ s. s.now) paths.entry) }
+{
+    let number = ranged(0, 1_000_000_000, number)??;
+    let paths = ranged(2, 2000, paths)??;
+    Some(Seed { number, paths })
+}
+
+/// A number, where it is written; nothing where it is out of its range.
+fn ranged(low: u32, high: u32, text: Option<&str>) -> Option<Option<u32>>
+    ensures { result ≡ ranged low high (option_map (λ s. s.now) text.entry) }
+{
+    let Some(text) = text else {
+        return Some(None);
+    };
+    match number(text.as_bytes()) {
+        Ok(n) if low <= n && n <= high => Some(Some(n)),
+        _ => None,
+    }
+}
