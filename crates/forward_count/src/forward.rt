@@ -119,6 +119,13 @@ impl<'a> Forward<'a> {
         &self.partial
     }
 
+    /// Whether a path has a literal.
+    pub fn is_set(&self, path: u16) -> bool
+        ensures { result ≡ names self.now.pushed path }
+    {
+        self.partial.get(path).is_some()
+    }
+
     /// Counts at a level from now on. It costs a turn over all choices, and as much as to push each literal again.
     pub fn keep_level(&mut self, level: u32)
         requires { level ≤ levels_of self.old.instance }
