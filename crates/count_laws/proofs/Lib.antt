@@ -1,0 +1,14 @@
+pub mod Clash
+pub mod OneMore
+pub mod Coded
+pub mod OpenSums
+pub mod Bounds
+pub mod RowMoves
+pub mod Least
+pub mod Slots
+pub mod Remaining
+pub mod Calm
+pub mod DeadByBound
+pub mod KeptLaws
+pub mod BySlots
+pub mod CalmPaths

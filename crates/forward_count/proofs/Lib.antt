@@ -1,0 +1,9 @@
+mod PairWords
+mod RowLaws
+mod Neighbours
+mod Added
+mod StepLaws
+mod TakeLaws
+mod ReadLaws
+mod AfreshLaws
+mod DeadLaws

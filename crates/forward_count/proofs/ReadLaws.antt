@@ -1,0 +1,93 @@
+-- What a Forward's words say of its literals.
+use Rattle.std.proofs.Common.{◌≡◌, ◌↔◌, ℕ, ◌+◌, ◌*◌, ◌/◌, ◌%◌, ◌<◌, ◌≤◌, Bool, ltb, Option, Some, None, List, length, sym, ap, ◌∙◌, subst, arith, IsTrue}
+use Rattle.std.proofs.lemmas.Bool.{lt-ltb, ltb-true}
+use Rattle.std.proofs.lemmas.Nat.{div-mul-add}
+use Rattle.fapp_model.specs.declared.instance.Instance.{Instance}
+use Rattle.fapp_model.specs.declared.literal.Literal.{Literal}
+use Rattle.fapp_model.specs.Assignments.{count_at}
+use Rattle.fapp_model.specs.search.Partials.{literal, names}
+use Rattle.fapp_model.specs.search.Weights.{added, added_pair, inside}
+use Rattle.fapp_tables.specs.Measures.{coded_part, pair_code}
+use Rattle.count_laws.specs.declared.rows.Row.{Row}
+use Rattle.count_laws.specs.declared.rows.TheConstants.{HARD}
+use Rattle.count_laws.specs.declared.totals.Totals.{Totals}
+use Rattle.count_laws.specs.Counts.{word_of, words_of}
+use Rattle.count_laws.specs.CountedSums.{IsBound, IsCalm, IsLeastSum, RemainsAt}
+use Rattle.count_laws.specs.ForwardStates.{ForwardState}
+use Rattle.count_laws.specs.Totals.{AreRows}
+use Rattle.count_laws.specs.Words.{least_of, row_at, word_at}
+use Rattle.count_laws.proofs.Coded.{added_code}
+use Rattle.count_laws.proofs.DeadByBound.{level_few}
+use Rattle.count_laws.proofs.Remaining.{least-found, none-left, remains-word, word-low, word-remains}
+use Rattle.count_laws.proofs.RowMoves.{row_is, rows_are, word_is}
+use Rattle.forward_count.specs.Forwards.{IsForward}
+use Rattle.forward_count.specs.Starts.{AreShaped}
+use Rattle.forward_count.proofs.StepLaws.{forward_rows}
+
+module _ (instance : Instance) (level : ℕ) (pushed : List Literal) (slots : List (Option ℕ)) (rows : List Row) (totals : Totals) (room : ℕ) (f : IsForward instance level pushed slots rows totals room) where
+  within : level ≤ 11
+  within = level_few instance level f.low
+
+  abbrev state : ForwardState
+  state = record { instance = instance; level = level; pushed = pushed }
+
+  pub shaped : AreShaped instance rows (length instance.paths)
+  shaped = let are = forward_rows instance level pushed slots rows totals room f in record { count = are.count; words = are.words }
+
+  word_read : (path choice : ℕ) → path < length instance.paths → choice < count_at instance path → word_at (row_at rows path).words choice ≡ word_of instance level f.kept.arc pushed (literal path choice)
+  word_read path choice below small = ap (λ (rs : List Row). word_at (row_at rs path).words choice) f.kept.counted.rows_are ∙ word_is instance level f.kept.arc pushed path choice below small
+
+  least_read : (path : ℕ) → path < length instance.paths → (row_at rows path).least ≡ least_of (words_of instance level f.kept.arc pushed path)
+  least_read path below = ap (λ (rs : List Row). (row_at rs path).least) f.kept.counted.rows_are ∙ ap (λ (r : Row). r.least) (row_is instance level f.kept.arc pushed path below)
+
+  -- ---- by the state that callers see
+
+  module _ (st : ForwardState) (e : record { instance = instance; level = level; pushed = pushed } ≡ st) where
+    pub row_there : (path : ℕ) → path < length st.instance.paths → path < length rows
+    row_there path below =
+        let here : path < length instance.paths = subst (λ (s : ForwardState). path < length s.instance.paths) (sym e) below in
+        omega (arith, here, shaped.count)
+
+    pub word_there : (path choice : ℕ) → path < length st.instance.paths → choice < count_at st.instance path → choice < length (row_at rows path).words
+    word_there path choice below small =
+        let here : path < length instance.paths = subst (λ (s : ForwardState). path < length s.instance.paths) (sym e) below in
+        let few : choice < count_at instance path = subst (λ (s : ForwardState). choice < count_at s.instance path) (sym e) small in
+        omega (arith, few, shaped.words path here)
+
+    pub remains_read : (path choice : ℕ) → path < length st.instance.paths → choice < count_at st.instance path → (w : ℕ) → w ≡ word_at (row_at rows path).words choice →
+        IsTrue (ltb w HARD) ↔ RemainsAt st.instance st.level st.pushed (literal path choice)
+    remains_read path choice below small w is =
+        let here : path < length instance.paths = subst (λ (s : ForwardState). path < length s.instance.paths) (sym e) below in
+        let few : choice < count_at instance path = subst (λ (s : ForwardState). choice < count_at s.instance path) (sym e) small in
+        let word : w ≡ word_of instance level f.kept.arc pushed (literal path choice) = is ∙ word_read path choice here few in (
+          λ low. subst (λ (s : ForwardState). RemainsAt s.instance s.level s.pushed (literal path choice)) e
+              (word-remains instance level f.kept.arc f.kept.arcs f.valid within pushed f.partial (literal path choice) (omega (arith, word, ltb-true w HARD low))),
+          λ r. lt-ltb w HARD (omega (
+            arith,
+            word,
+            remains-word instance level f.kept.arc f.kept.arcs f.valid within pushed f.partial (literal path choice)
+                (subst (λ (s : ForwardState). RemainsAt s.instance s.level s.pushed (literal path choice)) (sym e) r),
+          )),
+        )
+
+    pub sum_read : (path choice : ℕ) → path < length st.instance.paths → choice < count_at st.instance path → (w : ℕ) → w ≡ word_at (row_at rows path).words choice →
+        w % HARD ≡ pair_code (added_pair st.instance st.level st.pushed (literal path choice))
+    sum_read path choice below small w is =
+        let here : path < length instance.paths = subst (λ (s : ForwardState). path < length s.instance.paths) (sym e) below in
+        let few : choice < count_at instance path = subst (λ (s : ForwardState). choice < count_at s.instance path) (sym e) small in
+        ap (λ x. x % HARD) (is ∙ word_read path choice here few) ∙ (word-low instance level f.kept.arc f.kept.arcs f.valid within pushed f.partial (literal path choice)
+        ∙ (added_code instance level pushed (literal path choice) ∙ ap (λ (s : ForwardState). pair_code (added_pair s.instance s.level s.pushed (literal path choice))) e))
+
+    pub least_some : (path : ℕ) → path < length st.instance.paths → (n : ℕ) → n ≡ (row_at rows path).least → n < HARD → IsLeastSum st.instance st.level st.pushed path (Some n)
+    least_some path below n is low =
+        let here : path < length instance.paths = subst (λ (s : ForwardState). path < length s.instance.paths) (sym e) below in
+        let least : n ≡ least_of (words_of instance level f.kept.arc pushed path) = is ∙ least_read path here in
+        let found = least-found instance level f.kept.arc f.kept.arcs f.valid within pushed f.partial path (omega (arith, least, low)) in
+        subst (λ (s : ForwardState). IsLeastSum s.instance s.level s.pushed path (Some n)) e (found.0, found.1, least ∙ found.2)
+
+    pub least_none : (path : ℕ) → path < length st.instance.paths → (n : ℕ) → n ≡ (row_at rows path).least → HARD ≤ n → IsLeastSum st.instance st.level st.pushed path None
+    least_none path below n is high =
+        let here : path < length instance.paths = subst (λ (s : ForwardState). path < length s.instance.paths) (sym e) below in
+        let least : n ≡ least_of (words_of instance level f.kept.arc pushed path) = is ∙ least_read path here in
+        subst (λ (s : ForwardState). IsLeastSum s.instance s.level s.pushed path None) e
+        (none-left instance level f.kept.arc f.kept.arcs f.valid within pushed f.partial path (omega (arith, least, high)))

@@ -1,0 +1,12 @@
+use Rattle.std.proofs.Common.{◌≡◌, Bool, map}
+use Rattle.std.specs.List.{range_with_len}
+use Rattle.dead_laws.specs.ArcLaws.{IsArcs}
+use Rattle.fapp_model.specs.declared.literal.Literal.{Literal}
+use Rattle.fapp_model.specs.search.Partials.{literal}
+use Rattle.count_laws.specs.Counts.{word_of}
+use Rattle.count_laws.specs.Words.{least_of}
+use Rattle.forward_count.proofs.afresh.Afresh.least.Given as goal
+
+abbrev pub invariant-loop-choice : goal.invariant-loop-choice
+invariant-loop-choice l = (arc : Literal → Bool) → IsArcs l.self.instance l.self.level arc →
+    l.least ≡ least_of (map (λ k. word_of l.self.instance l.self.level arc l.self.pushed (literal l.path k)) (range_with_len 0 l.choice))

@@ -1,0 +1,10 @@
+use Rattle.std.proofs.Common.{◌≡◌, sum_by, take}
+use Rattle.count_laws.specs.Words.{least_part, stuck_part}
+use Rattle.count_laws.specs.declared.rows.Row.{Row}
+use Rattle.forward_count.proofs.start.open_of.Given as goal
+
+abbrev pub invariant-loop-row : goal.invariant-loop-row
+invariant-loop-row l = record {
+  stuck : l.open_paths.stuck ≡ sum_by (λ (row : Row). stuck_part row.least) (take l.row-index l.rows);
+  least : l.open_paths.least ≡ sum_by (λ (row : Row). least_part row.least) (take l.row-index l.rows);
+}

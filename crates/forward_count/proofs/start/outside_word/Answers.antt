@@ -1,0 +1,16 @@
+use Rattle.std.proofs.Common.{◌≡◌, ◌∙◌, [], sym, ap, subst, arith, Bool, true, false, IsTrue}
+use Rattle.std.proofs.lemmas.Bool.{both_ways}
+use Rattle.fapp_model.specs.search.Partials.{literal}
+use Rattle.count_laws.specs.declared.rows.TheConstants.{HARD}
+use Rattle.count_laws.proofs.Remaining.{away, kept-inside, outside-away}
+use Rattle.forward_count.proofs.start.outside_word.Goals as goal
+
+pub returns-then-is_outside-clause-word : goal.returns-then-is_outside-clause-word
+returns-then-is_outside-clause-word c arc arcs =
+    let out = c.is_outside.ensures.0 c.if-is_outside.true in
+    omega (arith, ap away (outside-away c.args.arcs.now c.args.level arc arcs (literal c.args.path c.args.choice) out))
+
+pub returns-else-is_outside-clause-word : goal.returns-else-is_outside-clause-word
+returns-else-is_outside-clause-word c arc arcs =
+    let kept = kept-inside c.args.arcs.now c.args.level arc arcs (literal c.args.path c.args.choice) (λ out. both_ways c.is_outside.result c.if-is_outside.false (c.is_outside.ensures.1 out)) in
+    omega (arith, ap away kept)

@@ -1,0 +1,46 @@
+use Rattle.std.proofs.Common.{◌≡◌, ◌⊎◌, ◌+◌, ◌<◌, ◌≤◌, ◌∙◌, [], ℕ, Bool, List, ap, get_or, inl, inr, length, map, refl, set, subst, sym, take, arith}
+use Rattle.std.specs.List.{range_with_len}
+use Rattle.std.proofs.lemmas.Bool.{cases_eq, cases_lt}
+use Rattle.std.proofs.lemmas.List.{get_or-set_other, get_or-set_same, length-set}
+use Rattle.std.proofs.lemmas.List.FromFn.{fill_by_all}
+use Rattle.dead_laws.specs.ArcLaws.{IsArcs}
+use Rattle.fapp_model.specs.declared.instance.Instance.{Instance}
+use Rattle.fapp_model.specs.declared.literal.Literal.{Literal}
+use Rattle.fapp_model.specs.Assignments.{count_at}
+use Rattle.fapp_model.specs.search.Partials.{literal}
+use Rattle.count_laws.specs.Counts.{word_of, words_of}
+use Rattle.count_laws.specs.Words.{least_of, word_at}
+use Rattle.count_laws.proofs.Least.{least_none}
+use Rattle.forward_count.proofs.RowLaws.{least_all, least_write, row_made}
+use Rattle.forward_count.proofs.start.reset_row.Goals as goal
+
+pub loop-choice-init : goal.loop-choice-init
+loop-choice-init c = record { count = refl; done = λ k below. absurd (omega (arith, below)); least = sym least_none }
+
+below_other : (k index : ℕ) → k < index + 1 → (k ≡ index → ⊥) → k < index
+below_other k index below other = elim (cases_lt k index) [ inl less ↦ less | inr more ↦ absurd (other (omega arith)) ]
+
+pub loop-choice-preserved : goal.loop-choice-preserved
+loop-choice-preserved c =
+    let index = c.loop-choice.choice in
+    let words = c.loop-choice.row.words in
+    let word = c.outside_word-word.result in
+    let same : c.set.new.self ≡ set words index word = c.set.ensures in
+    let inside : index < length words = omega (arith, c.loop-choice.invariant.count, c.requires.count, c.count-choice-end.ensures.count, c.loop-choice-test.true) in
+    record {
+      count = ap length same ∙ (length-set words index word ∙ c.loop-choice.invariant.count);
+      done = λ k below arc arcs. ap (λ (ws : List ℕ). word_at ws k) same ∙ elim (cases_eq k index) [
+        | inl e ↦ ap (word_at (set words index word)) e ∙ (get_or-set_same words index word 0 inside ∙ (subst (λ (i : Instance). IsArcs i c.args.level arc → word ≡ word_of i c.args.level arc [] (literal c.args.path index)) c.requires.same (c.outside_word-word.ensures.word arc) arcs ∙ ap (λ j. word_of c.args.instance.now c.args.level arc [] (literal c.args.path j)) (sym e)))
+        | inr other ↦ get_or-set_other words index k word 0 other ∙ c.loop-choice.invariant.done k (below_other k index below other) arc arcs
+      ];
+      least = subst (λ (ws : List ℕ). c.min-least.result ≡ least_of (take (index + 1) ws)) (sym same) (least_write words index word c.loop-choice.least _ inside c.loop-choice.invariant.least c.min-least.ensures);
+    }
+
+pub returns : goal.returns
+returns c arc arcs =
+    let words = c.loop-choice.row.words in
+    let instance = c.args.instance.now in
+    let past : length words ≤ c.loop-choice.choice = omega (arith, c.loop-choice.invariant.count, c.requires.count, c.count-choice-end.ensures.count, c.loop-choice-test.false) in
+    let made : words ≡ words_of instance c.args.level arc [] c.args.path = fill_by_all (λ k. word_of instance c.args.level arc [] (literal c.args.path k)) words (count_at instance c.args.path) 0 (c.loop-choice.invariant.count ∙ c.requires.count)
+    (λ k below. c.loop-choice.invariant.done k (omega (arith, below, past, c.loop-choice.invariant.count, c.requires.count)) arc arcs) in
+    row_made words (words_of instance c.args.level arc [] c.args.path) c.loop-choice.least made (least_all words _ c.loop-choice.choice c.loop-choice.least past c.loop-choice.invariant.least made)

@@ -1,0 +1,14 @@
+use Rattle.std.proofs.Common.{◌≡◌, ◌<◌, [], ℕ, Bool, length, take}
+use Rattle.dead_laws.specs.ArcLaws.{IsArcs}
+use Rattle.fapp_model.specs.declared.literal.Literal.{Literal}
+use Rattle.fapp_model.specs.search.Partials.{literal}
+use Rattle.count_laws.specs.Counts.{word_of}
+use Rattle.count_laws.specs.Words.{least_of, word_at}
+use Rattle.forward_count.proofs.start.reset_row.Given as goal
+
+abbrev pub invariant-loop-choice : goal.invariant-loop-choice
+invariant-loop-choice l = record {
+  count : length l.row.words ≡ length l.fn.row.words;
+  done : (k : ℕ) → k < l.choice → (arc : Literal → Bool) → IsArcs l.instance l.level arc → word_at l.row.words k ≡ word_of l.instance l.level arc [] (literal l.path k);
+  least : l.least ≡ least_of (take l.choice l.row.words);
+}

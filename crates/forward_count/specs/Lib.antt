@@ -1,0 +1,4 @@
+pub mod Forwards
+pub mod Steps
+pub mod Starts
+pub mod Standing

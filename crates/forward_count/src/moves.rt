@@ -1,0 +1,90 @@
+ghost use Rattle.std.specs.Prelude.{◌≡◌, ◌≢◌, ◌≤◌, ◌<◌, length, slice_set};
+ghost use Rattle.count_laws.specs.Moves.{CanMoveAll, CanMoveRow, rows_with, words_with};
+ghost use Rattle.count_laws.specs.Totals.{AreRows, IsOpen};
+ghost use Rattle.count_laws.specs.Words.{row_at, row_by};
+ghost use Rattle.fapp_model.specs.Assignments.{count_at};
+ghost use Rattle.fapp_model.specs.Instances.{IsInstance};
+ghost use Rattle.fapp_tables.specs.Indexes.{records_of};
+
+use crate::rows::move_row;
+use crate::step::Step;
+use count_laws::{Open, Row};
+use nogood::Partial;
+
+/// A row's least word before a change and after it.
+#[derive(Clone, Copy, Debug)]
+struct Change {
+    before: u64,
+    after: u64,
+}
+
+/// Changes the row of a neighbour by what a literal counts there.
+fn move_at(step: &Step, other: u16, positions: &[u32], rows: &mut [Row]) -> Change
+    requires apart { step.now.literal.path ≢ other }
+    requires other { other < length step.now.tables.now.paths }
+    requires positions { positions.now ≡ records_of step.now.tables.now step.now.literal.path other }
+    requires rows { length rows.old ≡ length step.now.tables.now.paths }
+    requires count { length (row_at rows.old other).words ≡ count_at step.now.tables.now other }
+    requires can { CanMoveRow step.now.taking step.now.tables.now step.now.level step.now.literal other (row_at rows.old other).words }
+    ensures rows { rows.new ≡ slice_set rows.old other
+        (row_by (words_with step.now.taking step.now.tables.now step.now.level step.now.literal other (row_at rows.old other).words)) }
+    ensures before { result.before ≡ (row_at rows.old other).least }
+    ensures after { result.after ≡ (row_at rows.new other).least }
+{
+    let row = &mut rows[other as usize];
+    let before = row.least;
+    move_row(step, row, positions, other);
+    Change {
+        before,
+        after: row.least,
+    }
+}
+
+/// Changes the row of a neighbour by what a literal counts there, and answers what is counted for the open paths then.
+fn refresh(
+    step: &Step,
+    other: u16,
+    positions: &[u32],
+    rows: &mut [Row],
+    partial: &Partial,
+    open_paths: Open,
+) -> Open
+    requires apart { step.now.literal.path ≢ other }
+    requires other { other < length step.now.tables.now.paths }
+    requires positions { positions.now ≡ records_of step.now.tables.now step.now.literal.path other }
+    requires rows { length rows.old ≡ length step.now.tables.now.paths }
+    requires slots { length partial.now ≡ length step.now.tables.now.paths }
+    requires count { length (row_at rows.old other).words ≡ count_at step.now.tables.now other }
+    requires can { CanMoveRow step.now.taking step.now.tables.now step.now.level step.now.literal other (row_at rows.old other).words }
+    requires open { IsOpen partial.now rows.old open_paths }
+    ensures rows { rows.new ≡ slice_set rows.old other
+        (row_by (words_with step.now.taking step.now.tables.now step.now.level step.now.literal other (row_at rows.old other).words)) }
+    ensures open { IsOpen partial.now rows.new result }
+{
+    let change = move_at(step, other, positions, rows);
+    if partial.get(other).is_some() {
+        return open_paths;
+    }
+    open_paths.without(change.before).with(change.after)
+}
+
+/// Changes the rows of all neighbours by what a literal counts there, and answers what is counted for the open paths
+/// then.
+pub fn move_all(step: &Step, rows: &mut [Row], partial: &Partial, open_paths: Open) -> Open
+    requires instance { IsInstance step.now.tables.now }
+    requires rows { AreRows step.now.tables.now rows.old }
+    requires slots { length partial.now ≡ length step.now.tables.now.paths }
+    requires can { CanMoveAll step.now.taking step.now.tables.now step.now.level step.now.literal rows.old }
+    requires open { IsOpen partial.now rows.old open_paths }
+    ensures rows { rows.new ≡ rows_with step.now.taking step.now.tables.now step.now.level step.now.literal rows.old }
+    ensures open { IsOpen partial.now rows.new result }
+{
+    let path = step.literal.path;
+    let neighbours = step.tables.neighbours(path);
+    let mut counted = open_paths;
+    for place in 0..neighbours.len() {
+        let positions = step.tables.records_at(path, place);
+        counted = refresh(step, neighbours[place], positions, rows, partial, counted);
+    }
+    counted
+}

@@ -1,0 +1,106 @@
+ghost use Rattle.std.specs.Prelude.{◌≡◌, ◌≢◌, ◌≤◌, ◌<◌, ◌^◌, length};
+ghost use Rattle.count_laws.specs.Counts.{pair_word};
+ghost use Rattle.fapp_model.specs.declared.level.TheConstants.{MAX_LEVELS};
+ghost use Rattle.fapp_model.specs.declared.limits.TheConstants.{MAX_PATHS};
+ghost use Rattle.fapp_model.specs.Assignments.{count_at, path_at};
+ghost use Rattle.fapp_model.specs.Instances.{IsInstance, IsPath};
+ghost use Rattle.fapp_model.specs.search.Partials.{IsLiteral, choice_of, literal};
+ghost use Rattle.fapp_tables.specs.Indexes.{records_of};
+
+use count_laws::HARD;
+use fapp_model::{Choice, Instance, Literal, Path, choice_at, choice_count};
+use fapp_tables::{Tables, pair_counts};
+
+/// A literal that is pushed or taken back, with the choice that it stands for, and the level that counts are of.
+#[derive(Clone, Copy, Debug)]
+pub struct Step<'a> {
+    pub tables: &'a Tables<'a>,
+    pub level: u32,
+    /// Whether it is taken back.
+    pub taking: bool,
+    pub literal: Literal,
+    pub choice: Choice,
+    ghost few: { length tables.now.paths ≤ MAX_PATHS },
+    ghost low: { level ≤ MAX_LEVELS },
+    ghost home: { IsLiteral tables.now literal },
+    ghost chosen: { choice ≡ choice_of tables.now literal },
+}
+
+/// The path at a position.
+pub fn path_at(instance: &Instance, position: u16) -> &Path
+    requires instance { IsInstance instance.now }
+    requires position { position < length instance.now.paths }
+    ensures path { result.now ≡ path_at instance.now position }
+    ensures valid { IsPath result.now }
+{
+    &instance.paths.as_slice()[position as usize]
+}
+
+/// How many choices a path has.
+pub fn count(instance: &Instance, path: u16) -> u32
+    requires instance { IsInstance instance.now }
+    requires path { path < length instance.now.paths }
+    ensures count { result ≡ count_at instance.now path }
+    ensures few { result ≤ 65536 }
+{
+    choice_count(path_at(instance, path))
+}
+
+impl<'a> Step<'a> {
+    /// The step of a literal.
+    pub fn new(tables: &'a Tables<'a>, level: u32, taking: bool, literal: Literal) -> Step<'a>
+        requires level { level ≤ MAX_LEVELS }
+        requires literal { IsLiteral tables.now literal }
+        ensures tables { result.tables.now ≡ tables.now }
+        ensures level { result.level ≡ level }
+        ensures taking { result.taking ≡ taking }
+        ensures literal { result.literal ≡ literal }
+    {
+        let path = path_at(tables.instance(), literal.path);
+        let choice = choice_at(path, u32::from(literal.choice));
+        Step {
+            tables,
+            level,
+            taking,
+            literal,
+            choice,
+        }
+    }
+
+    /// How many choices another path has.
+    pub fn count(&self, other: u16) -> u32
+        requires { other < length self.now.tables.now.paths }
+        ensures count { result ≡ count_at self.now.tables.now other }
+        ensures few { result ≤ 65536 }
+    {
+        count(self.tables.instance(), other)
+    }
+
+    /// What the literal counts in the word of a neighbour's choice, by the positions of the records between the two.
+    pub fn pair_word(&self, positions: &[u32], other: u16, index: u32) -> u64
+        requires apart { self.now.literal.path ≢ other }
+        requires other { other < length self.now.tables.now.paths }
+        requires index { index < count_at self.now.tables.now other }
+        requires positions { positions.now ≡ records_of self.now.tables.now self.now.literal.path other }
+        ensures word { result ≡ pair_word self.now.tables.now self.now.level (literal other index) self.now.literal }
+        ensures small { result ≤ 2 ^ 49 }
+    {
+        let instance = self.tables.instance();
+        let path = self.literal.path;
+        let second = choice_at(path_at(instance, other), index);
+        let counts = pair_counts(
+            instance,
+            positions,
+            self.level,
+            path,
+            other,
+            self.choice,
+            second,
+        );
+        if counts.hard > 0 {
+            HARD + counts.sum
+        } else {
+            counts.sum
+        }
+    }
+}
