@@ -1,5 +1,5 @@
 -- Where the last segment ends.
-use Rattle.std.proofs.Common.{◌≡◌, ℕ, zero, suc, ◌+◌, List, [], ◌∷◌, length, Some, arith}
+use Rattle.std.proofs.Common.{◌≡◌, ℕ, zero, suc, ◌+◌, List, [], ◌∷◌, ◌++◌, length, Some, refl, arith}
 use Rattle.std.specs.List.{slice_get}
 use Rattle.log_laws.specs.declared.line.Segment.{Segment}
 use Rattle.log_laws.specs.Segments.{ended}
@@ -10,3 +10,8 @@ ended-at (x ∷ []) s zero e at = cc
 ended-at (x ∷ []) s (suc n) e at = absurd (omega arith)
 ended-at (x ∷ y ∷ more) s zero e at = absurd (omega arith)
 ended-at (x ∷ y ∷ more) s (suc n) e at = ended-at (y ∷ more) s n (omega arith) at
+
+pub ended-push : (segments : List Segment) (s : Segment) → ended (segments ++ s ∷ []) ≡ s.last + 1
+ended-push [] s = refl
+ended-push (x ∷ []) s = refl
+ended-push (x ∷ y ∷ more) s = ended-push (y ∷ more) s

@@ -1,5 +1,5 @@
 // The lines that the jobs of one holder found, in order.
-ghost use Rattle.std.specs.Prelude.{◌≡◌, ◌<◌, length, None, Some, OnErr, OnOk, IfOk, MatchOption};
+ghost use Rattle.std.specs.Prelude.{◌≡◌, ◌<◌, ◌≤◌, length, None, Some, OnErr, OnOk, IfOk, MatchOption};
 ghost use Rattle.log_laws.specs.Segments.{ended};
 ghost use Rattle.search_log.specs.Logs.{KeepsBest, cut_behind, empty_log, with_line, with_segment};
 
@@ -27,14 +27,15 @@ pub struct Log {
 }
 
 impl Model for Log {
-    ghost use Rattle.std.specs.Prelude.{◌<◌, ◌^◌, length};
+    ghost use Rattle.std.specs.Prelude.{◌<◌, ◌≤◌, ◌^◌, length};
+    ghost use Rattle.log_laws.specs.Segments.{ended};
     ghost use Rattle.search_log.specs.LogStates.{LogState};
 
     ghost Value = { LogState };
 
     ghost view = { λ log. record { lines = log.lines.items; segments = log.segments.items; best = log.best } };
 
-    ghost invariant = { λ log. length log.lines.items < 2 ^ 32 };
+    ghost invariant = { λ log. (length log.lines.items < 2 ^ 32) × (ended log.segments.items ≤ length log.lines.items) };
 }
 
 impl Log {
@@ -107,6 +108,14 @@ impl Log {
             Some(best) => Some((best.cost, best.plan.as_slice())),
             None => None,
         }
+    }
+
+    /// How many lines there are. The last segment ends with one of them.
+    pub fn len(&self) -> u32
+        ensures count { result ≡ length self.now.lines }
+        ensures ended { ended self.now.segments ≤ result }
+    {
+        self.lines.len() as u32
     }
 
     /// The lines, in order.

@@ -1,0 +1,275 @@
+-- What is found of some literals when a line is added.
+use Rattle.std.proofs.Common.{◌≡◌, ℕ, ◌+◌, ◌<◌, ◌≤◌, false, List, [], ◌∷◌, ◌++◌, length, All, Contains, Option, Some, None, Result, Ok, Err, refl, sym, ap, subst, ◌∙◌, inl, inr, ⊎_elim, arith}
+use Rattle.std.specs.List.{slice_get}
+use Rattle.std.proofs.lemmas.List.{length-append}
+use Rattle.std.proofs.lemmas.List.Elements.{All-contains, All-nil, Contains-append_left}
+use Rattle.fapp_model.specs.declared.instance.Instance.{Instance}
+use Rattle.fapp_model.specs.declared.literal.Literal.{Literal}
+use Rattle.fapp_model.specs.declared.tag.Tag.{Tag}
+use Rattle.fapp_model.specs.Assignments.{count_at}
+use Rattle.fapp_model.specs.Costs.{cost}
+use Rattle.fapp_model.specs.InstanceTags.{IsTagFor}
+use Rattle.fapp_model.specs.Instances.{IsInstance}
+use Rattle.fapp_model.specs.Levels.{levels_of}
+use Rattle.fapp_model.specs.Tags.{IsTagOf, code_of, triple_from}
+use Rattle.fapp_model.specs.search.Dead.{Dead}
+use Rattle.fapp_model.specs.search.Implied.{Implied}
+use Rattle.fapp_model.specs.search.Partials.{IsPartial, names}
+use Rattle.fapp_model.specs.search.Prefixes.{IsPrefix}
+use Rattle.fapp_model.specs.search.WorkOrder.{work_order}
+use Rattle.fapp_model.proofs.Members.{All-from_members}
+use Rattle.dead_laws.proofs.DeadImplied.{dead-implied}
+use Rattle.dead_laws.proofs.ImpliedLemmas.{Implied-branch, Implied-more}
+use Rattle.log_laws.specs.declared.line.ChoiceRef.{ChoiceRef}
+use Rattle.log_laws.specs.declared.line.LogLine.{LogLine}
+use Rattle.log_laws.specs.declared.line.Ref.TheVariants.{Own}
+use Rattle.log_laws.specs.Contents.{KnownRow, content_of}
+use Rattle.log_laws.specs.GoodLines.{IsGoodLine}
+use Rattle.log_laws.specs.Segments.{IsGoodLog}
+use Rattle.log_laws.proofs.Segmenting.{log-push}
+use Rattle.search_log.specs.Bounds.{BoundState, floor}
+use Rattle.search_log.specs.LogStates.{LogState}
+use Rattle.search_log.specs.Logs.{with_line}
+use Rattle.search_log.specs.Shares.{SharedState, known}
+use Rattle.settle_laws.specs.declared.found.Found.{Found}
+use Rattle.settle_laws.specs.declared.found.Found.TheVariants.{Dead as FoundDead, Settled}
+use Rattle.settle_laws.specs.declared.node.Node.{Node}
+use Rattle.settle_laws.specs.Founds.{IsHigh, IsOpen, IsRefuted, NoneWithin, Searched}
+use Rattle.settle_laws.specs.Levels.{level_code}
+use Rattle.settle_laws.specs.Lines.{AddsLine, AreSorted, Concludes, IsConcluded, IsLined, Offered}
+use Rattle.settle_laws.specs.Ticked.{IsTicked}
+use Rattle.settle_laws.specs.Ticks.{Ticks, TicksBelow}
+use Rattle.settle_laws.specs.Trying.{AreTriedChoices, IsChild, Trying}
+use Rattle.settle_laws.specs.Worlds.{IsKeptRight, IsLeastOffered, IsPlain, Keeps, KeepsAtMost, OffersCost, World, world}
+use Rattle.settle_laws.proofs.Adding.{gains-none, gains-one, gains-trans, has-same}
+use Rattle.settle_laws.proofs.FullPrefixes.{cost-implied, cost-own, dead-at-cost}
+use Rattle.settle_laws.proofs.Keeping.{keeps-same, keeps-trans}
+use Rattle.settle_laws.proofs.LineParts.{branch-good, count-good}
+use Rattle.settle_laws.proofs.NextPaths.{next-apart, next-small}
+use Rattle.settle_laws.proofs.Offering.{kept-lines, offered-keeps, offers-falls}
+use Rattle.settle_laws.proofs.TagCodes.{alive-at, tag-small}
+use Rattle.settle_laws.proofs.TickJoin.{all-ticks, first-tick, one-tick}
+use Rattle.settle_laws.proofs.Tried.{tried-grow}
+
+get-last : {X : Type 0} (xs : List X) (y : X) → slice_get (xs ++ y ∷ []) (length xs) ≡ Some y
+get-last [] y = refl
+get-last (x ∷ xs) y = get-last xs y
+
+copied-known : (shared : SharedState) → All (Contains (known shared)) shared.copied
+copied-known shared = All-from_members (Contains (known shared)) shared.copied (λ row m. Contains-append_left shared.copied shared.published row m)
+
+-- ---- the world after a line
+
+-- all that is kept but the number of lines, which a tick pays for
+module _ (instance : Instance) (literals : List Literal) (old now : World) (keeps : Keeps instance literals old now) (line : LogLine) (log : LogState) (added : log ≡ with_line now.log line) where
+  pub line-adds : length log.lines ≡ length now.log.lines + 1
+  line-adds = ap (λ (l : LogState). length l.lines) added ∙ length-append now.log.lines (line ∷ [])
+
+  line-is : slice_get log.lines (length now.log.lines) ≡ Some line
+  line-is = subst (λ (l : LogState). slice_get l.lines (length now.log.lines) ≡ Some line) (sym added) (get-last now.log.lines line)
+
+  line-good : IsGoodLine instance (known now.shared) now.log.lines line → IsGoodLog instance (known now.shared) now.log.lines now.log.segments → IsGoodLog instance (known now.shared) log.lines log.segments
+  line-good good_line good = subst (λ (l : LogState). IsGoodLog instance (known now.shared) l.lines l.segments) (sym added)
+      (log-push instance (known now.shared) now.log.lines now.log.segments line good good_line)
+
+  pub line-keeps : IsPlain line → IsGoodLine instance (known now.shared) now.log.lines line → Keeps instance literals old (world now.fuel now.bound now.shared log)
+  line-keeps plain good_line = record {
+    fuel = keeps.fuel;
+    copied = keeps.copied;
+    published = keeps.published;
+    takes = keeps.takes;
+    refusals = keeps.refusals;
+    lines = gains-trans old.log.lines now.log.lines log.lines keeps.lines (gains-one now.log.lines log.lines line (ap (λ (l : LogState). l.lines) added) plain);
+    segments = ap (λ (l : LogState). l.segments) added ∙ keeps.segments;
+    good = λ good. line-good good_line (keeps.good good);
+    falls = keeps.falls;
+    least = λ h. subst (λ (l : LogState). IsLeastOffered l.best now.bound.least) (sym added) (keeps.least h);
+    right = λ h. subst (λ (l : LogState). IsKeptRight instance l.best) (sym added) (keeps.right h);
+    better = λ tag h. subst (λ (l : LogState). KeepsAtMost l.best tag) (sym added) (keeps.better tag h);
+    offers = ⊎_elim (λ same. inl same)
+        (λ (o : OffersCost instance literals now). inr (record { plan = o.plan; feasible = o.feasible; extends = o.extends; offered = o.offered; kept = subst (λ (l : LogState). KeepsAtMost l.best (code_of (cost instance o.plan))) (sym added) o.kept }))
+        keeps.offers;
+  }
+
+  pub line-refutes : AreSorted instance literals line.lits → Implied instance (triple_from line.tag.code) line.lits → IsTagFor instance line.tag → (tag : ℕ) → tag ≤ line.tag.code → IsRefuted instance now.shared.copied log.lines literals (Own (length now.log.lines)) tag
+  line-refutes sorted implied own tag low = record {
+    content = content_of line;
+    cited = (line, line-is, refl);
+    reaches = low;
+    contained = sorted.only;
+    served = record { lits = sorted.are; implied = implied };
+    own = own;
+  }
+
+  pub line-last : (length old.log.lines ≤ length now.log.lines) × (length now.log.lines + 1 ≡ length log.lines)
+  line-last = (omega (arith, ap length keeps.lines.are, length-append old.log.lines keeps.lines.more), omega (arith, line-adds))
+
+begun-one : (prefix : List Literal) (tried : List (List Literal)) → Contains tried prefix → 0 < length tried
+begun-one prefix tried m = let l = m.1 in omega arith
+
+-- ---- a Branch line after all choices were tried
+
+module _ (instance : Instance) (valid : IsInstance instance) (level : ℕ) (limit : level ≤ levels_of instance) (literals : List Literal) (prefix : IsPrefix instance literals) (partial : IsPartial instance literals) (old now : World) (node : Node) (trying : Trying instance level literals old now node) (done : node.choice ≡ node.count) (log : LogState) where
+  node-own : IsTagFor instance node.tag
+  node-own = tag-small instance level node.tag limit trying.most
+
+  module _ (found : Found) (adds : AddsLine instance literals node.tag (Some node.path) node.refs now.log log found) where
+    tag-same : adds.line.tag.code ≡ node.tag.code
+    tag-same = ap (λ (t : Tag). t.code) adds.tag_is
+
+    all-tried : AreTriedChoices instance now.shared.copied now.log.lines literals node.tag.code node.path (count_at instance node.path) node.refs
+    all-tried = subst (λ n. AreTriedChoices instance now.shared.copied now.log.lines literals node.tag.code node.path n node.refs) (done ∙ trying.counted) trying.choices
+
+    by-known : AreTriedChoices instance (known now.shared) now.log.lines literals node.tag.code node.path (count_at instance node.path) node.refs
+    by-known = tried-grow instance valid literals node.path now.shared.copied (known now.shared) now.log.lines now.log.lines (copied-known now.shared) (gains-none now.log.lines)
+        node.tag.code node.tag.code node-own node-own (omega arith) (count_at instance node.path) node.refs all-tried
+
+    of-line : AreTriedChoices instance (known now.shared) now.log.lines literals adds.line.tag.code node.path (count_at instance node.path) adds.line.refs
+    of-line = subst (λ (t : Tag). AreTriedChoices instance (known now.shared) now.log.lines literals t.code node.path (count_at instance node.path) adds.line.refs) (sym adds.tag_is)
+        (subst (λ refs. AreTriedChoices instance (known now.shared) now.log.lines literals node.tag.code node.path (count_at instance node.path) refs) (sym adds.refs_are) by-known)
+
+    plain : IsPlain adds.line
+    plain none = let e = adds.path_is in cc
+
+    good : IsGoodLine instance (known now.shared) now.log.lines adds.line
+    good = branch-good instance valid literals partial (known now.shared) now.log.lines adds.line adds.sorted
+        (subst (λ (t : Tag). IsTagFor instance t) (sym adds.tag_is) node-own)
+        node.path (next-small instance literals prefix node.path trying.next) (next-apart instance literals prefix node.path trying.next) adds.path_is of-line
+
+    implied : Implied instance (triple_from adds.line.tag.code) adds.line.lits
+    implied = Implied-more instance (triple_from adds.line.tag.code) literals adds.line.lits adds.sorted.has
+        (Implied-branch instance (triple_from adds.line.tag.code) literals node.path (next-small instance literals prefix node.path trying.next) of-line.implied)
+
+    branch-by : {E : Type 0} → Searched {E = E} instance level literals old (world now.fuel now.bound now.shared log) (Ok (Settled (Own (length now.log.lines)) node.tag))
+    branch-by = record {
+      keeps = line-keeps instance literals old now trying.keeps adds.line log adds.added plain good;
+      few = omega (arith, trying.fewer, line-adds instance literals old now trying.keeps adds.line log adds.added);
+      is = (
+        trying.is_open,
+        trying.high,
+        (λ same. absurd (omega (arith, trying.taken, trying.ticks.count_is, begun-one literals trying.ticks.tried trying.ticks.begins))),
+        line-refutes instance literals old now trying.keeps adds.line log adds.added adds.sorted implied (subst (λ (t : Tag). IsTagFor instance t) (sym adds.tag_is) node-own) node.tag.code (omega (arith, tag-same)),
+        line-last instance literals old now trying.keeps adds.line log adds.added,
+      );
+      count = trying.count;
+      ticks = all-ticks instance level literals node.path node.choice trying.count trying.ticks;
+      taken = omega (arith, trying.taken);
+      fresh = λ some. trying.fresh;
+    }
+
+    branch-found : {E : Type 0} → Searched {E = E} instance level literals old (world now.fuel now.bound now.shared log) (Ok found)
+    branch-found {E} = subst (λ f. Searched {E = E} instance level literals old (world now.fuel now.bound now.shared log) (Ok f)) (sym adds.found_is) branch-by
+
+  pub branch-searched : {E : Type 0} → (result : Result Found E) → IsLined instance literals node.tag (Some node.path) node.refs now.log log result → Searched instance level literals old (world now.fuel now.bound now.shared log) result
+  branch-searched (Ok found) adds = branch-found found adds
+  branch-searched (Err e) same = subst (λ l. Searched instance level literals old (world now.fuel now.bound now.shared l) (Err e)) (sym same) (record {
+    keeps = trying.keeps;
+    few = omega (arith, trying.fewer);
+    is = tt;
+    count = trying.count;
+    ticks = all-ticks instance level literals node.path node.choice trying.count trying.ticks;
+    taken = omega (arith, trying.taken);
+    fresh = λ some. trying.fresh;
+  })
+
+-- ---- after a tick
+
+module _ (instance : Instance) (valid : IsInstance instance) (level : ℕ) (within : level ≤ levels_of instance) (literals : List Literal) (prefix : IsPrefix instance literals)
+    (old now : World) (tag : Tag) (ticked : IsTicked instance level literals old now tag) where
+  tick : Ticks instance level literals 1
+  tick = one-tick instance level literals prefix (alive-at instance level tag literals valid within ticked.most ticked.alive)
+
+  few-lines : length now.log.lines ≡ length old.log.lines
+  few-lines = ap (λ (l : LogState). length l.lines) ticked.log
+
+  -- the search ends there for want of memory
+  pub tick-ends : {E : Type 0} → (after : World) → Keeps instance literals now after → after.fuel ≡ now.fuel → after.log.lines ≡ now.log.lines → (e : E) → Searched instance level literals old after (Err e)
+  tick-ends after keeps same lines e = record {
+    keeps = keeps-trans instance literals old now after ticked.keeps keeps;
+    few = omega (arith, ticked.took, few-lines, ap length lines);
+    is = tt;
+    count = 1;
+    ticks = tick;
+    taken = omega (arith, ticked.took);
+    fresh = λ some. ticked.fresh;
+  }
+
+  -- the choices of the next path are tried
+  pub tick-starts : (node : Node) → slice_get (work_order instance) (length literals) ≡ Some node.path → node.count ≡ count_at instance node.path → node.tag ≡ tag → node.choice ≡ 0 → node.refs ≡ [] → Trying instance level literals old now node
+  tick-starts node next counted tag_is choice_is none = record {
+    next = next;
+    counted = counted;
+    within = omega arith;
+    most = subst (λ (t : Tag). t.code ≤ level_code (level + 1)) (sym tag_is) ticked.most;
+    keeps = ticked.keeps;
+    fewer = omega (arith, ticked.took, few-lines);
+    is_open = ticked.is_open;
+    high = subst (λ (t : Tag). IsHigh level now.bound t.code) (sym tag_is) ticked.high;
+    choices = subst (λ n. AreTriedChoices instance now.shared.copied now.log.lines literals node.tag.code node.path n node.refs) (sym choice_is)
+        (subst (λ refs. AreTriedChoices instance now.shared.copied now.log.lines literals node.tag.code node.path 0 refs) (sym none) (record {
+          ascending = λ i j d less small. absurd (omega arith);
+          below = All-nil (λ (ref : ChoiceRef). ref.choice < 0);
+          children = All-nil (IsChild now.shared.copied now.log.lines literals node.tag.code node.path);
+          settled = λ i l. absurd (omega arith);
+          implied = λ i l. absurd (omega arith);
+        }));
+    count = 1;
+    ticks = subst (λ n. TicksBelow instance level literals node.path n 1) (sym choice_is)
+        (first-tick instance level literals node.path prefix (alive-at instance level tag literals valid within ticked.most ticked.alive));
+    taken = omega (arith, ticked.took);
+    fresh = ticked.fresh;
+  }
+
+  -- a full prefix
+  module _ (partial : IsPartial instance literals) (full : length (work_order instance) ≤ length literals) (after : BoundState) (log : LogState) where
+    module _ (found : Found) (c : Concludes instance literals now.bound after now.log log found) where
+      to-kept : Keeps instance literals old (world now.fuel after now.shared c.kept)
+      to-kept = keeps-trans instance literals old now (world now.fuel after now.shared c.kept) ticked.keeps
+          (offered-keeps instance valid literals now.fuel now.bound after now.shared now.log c.kept c.offered)
+
+      kept-few : length c.kept.lines ≡ length now.log.lines
+      kept-few = ap length (kept-lines instance valid literals now.fuel now.bound after now.shared now.log c.kept c.offered)
+
+      code-is : c.adds.line.tag.code ≡ code_of (cost instance c.offered.plan)
+      code-is = ap (λ (t : Tag). t.code) c.adds.tag_is ∙ c.tag_is
+
+      full-own : IsTagFor instance c.adds.line.tag
+      full-own = subst (λ n. IsTagOf instance (triple_from n)) (sym code-is) (cost-own instance c.offered.plan valid)
+
+      full-dead : Dead instance (triple_from c.adds.line.tag.code) literals
+      full-dead = subst (λ n. Dead instance (triple_from n) literals) (sym code-is)
+          (dead-at-cost instance valid literals prefix full c.offered.plan c.offered.feasible.assignment c.offered.extends)
+
+      full-good : IsGoodLine instance (known now.shared) c.kept.lines c.adds.line
+      full-good = count-good instance valid literals partial (known now.shared) c.kept.lines c.adds.line c.adds.sorted full-own c.adds.path_is c.adds.refs_are full-dead
+
+      full-implied : Implied instance (triple_from c.adds.line.tag.code) c.adds.line.lits
+      full-implied = Implied-more instance (triple_from c.adds.line.tag.code) literals c.adds.line.lits c.adds.sorted.has
+          (dead-implied instance (triple_from c.adds.line.tag.code) literals valid full-own partial full-dead)
+
+      full-by : {E : Type 0} → Searched {E = E} instance level literals old (world now.fuel after now.shared log) (Ok (Settled (Own (length c.kept.lines)) c.tag))
+      full-by = record {
+        keeps = line-keeps instance literals old (world now.fuel after now.shared c.kept) to-kept c.adds.line log c.adds.added (λ none. c.adds.refs_are) full-good;
+        few = omega (arith, kept-few, ticked.took, few-lines, line-adds instance literals old (world now.fuel after now.shared c.kept) to-kept c.adds.line log c.adds.added);
+        is = (
+          omega (arith, c.offered.offers.told, ticked.is_open),
+          omega (arith, (offers-falls now.bound after (code_of (cost instance c.offered.plan)) c.offered.offers).1, c.tag_is),
+          (λ same. absurd (omega (arith, ticked.took))),
+          line-refutes instance literals old (world now.fuel after now.shared c.kept) to-kept c.adds.line log c.adds.added c.adds.sorted full-implied full-own c.tag.code (omega (arith, ap (λ (t : Tag). t.code) c.adds.tag_is)),
+          line-last instance literals old (world now.fuel after now.shared c.kept) to-kept c.adds.line log c.adds.added,
+        );
+        count = 1;
+        ticks = tick;
+        taken = omega (arith, ticked.took);
+        fresh = λ some. ticked.fresh;
+      }
+
+      full-found : {E : Type 0} → Searched {E = E} instance level literals old (world now.fuel after now.shared log) (Ok found)
+      full-found {E} = subst (λ f. Searched {E = E} instance level literals old (world now.fuel after now.shared log) (Ok f)) (sym c.adds.found_is) full-by
+
+    pub full-searched : {E : Type 0} → (result : Result Found E) → IsConcluded instance literals now.bound after now.log log result → Searched instance level literals old (world now.fuel after now.shared log) result
+    full-searched (Ok found) c = full-found found c
+    full-searched (Err e) (inl same) = tick-ends (world now.fuel after now.shared log)
+        (subst (λ b. Keeps instance literals now (world now.fuel b now.shared log)) (sym same.0) (subst (λ l. Keeps instance literals now (world now.fuel now.bound now.shared l)) (sym same.1) (keeps-same instance literals now)))
+        refl (ap (λ (l : LogState). l.lines) same.1) e
+    full-searched (Err e) (inr offered) = tick-ends (world now.fuel after now.shared log) (offered-keeps instance valid literals now.fuel now.bound after now.shared now.log log offered) refl (kept-lines instance valid literals now.fuel now.bound after now.shared now.log log offered) e

@@ -1,0 +1,15 @@
+pub mod Adding
+pub mod NextPaths
+pub mod TickJoin
+pub mod Keeping
+pub mod TagCodes
+pub mod Entering
+pub mod FullPrefixes
+pub mod LineParts
+pub mod Offering
+pub mod Tried
+pub mod Ends
+pub mod Steps
+pub mod Opening
+pub mod Lining
+pub mod Settling

@@ -1,0 +1,273 @@
+-- What a job comes to, once its line was offered or its lines were cut.
+use Rattle.std.proofs.Common.{◌≡◌, ◌⊎◌, ℕ, ◌+◌, ◌-◌, ◌<◌, ◌≤◌, max, true, List, [], ◌∷◌, ◌++◌, length, take, drop, All, Contains, Option, Some, Result, Ok, Err, refl, sym, ap, subst, ◌∙◌, inl, inr, ⊎_elim, arith, append-nil}
+use Rattle.std.specs.List.{slice_get}
+use Rattle.std.specs.Result.{IsOk}
+use Rattle.std.proofs.lemmas.List.{length-append, take-append-le, take_all}
+use Rattle.std.proofs.lemmas.List.Elements.{All-contains, Contains-append_left, Contains-append_right, Contains-append_cases, Contains-push}
+use Rattle.fapp_model.specs.declared.instance.Instance.{Instance}
+use Rattle.fapp_model.specs.declared.literal.Literal.{Literal}
+use Rattle.fapp_model.specs.declared.tag.Tag.{Tag}
+use Rattle.fapp_model.specs.Costs.{cost}
+use Rattle.fapp_model.specs.Tags.{IsTagOf, code_of, triple_from}
+use Rattle.fapp_model.specs.search.Dead.{Dead}
+use Rattle.fapp_model.specs.search.Jobs.{target}
+use Rattle.fapp_model.specs.search.Prefixes.{GoesOn, IsAlong, IsPrefix}
+use Rattle.fapp_model.specs.search.Tries.{IsTries}
+use Rattle.fapp_model.specs.search.WorkOrder.{work_order}
+use Rattle.fapp_model.proofs.Members.{All-from_members}
+use Rattle.log_laws.specs.declared.line.LogLine.{LogLine}
+use Rattle.log_laws.specs.declared.line.Ref.{Ref}
+use Rattle.log_laws.specs.declared.line.Ref.TheVariants.{Own, Row}
+use Rattle.log_laws.specs.declared.line.Segment.{Segment}
+use Rattle.log_laws.specs.Contents.{Content, KnownRow, content_of, known_row}
+use Rattle.log_laws.specs.Segments.{IsGoodLog, ended}
+use Rattle.log_laws.proofs.Segmenting.{log-cut, log-home, log-more}
+use Rattle.search_log.specs.declared.job.Outcome.{Outcome}
+use Rattle.search_log.specs.declared.job.Outcome.TheVariants.{Refuted, Moot as OutcomeMoot, Spent as OutcomeSpent}
+use Rattle.search_log.specs.Bounds.{BoundState}
+use Rattle.search_log.specs.LogStates.{LogState}
+use Rattle.search_log.specs.Logs.{cut_behind, with_segment}
+use Rattle.search_log.specs.Shares.{IsServed, SharedState, known}
+use Rattle.settle_laws.specs.declared.found.Found.{Found}
+use Rattle.settle_laws.specs.declared.found.Found.TheVariants.{Settled, Moot, Spent}
+use Rattle.settle_laws.specs.Founds.{IsOpen, IsRefuted, refused}
+use Rattle.settle_laws.specs.Lined.{IsAtMostCount, IsNewRef, Lined}
+use Rattle.settle_laws.specs.Published.{GotNone, GotRow, IsOfferable}
+use Rattle.settle_laws.specs.Settling.{AreHome, AreHomeBy, IsCut, IsOffered, IsOutcome, Publishes, Settles, not_taken}
+use Rattle.settle_laws.specs.Ticks.{Ticks}
+use Rattle.settle_laws.specs.Worlds.{Gains, IsGood, IsKeptRight, IsLeastOffered, KeepsAtMost, OffersCost, World, world}
+use Rattle.settle_laws.proofs.Adding.{gains-none, has-same}
+use Rattle.settle_laws.proofs.TickJoin.{no-ticks}
+use Rattle.tries_laws.specs.TriesLaws.{AreTried}
+use Rattle.tries_laws.proofs.TriesCounts.{Follows, along-drop, tries-count}
+
+-- ---- ticks and tries
+
+pub ticks-most : (instance : Instance) (level : ℕ) (prefix : List Literal) (count n : ℕ) → IsPrefix instance prefix → Ticks instance level prefix count → IsTries instance (target level) prefix n → count ≤ n
+ticks-most instance level prefix count n is t tries =
+    let rest = drop (length prefix) (work_order instance) in
+    let most = tries-count instance (Dead instance (target level)) rest prefix n t.tried tries (record {
+      apart = t.are.apart;
+      follow = All-from_members (Follows instance rest prefix) t.tried (λ q m.
+          let more = All-contains (GoesOn prefix) t.tried q t.are.go_on m in
+          let along = All-contains (IsPrefix instance) t.tried q t.are.prefixes m in
+          record {
+            more = more.0;
+            is = more.1;
+            along = along-drop instance (work_order instance) prefix more.0 (subst (IsAlong instance (work_order instance)) more.1 along);
+          });
+      alive = t.are.alive;
+      closed = t.are.closed;
+    }) in
+    omega (arith, most, t.count_is)
+
+-- ---- all that stays so, whatever becomes of the line
+
+module _ (instance : Instance) (level : ℕ) (literals : List Literal) (old mid : World) {E : Type 0} (found : Result Found E) (l : Lined instance level literals old mid found) (shared : SharedState) (log : LogState) where
+  abbrev pub later : World
+  later = world mid.fuel mid.bound shared log
+
+  -- what was known is known
+  pub known-still : (rows : List KnownRow) → shared.copied ≡ mid.shared.copied → shared.published ≡ mid.shared.published ++ rows → All (Contains (known shared)) (known mid.shared)
+  known-still rows copied published = All-from_members (Contains (known shared)) (known mid.shared) (λ row m. ⊎_elim
+      (λ a. Contains-append_left shared.copied shared.published row (subst (λ rs. Contains rs row) (sym copied) a))
+      (λ b. Contains-append_right shared.copied shared.published row (subst (λ rs. Contains rs row) (sym published) (Contains-append_left mid.shared.published rows row b)))
+      (Contains-append_cases mid.shared.copied mid.shared.published row m))
+
+  pub settles-with : {F : Type 0} (result : Result Outcome F) → shared.copied ≡ mid.shared.copied → shared.takes ≡ mid.shared.takes → mid.shared.refusals ≤ shared.refusals → log.best ≡ mid.log.best →
+      Publishes old (world mid.fuel mid.bound shared log) result → Gains old.log.lines log.lines → length log.lines ≤ length mid.log.lines →
+      (IsGood instance mid → IsGood instance (world mid.fuel mid.bound shared log)) →
+      IsOutcome instance level literals old (world mid.fuel mid.bound shared log) result → not_taken result ≡ refused found → Settles instance level literals old (world mid.fuel mid.bound shared log) result
+  settles-with result copied takes refusals best publishes lines few good is none = record {
+    fuel = l.keeps.fuel;
+    copied = subst (λ rs. All (Contains rs) old.shared.copied) (sym copied) l.keeps.copied;
+    publishes = publishes;
+    takes = takes ∙ l.keeps.takes;
+    refusals = omega (arith, l.keeps.refusals, refusals);
+    lines = lines;
+    few = omega (arith, l.few, few);
+    good = λ g. good (l.keeps.good g);
+    falls = l.keeps.falls;
+    least = λ h. subst (λ b. IsLeastOffered b mid.bound.least) (sym best) (l.keeps.least h);
+    right = λ h. subst (IsKeptRight instance) (sym best) (l.keeps.right h);
+    better = λ tag h. subst (λ b. KeepsAtMost b tag) (sym best) (l.keeps.better tag h);
+    offers = ⊎_elim (λ same. inl same)
+        (λ (o : OffersCost instance literals mid). inr (record { plan = o.plan; feasible = o.feasible; extends = o.extends; offered = o.offered; kept = subst (λ b. KeepsAtMost b (code_of (cost instance o.plan))) (sym best) o.kept }))
+        l.keeps.offers;
+    is = is;
+    count = l.count;
+    ticks = l.ticks;
+    taken = omega (arith, l.taken, none);
+    fresh = l.fresh;
+  }
+
+  -- ---- the lines are cut
+
+  module _ (from : ℕ) (from_is : from ≡ length old.log.lines) (behind : ended old.log.segments ≤ length old.log.lines) (cut : log ≡ cut_behind mid.log from) where
+    no-further : max from (ended mid.log.segments) ≡ length old.log.lines
+    no-further = omega (arith, from_is, behind, ap ended l.keeps.segments)
+
+    pub cut-lines : log.lines ≡ old.log.lines
+    cut-lines = ap (λ (g : LogState). g.lines) cut ∙ (ap (λ n. take n mid.log.lines) no-further ∙ (ap (λ lines. take (length old.log.lines) lines) l.keeps.lines.are
+        ∙ (take-append-le (length old.log.lines) old.log.lines l.keeps.lines.more (omega arith) ∙ take_all (length old.log.lines) old.log.lines (omega arith))))
+
+    cut-segments : log.segments ≡ old.log.segments
+    cut-segments = ap (λ (g : LogState). g.segments) cut ∙ l.keeps.segments
+
+    cut-good : (rows : List KnownRow) → shared.copied ≡ mid.shared.copied → shared.published ≡ mid.shared.published ++ rows → IsGood instance mid → IsGood instance (world mid.fuel mid.bound shared log)
+    cut-good rows copied published good = subst (λ (g : LogState). IsGoodLog instance (known shared) g.lines g.segments) (sym cut)
+        (log-cut instance (known shared) mid.log.lines mid.log.segments (max from (ended mid.log.segments)) (omega arith)
+        (log-more instance (known mid.shared) (known shared) mid.log.lines mid.log.segments (known-still rows copied published) good))
+
+    pub cut-settles : {F : Type 0} (result : Result Outcome F) (rows : List KnownRow) → shared.copied ≡ mid.shared.copied → shared.published ≡ mid.shared.published ++ rows → shared.takes ≡ mid.shared.takes → mid.shared.refusals ≤ shared.refusals →
+        AreHomeBy rows [] result → IsOutcome instance level literals old (world mid.fuel mid.bound shared log) result → not_taken result ≡ refused found → Settles instance level literals old (world mid.fuel mid.bound shared log) result
+    cut-settles result rows copied published takes refusals home is none = settles-with result copied takes refusals (ap (λ (g : LogState). g.best) cut)
+        (record { rows = rows; published = published ∙ ap (λ rs. rs ++ rows) l.keeps.published; gained = []; segments = cut-segments ∙ sym (append-nil old.log.segments); home = home })
+        (subst (λ lines. Gains old.log.lines lines) (sym cut-lines) (gains-none old.log.lines))
+        (omega (arith, ap length cut-lines, ap length l.keeps.lines.are, length-append old.log.lines l.keeps.lines.more))
+        (cut-good rows copied published) is none
+
+-- ---- Moot, Spent and want of memory before a line was offered
+
+module _ (instance : Instance) (level : ℕ) (literals : List Literal) (old mid : World) (log : LogState) (from : ℕ) (from_is : from ≡ length old.log.lines) (behind : ended old.log.segments ≤ length old.log.lines) (cut : log ≡ cut_behind mid.log from) where
+  still : mid.shared.published ≡ mid.shared.published ++ []
+  still = sym (append-nil mid.shared.published)
+
+  pub moot-settles : {E F : Type 0} (seen : Tag) → Lined {E = E} instance level literals old mid (Ok (Moot seen)) → Settles {E = F} instance level literals old (world mid.fuel mid.bound mid.shared log) (Ok (OutcomeMoot seen))
+  moot-settles {E} seen l = cut-settles instance level literals old mid (Ok (Moot seen)) l mid.shared log from from_is behind cut (Ok (OutcomeMoot seen)) [] refl still refl (omega arith) refl
+      (l.is.0, l.is.1, cut-lines instance level literals old mid (Ok (Moot seen)) l mid.shared log from from_is behind cut) refl
+
+  pub spent-settles : {E F : Type 0} → IsPrefix instance literals → Lined {E = E} instance level literals old mid (Ok Spent) → Settles {E = F} instance level literals old (world mid.fuel mid.bound mid.shared log) (Ok OutcomeSpent)
+  spent-settles {E} prefix l = cut-settles instance level literals old mid (Ok Spent) l mid.shared log from from_is behind cut (Ok OutcomeSpent) [] refl still refl (omega arith) refl
+      (
+        l.is.0,
+        l.is.1,
+        cut-lines instance level literals old mid (Ok Spent) l mid.shared log from from_is behind cut,
+        (λ tries is. omega (arith, l.taken, l.is.1, ticks-most instance level literals l.count tries prefix l.ticks is)),
+      ) refl
+
+  pub err-settles : {E F : Type 0} (e : E) (f : F) → Lined instance level literals old mid (Err e) → Settles instance level literals old (world mid.fuel mid.bound mid.shared log) (Err f)
+  err-settles e f l = cut-settles instance level literals old mid (Err e) l mid.shared log from from_is behind cut (Err f) [] refl still refl (omega arith) (inl refl)
+      (cut-lines instance level literals old mid (Err e) l mid.shared log from from_is behind cut) refl
+
+-- ---- a row settles the job
+
+pub row-settles : {E F : Type 0} (instance : Instance) (level : ℕ) (literals : List Literal) (old mid : World) (r : ℕ) (tag : Tag) → Lined {E = E} instance level literals old mid (Ok (Settled (Row r) tag)) → Settles {E = F} instance level literals old mid (Ok (Refuted (Row r) tag))
+row-settles instance level literals old mid r tag l = settles-with instance level literals old mid (Ok (Settled (Row r) tag)) l mid.shared mid.log (Ok (Refuted (Row r) tag)) refl refl (omega arith) refl
+    (record { rows = []; published = l.keeps.published ∙ sym (append-nil old.shared.published); gained = []; segments = l.keeps.segments ∙ sym (append-nil old.log.segments); home = refl })
+    l.keeps.lines (omega arith) (λ good. good)
+    (l.is.0, l.is.1, l.is.2, l.is.3, l.is.4, l.keeps.published, l.is.5) refl
+
+-- ---- a line settles the job, and is offered
+
+module _ {E : Type 0} (instance : Instance) (level : ℕ) (literals : List Literal) (old mid : World) (place : ℕ) (tag : Tag) (l : Lined {E = E} instance level literals old mid (Ok (Settled (Own place) tag))) (behind : ended old.log.segments ≤ length old.log.lines) (shared : SharedState) (copied : shared.copied ≡ mid.shared.copied) where
+  -- the line is still there
+  refuted-still : (log : LogState) → log.lines ≡ mid.log.lines → IsRefuted instance shared.copied log.lines literals (Own place) tag.code
+  refuted-still log same = subst (λ rs. IsRefuted instance rs log.lines literals (Own place) tag.code) (sym copied) (subst (λ lines. IsRefuted instance mid.shared.copied lines literals (Own place) tag.code) (sym same) l.is.3)
+
+  outcome-still : (F : Type 0) (log : LogState) → log.lines ≡ mid.log.lines → IsOffered old (world mid.fuel mid.bound shared log) (Own place) → IsOutcome {E = F} instance level literals old (world mid.fuel mid.bound shared log) (Ok (Refuted (Own place) tag))
+  outcome-still F log same offered = (
+    l.is.0,
+    l.is.1,
+    l.is.2,
+    refuted-still log same,
+    (l.is.4.0, l.is.4.1 ∙ ap length (sym same)),
+    offered,
+    (λ none. subst (λ lines. IsAtMostCount instance literals old.log.lines lines) (sym same) (l.is.5 none)),
+  )
+
+  gains-still : (log : LogState) → log.lines ≡ mid.log.lines → Gains old.log.lines log.lines
+  gains-still log same = subst (λ lines. Gains old.log.lines lines) (sym same) l.keeps.lines
+
+  -- it got no row
+  module _ {T F : Type 0} (takes : shared.takes ≡ mid.shared.takes) (refusals : mid.shared.refusals ≤ shared.refusals) (log : LogState) (result : Result T F) (none : GotNone mid.shared shared mid.log log place result) where
+    same : log.lines ≡ mid.log.lines
+    same = ap (λ (g : LogState). g.lines) none.log_same
+
+    pub none-settles : (G : Type 0) → Settles {E = G} instance level literals old (world mid.fuel mid.bound shared log) (Ok (Refuted (Own place) tag))
+    none-settles G = settles-with instance level literals old mid (Ok (Settled (Own place) tag)) l shared log (Ok (Refuted (Own place) tag)) copied takes refusals (ap (λ (g : LogState). g.best) none.log_same)
+        (record { rows = []; published = none.published ∙ (l.keeps.published ∙ sym (append-nil old.shared.published)); gained = []; segments = ap (λ (g : LogState). g.segments) none.log_same ∙ (l.keeps.segments ∙ sym (append-nil old.log.segments)); home = refl })
+        (gains-still log same) (omega (arith, ap length same))
+        (λ good. subst (λ (g : LogState). IsGoodLog instance (known shared) g.lines g.segments) (sym none.log_same)
+        (log-more instance (known mid.shared) (known shared) mid.log.lines mid.log.segments
+        (known-still instance level literals old mid (Ok (Settled (Own place) tag)) l shared log [] copied (none.published ∙ sym (append-nil mid.shared.published))) good))
+        (outcome-still G log same (λ line at short took. inr (
+        let more : mid.shared.refusals < shared.refusals = none.refused (l.keeps.takes ∙ took) line (subst (λ lines. slice_get lines place ≡ Some line) same at) short in
+        omega (arith, l.keeps.refusals, more))))
+        refl
+
+  -- it got a row
+  module _ {T F : Type 0} (takes : shared.takes ≡ mid.shared.takes) (refusals : mid.shared.refusals ≤ shared.refusals) (log : LogState) (result : Result T F) (got : GotRow mid.shared shared mid.log log place result) where
+    abbrev pub own_segment : Segment
+    own_segment = record { last = length mid.log.lines - 1; row = got.row }
+
+    last-is : own_segment.last ≡ place
+    last-is = omega (arith, l.is.4.1)
+
+    pub row-good : (good : IsGood instance mid) → IsGoodLog instance (known shared) mid.log.lines (mid.log.segments ++ own_segment ∷ [])
+    row-good good = log-home instance (known mid.shared) (known shared) mid.log.lines mid.log.segments own_segment good (record {
+      line = got.line;
+      whole = omega (arith, l.is.4.1);
+      last = subst (λ n. slice_get mid.log.lines n ≡ Some got.line) (sym last-is) got.last;
+      behind = omega (arith, behind, l.is.4.0, l.is.4.1, ap ended l.keeps.segments);
+      above = got.above;
+      kept = known-still instance level literals old mid (Ok (Settled (Own place) tag)) l shared log (known_row got.row (content_of got.line) ∷ []) copied got.published;
+      row = Contains-append_right shared.copied shared.published (known_row got.row (content_of got.line))
+          (subst (λ rs. Contains rs (known_row got.row (content_of got.line))) (sym got.published) (Contains-push mid.shared.published (known_row got.row (content_of got.line))));
+    })
+
+    -- and ends a segment
+    pub got-settles : (G : Type 0) → log ≡ with_segment mid.log got.row → Settles {E = G} instance level literals old (world mid.fuel mid.bound shared log) (Ok (Refuted (Own place) tag))
+    got-settles G home =
+        let same : log.lines ≡ mid.log.lines = ap (λ (g : LogState). g.lines) home in
+        let segments : log.segments ≡ old.log.segments ++ own_segment ∷ [] = ap (λ (g : LogState). g.segments) home ∙ ap (λ ss. ss ++ own_segment ∷ []) l.keeps.segments in
+        settles-with instance level literals old mid (Ok (Settled (Own place) tag)) l shared log (Ok (Refuted (Own place) tag)) copied takes refusals (ap (λ (g : LogState). g.best) home)
+        (record { rows = known_row got.row (content_of got.line) ∷ []; published = got.published ∙ ap (λ rs. rs ++ known_row got.row (content_of got.line) ∷ []) l.keeps.published; gained = own_segment ∷ []; segments = segments; home = refl })
+        (gains-still log same) (omega (arith, ap length same))
+        (λ good. subst (λ (g : LogState). IsGoodLog instance (known shared) g.lines g.segments) (sym home) (row-good good))
+        (outcome-still G log same (λ line at short took. inl (own_segment, segments, last-is)))
+        refl
+
+    -- but for want of memory no segment, and its lines are cut
+    pub unkept-settles : {G : Type 0} (g : G) (from : ℕ) → from ≡ length old.log.lines → (after : LogState) → log ≡ mid.log → after ≡ cut_behind log from → Settles instance level literals old (world mid.fuel mid.bound shared after) (Err g)
+    unkept-settles g from from_is after same cut =
+        let cut_mid : after ≡ cut_behind mid.log from = cut ∙ ap (λ l. cut_behind l from) same in
+        cut-settles instance level literals old mid (Ok (Settled (Own place) tag)) l shared after from from_is behind cut_mid (Err g) (known_row got.row (content_of got.line) ∷ []) copied got.published takes refusals
+        (inr (record { front = []; last = known_row got.row (content_of got.line); rows_are = refl; home = refl }))
+        (cut-lines instance level literals old mid (Ok (Settled (Own place) tag)) l shared after from from_is behind cut_mid) refl
+
+-- ---- nothing was done
+
+pub nothing-settles : {F : Type 0} (instance : Instance) (level : ℕ) (literals : List Literal) (w : World) (f : F) → Settles instance level literals w w (Err f)
+nothing-settles instance level literals w f = record {
+  fuel = omega arith;
+  copied = has-same w.shared.copied;
+  publishes = record { rows = []; published = sym (append-nil w.shared.published); gained = []; segments = sym (append-nil w.log.segments); home = inl refl };
+  takes = refl;
+  refusals = omega arith;
+  lines = gains-none w.log.lines;
+  few = omega arith;
+  good = λ good. good;
+  falls = omega arith;
+  least = λ h. h;
+  right = λ h. h;
+  better = λ tag h. h;
+  offers = inl refl;
+  is = refl;
+  count = 0;
+  ticks = no-ticks instance level literals;
+  taken = omega arith;
+  fresh = λ some. absurd (omega arith);
+}
+
+-- ---- what is offered
+
+pub offerable : {E : Type 0} → (instance : Instance) (level : ℕ) (literals : List Literal) (old mid : World) (place : ℕ) (tag : Tag) → Lined {E = E} instance level literals old mid (Ok (Settled (Own place) tag)) → IsOfferable instance mid.log.lines place
+offerable instance level literals old mid place tag l line at =
+    let r = l.is.3 in
+    let same : r.cited.0 ≡ line = (let there = r.cited.1 in cc) in
+    let content : r.content ≡ content_of line = r.cited.2 ∙ ap content_of same in
+    (
+      subst (λ (c : Content). IsTagOf instance (triple_from c.tag)) content r.own,
+      subst (IsServed instance) content r.served,
+    )

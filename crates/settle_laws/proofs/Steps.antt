@@ -1,0 +1,153 @@
+-- One choice more is tried.
+use Rattle.std.proofs.Common.{◌≡◌, ◌⊎◌, inl, inr, ⊎_elim, ℕ, ◌+◌, ◌<◌, ◌≤◌, min, false, List, [], ◌∷◌, ◌++◌, length, Option, Some, None, Result, Ok, Err, refl, sym, ap, subst, ◌∙◌, arith}
+use Rattle.fapp_model.specs.declared.instance.Instance.{Instance}
+use Rattle.fapp_model.specs.declared.literal.Literal.{Literal}
+use Rattle.fapp_model.specs.declared.tag.Tag.{Tag}
+use Rattle.fapp_model.specs.Assignments.{count_at}
+use Rattle.fapp_model.specs.InstanceTags.{IsTagFor}
+use Rattle.fapp_model.specs.Instances.{IsInstance}
+use Rattle.fapp_model.specs.Levels.{levels_of}
+use Rattle.fapp_model.specs.Tags.{IsTagOf, triple_from}
+use Rattle.fapp_model.specs.search.Dead.{Dead}
+use Rattle.fapp_model.specs.search.Partials.{IsPartial, literal, names}
+use Rattle.fapp_model.specs.search.Prefixes.{IsPrefix}
+use Rattle.search_log.specs.Bounds.{floor}
+use Rattle.log_laws.specs.declared.line.ChoiceRef.{ChoiceRef}
+use Rattle.log_laws.specs.declared.line.Ref.{Ref}
+use Rattle.settle_laws.specs.declared.found.Found.{Found}
+use Rattle.settle_laws.specs.declared.found.Found.TheVariants.{Dead as FoundDead, Settled, Moot, Spent}
+use Rattle.settle_laws.specs.declared.node.Node.{Node}
+use Rattle.settle_laws.specs.Founds.{IsFoundBy, IsHigh, IsOpen, IsRefuted, Searched, refused}
+use Rattle.settle_laws.specs.Levels.{level_code, target_code}
+use Rattle.settle_laws.specs.Noted.{Goes, IsEnding, Notes, by_choice}
+use Rattle.settle_laws.specs.Ticks.{TicksBelow}
+use Rattle.settle_laws.specs.Trying.{AreTriedChoices, Trying}
+use Rattle.settle_laws.specs.Worlds.{Keeps, World}
+use Rattle.settle_laws.proofs.Entering.{floor-le}
+use Rattle.settle_laws.proofs.Keeping.{has-pushed, keeps-fewer, keeps-trans}
+use Rattle.settle_laws.proofs.NextPaths.{next-apart, next-prefix, next-small}
+use Rattle.settle_laws.proofs.TagCodes.{dead-lower, tag-small}
+use Rattle.settle_laws.proofs.TickJoin.{all-ticks, next-ticks}
+use Rattle.settle_laws.proofs.Tried.{tried-dead, tried-grow, tried-settled}
+use Rattle.tries_laws.proofs.PrefixParts.{prefix-is_partial}
+
+-- what lets the search go on
+noted-as : (node new : Node) (found : Found) → Notes node new found None →
+    ((tag : Tag) × (found ≡ FoundDead tag) × Goes node new tag.code node.refs) ⊎ ((line : Ref) × (tag : Tag) × (found ≡ Settled line tag) × Goes node new tag.code (node.refs ++ by_choice node.choice line ∷ []))
+noted-as node new (FoundDead tag) notes = inl (tag, refl, notes.1)
+noted-as node new (Settled line tag) notes = inr (line, tag, refl, notes.1)
+noted-as node new (Moot seen) notes = cc
+noted-as node new Spent notes = cc
+
+module _ (instance : Instance) (level : ℕ) (literals : List Literal) (old here now : World) (node : Node) (trying : Trying instance level literals old here node) where
+  abbrev pub with-choice : List Literal
+  with-choice = literals ++ literal node.path node.choice ∷ []
+
+  module _ {E : Type 0} (result : Result Found E) (s : Searched instance level with-choice here now result) where
+    both-keep : Keeps instance literals old now
+    both-keep = keeps-trans instance literals old here now trying.keeps
+        (keeps-fewer instance literals with-choice here now (has-pushed literals (literal node.path node.choice)) s.keeps)
+
+    both-ticks : TicksBelow instance level literals node.path (node.choice + 1) (trying.count + s.count)
+    both-ticks = next-ticks instance level literals node.path node.choice trying.count s.count trying.ticks s.ticks
+
+    both-taken : (trying.count + s.count) + now.fuel ≡ old.fuel + refused result
+    both-taken = omega (arith, trying.taken, s.taken)
+
+    -- what ends the search of a choice ends that of the literals
+    end-as : IsFoundBy instance level literals old now result → Searched instance level literals old now result
+    end-as is = record {
+      keeps = both-keep;
+      few = omega (arith, trying.fewer, s.few);
+      is = is;
+      count = trying.count + s.count;
+      ticks = all-ticks instance level literals node.path (node.choice + 1) (trying.count + s.count) both-ticks;
+      taken = both-taken;
+      fresh = λ some. trying.fresh;
+    }
+
+  pub ends : {E : Type 0} → (result : Result Found E) → IsEnding result → Searched instance level with-choice here now result → Searched instance level literals old now result
+  ends (Ok (FoundDead tag)) none s = absurd none
+  ends (Ok (Settled line tag)) none s = absurd none
+  ends (Ok (Moot seen)) none s = end-as (Ok (Moot seen)) s s.is
+  ends (Ok Spent) none s = end-as (Ok Spent) s s.is
+  ends (Err e) none s = end-as (Err e) s tt
+
+  -- there was no memory to note it
+  pub ends-unnoted : {E : Type 0} → (found : Found) → Searched {E = E} instance level with-choice here now (Ok found) → refused {E = E} (Ok found) ≡ 0 → (e : E) → Searched instance level literals old now (Err e)
+  ends-unnoted found s none e = record {
+    keeps = both-keep (Ok found) s;
+    few = omega (arith, trying.fewer, s.few);
+    is = tt;
+    count = trying.count + s.count;
+    ticks = all-ticks instance level literals node.path (node.choice + 1) (trying.count + s.count) (both-ticks (Ok found) s);
+    taken = omega (arith, both-taken (Ok found) s);
+    fresh = λ some. trying.fresh;
+  }
+
+  -- the next choice
+  module _ (valid : IsInstance instance) (within : level ≤ levels_of instance) (prefix : IsPrefix instance literals) (more : node.choice < node.count) where
+    partial : IsPartial instance literals
+    partial = prefix-is_partial instance literals prefix
+
+    small : node.path < length instance.paths
+    small = next-small instance literals prefix node.path trying.next
+
+    apart : names literals node.path ≡ false
+    apart = next-apart instance literals prefix node.path trying.next
+
+    below : node.choice < count_at instance node.path
+    below = omega (arith, trying.counted)
+
+    pushed-partial : IsPartial instance with-choice
+    pushed-partial = prefix-is_partial instance with-choice (next-prefix instance literals prefix node.path trying.next node.choice below)
+
+    module _ {E : Type 0} (found : Found) (s : Searched {E = E} instance level with-choice here now (Ok found)) (new : Node) (tag : Tag) (refs : List ChoiceRef) (goes : Goes node new tag.code refs) (none : refused {E = E} (Ok found) ≡ 0) where
+      lower : new.tag.code ≤ node.tag.code
+      lower = omega (arith, goes.tag_is)
+
+      -- the choices before this one, in the world as it is now
+      before : AreTriedChoices instance now.shared.copied now.log.lines literals new.tag.code node.path node.choice node.refs
+      before = tried-grow instance valid literals node.path here.shared.copied now.shared.copied here.log.lines now.log.lines s.keeps.copied s.keeps.lines node.tag.code new.tag.code
+          (tag-small instance level node.tag within trying.most) (tag-small instance level new.tag within (omega (arith, trying.most, lower))) lower node.choice node.refs trying.choices
+
+      goes-with : IsOpen level now.bound → IsHigh level now.bound tag.code → AreTriedChoices instance now.shared.copied now.log.lines literals new.tag.code node.path (node.choice + 1) refs → Trying instance level literals old now new
+      goes-with is_open high tried = record {
+        next = trying.next ∙ ap (λ (p : ℕ). Some p) (sym goes.path_is);
+        counted = goes.count_is ∙ (trying.counted ∙ ap (λ p. count_at instance p) (sym goes.path_is));
+        within = omega (arith, goes.choice_is, goes.count_is);
+        most = omega (arith, trying.most, lower);
+        keeps = both-keep (Ok found) s;
+        fewer = omega (arith, trying.fewer, s.few);
+        is_open = is_open;
+        high = omega (arith, trying.high, high, s.keeps.falls, goes.tag_is);
+        choices = rw (goes.path_is, goes.choice_is, goes.refs_are) tried;
+        count = trying.count + s.count;
+        ticks = rw (goes.path_is, goes.choice_is) (both-ticks (Ok found) s);
+        taken = omega (arith, both-taken (Ok found) s);
+        fresh = trying.fresh;
+      }
+
+    goes-dead : {E : Type 0} → (tag : Tag) → Searched {E = E} instance level with-choice here now (Ok (FoundDead tag)) → (new : Node) → Goes node new tag.code node.refs → Trying instance level literals old now new
+    goes-dead tag s new goes =
+        let low : new.tag.code ≤ tag.code = omega (arith, goes.tag_is) in
+        let most : tag.code ≤ level_code (level + 1) = omega (arith, s.is.1) in
+        let own_new = tag-small instance level new.tag within (omega (arith, most, low)) in
+        goes-with (FoundDead tag) s new tag node.refs goes refl s.is.0 (omega (arith, s.is.1, floor-le now.bound))
+        (tried-dead instance valid literals partial node.path node.choice small below apart now.shared.copied now.log.lines new.tag.code own_new node.refs
+        (before (FoundDead tag) s new tag node.refs goes refl) pushed-partial
+        (dead-lower instance tag.code new.tag.code with-choice valid (tag-small instance level tag within most) own_new low s.is.2))
+
+    goes-settled : {E : Type 0} → (line : Ref) (tag : Tag) → Searched {E = E} instance level with-choice here now (Ok (Settled line tag)) → (new : Node) → Goes node new tag.code (node.refs ++ by_choice node.choice line ∷ []) → Trying instance level literals old now new
+    goes-settled line tag s new goes =
+        let low : new.tag.code ≤ tag.code = omega (arith, goes.tag_is) in
+        let own_new = tag-small instance level new.tag within (omega (arith, goes.tag_is, trying.most)) in
+        goes-with (Settled line tag) s new tag (node.refs ++ by_choice node.choice line ∷ []) goes refl s.is.0 s.is.1
+        (tried-settled instance valid literals partial node.path node.choice small below apart now.shared.copied now.log.lines new.tag.code own_new node.refs
+        (before (Settled line tag) s new tag (node.refs ++ by_choice node.choice line ∷ []) goes refl) line tag.code low s.is.3)
+
+    pub goes-on : {E : Type 0} → (found : Found) → Searched {E = E} instance level with-choice here now (Ok found) → (new : Node) → Notes node new found None → Trying instance level literals old now new
+    goes-on {E} found s new notes = ⊎_elim
+        (λ d. goes-dead d.0 (subst (λ f. Searched {E = E} instance level with-choice here now (Ok f)) d.1 s) new d.2)
+        (λ d. goes-settled d.0 d.1 (subst (λ f. Searched {E = E} instance level with-choice here now (Ok f)) d.2 s) new d.3)
+        (noted-as node new found notes)

@@ -1,0 +1,12 @@
+pub mod Levels
+pub mod Worlds
+pub mod Ticks
+pub mod Founds
+pub mod Ticked
+pub mod Trying
+pub mod OpenNodes
+pub mod Lines
+pub mod Noted
+pub mod Lined
+pub mod Published
+pub mod Settling

@@ -1,0 +1,82 @@
+-- All that a search changes, and what it keeps.
+use Rattle.std.specs.Prelude.{◌≡◌, ◌⊎◌, ℕ, ◌≤◌, List, [], ◌++◌, All, Contains, Option, Some, None}
+use Rattle.fapp_model.specs.declared.instance.Instance.{Instance}
+use Rattle.fapp_model.specs.declared.literal.Literal.{Literal}
+use Rattle.fapp_model.specs.Costs.{cost}
+use Rattle.fapp_model.specs.Least.{IsFeasible}
+use Rattle.fapp_model.specs.Tags.{code_of, triple_from}
+use Rattle.fapp_model.specs.Triples.{IsAtMost}
+use Rattle.fapp_model.specs.search.Partials.{Extends}
+use Rattle.log_laws.specs.declared.line.LogLine.{LogLine}
+use Rattle.log_laws.specs.Segments.{IsGoodLog}
+use Rattle.search_log.specs.declared.log.KeptPlan.{KeptPlan}
+use Rattle.search_log.specs.Bounds.{BoundState, floor}
+use Rattle.search_log.specs.LogStates.{LogState}
+use Rattle.search_log.specs.Shares.{SharedState, known}
+
+-- the fuel, the bound, the shared rows and the log
+pub record World : Type 0 where
+  pub fuel : ℕ
+  pub bound : BoundState
+  pub shared : SharedState
+  pub log : LogState
+
+abbrev pub world : ℕ → BoundState → SharedState → LogState → World
+world fuel bound shared log = record { fuel = fuel; bound = bound; shared = shared; log = log }
+
+-- the log is good over the rows that are known
+abbrev pub IsGood : Instance → World → Type 0
+IsGood instance w = IsGoodLog instance (known w.shared) w.log.lines w.log.segments
+
+-- a Count line has no references
+abbrev pub IsPlain : LogLine → Type 0
+IsPlain line = line.path ≡ None → line.refs ≡ []
+
+-- lines were added at the end, and the Count lines among them have no references
+pub record Gains (old new : List LogLine) : Type 0 where
+  pub more : List LogLine
+  pub are : new ≡ old ++ more
+  pub plain : All IsPlain more
+
+-- what is kept costs as much as the least offer, or neither is there
+abbrev pub IsLeastOffered : Option KeptPlan → Option ℕ → Type 0
+IsLeastOffered None None = Unit {0}
+IsLeastOffered None (Some tag) = ⊥
+IsLeastOffered (Some best) None = ⊥
+IsLeastOffered (Some best) (Some tag) = best.cost ≡ triple_from tag
+
+-- nothing is kept, or an assignment that meets the imperative records, with its cost
+abbrev pub IsKeptRight : Instance → Option KeptPlan → Type 0
+IsKeptRight instance None = Unit {0}
+IsKeptRight instance (Some best) = IsFeasible instance best.plan × (best.cost ≡ cost instance best.plan)
+
+-- what is kept costs at most so much
+abbrev pub KeepsAtMost : Option KeptPlan → ℕ → Type 0
+KeepsAtMost None tag = ⊥
+KeepsAtMost (Some best) tag = IsAtMost best.cost (triple_from tag)
+
+-- the cost of an assignment that has the literals is the least offer, and the log keeps one that costs no more
+pub record OffersCost (instance : Instance) (literals : List Literal) (new : World) : Type 0 where
+  pub plan : List ℕ
+  pub feasible : IsFeasible instance plan
+  pub extends : Extends plan literals
+  pub offered : new.bound.least ≡ Some (code_of (cost instance plan))
+  pub kept : KeepsAtMost new.log.best (code_of (cost instance plan))
+
+-- What every search of some literals keeps, whatever it answers: rows and lines are only added, and nothing is
+-- published; a good log is good again; what the bound told or was offered does not rise; what is kept stays the least offer,
+-- and a true cost, where it was; only assignments that have the literals are offered.
+pub record Keeps (instance : Instance) (literals : List Literal) (old new : World) : Type 0 where
+  pub fuel : new.fuel ≤ old.fuel
+  pub copied : All (Contains new.shared.copied) old.shared.copied
+  pub published : new.shared.published ≡ old.shared.published
+  pub takes : new.shared.takes ≡ old.shared.takes
+  pub refusals : old.shared.refusals ≤ new.shared.refusals
+  pub lines : Gains old.log.lines new.log.lines
+  pub segments : new.log.segments ≡ old.log.segments
+  pub good : IsGood instance old → IsGood instance new
+  pub falls : floor new.bound ≤ floor old.bound
+  pub least : IsLeastOffered old.log.best old.bound.least → IsLeastOffered new.log.best new.bound.least
+  pub right : IsKeptRight instance old.log.best → IsKeptRight instance new.log.best
+  pub better : (tag : ℕ) → KeepsAtMost old.log.best tag → KeepsAtMost new.log.best tag
+  pub offers : (new.bound.least ≡ old.bound.least) ⊎ OffersCost instance literals new

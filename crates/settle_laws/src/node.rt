@@ -1,0 +1,17 @@
+use fapp_model::{Items, Tag};
+use log_laws::ChoiceRef;
+
+/// Literals whose next path is being tried, choice by choice.
+#[derive(Debug, Drop)]
+pub struct Node {
+    /// The least tag that the literals or a choice so far were judged at.
+    pub tag: Tag,
+    /// The next path of the work order.
+    pub path: u16,
+    /// The choice that comes next, or that is being tried: the index, or the number of choices at the end.
+    pub choice: u32,
+    /// How many choices the path has.
+    pub count: u32,
+    /// What settles the choices before it that were not dead.
+    pub refs: Items<ChoiceRef>,
+}

@@ -1,0 +1,16 @@
+use Rattle.settle_laws.specs.Worlds.{world}
+use Rattle.subtree_search.specs.Walks.{work_left}
+use Rattle.subtree_search.proofs.Exploring.{Exploring}
+use Rattle.subtree_search.proofs.walk.explore.Given as goal
+
+-- the innermost node's choices before its own were tried, and the rows serve the instance
+abbrev pub invariant-loop-found : goal.invariant-loop-found
+invariant-loop-found g l = record {
+  serves : g.H.Shared.serves l.shared l.fn.forward.instance;
+  exploring : Exploring l.fn.forward l.forward l.fn.walk.level
+      (world l.fn.fuel.amount (g.B.Bound.state l.fn.bound) (g.H.Shared.state l.fn.shared) l.fn.log)
+      (world l.fuel.amount (g.B.Bound.state l.bound) (g.H.Shared.state l.shared) l.log) l.walk;
+}
+
+abbrev pub decreases-loop-found : goal.decreases-loop-found
+decreases-loop-found g l = work_left l.fuel.amount l.walk.nodes.items

@@ -1,0 +1,83 @@
+use Rattle.std.proofs.Common.{◌≡◌, ◌+◌, ◌<◌, ◌≤◌, List, ◌∷◌, ◌++◌, length, get_or, slice_index_or, Some, None, Err, Ok, sym, ap, subst, ◌∙◌, refl, arith}
+use Rattle.std.specs.List.{slice_get}
+use Rattle.std.proofs.lemmas.List.Elements.{All-contains, Contains-get_or}
+use Rattle.fapp_model.specs.declared.instance.Instance.{Instance}
+use Rattle.fapp_model.specs.Assignments.{count_at}
+use Rattle.fapp_model.specs.Instances.{IsPath}
+use Rattle.fapp_model.specs.search.WorkOrder.{work_order}
+use Rattle.tries_laws.proofs.PrefixParts.{prefix-is_partial}
+use Rattle.settle_laws.specs.Lines.{IsConcluded}
+use Rattle.settle_laws.specs.Worlds.{world}
+use Rattle.settle_laws.proofs.Ends.{full-searched, tick-ends, tick-starts}
+use Rattle.settle_laws.proofs.Keeping.{keeps-same}
+use Rattle.settle_laws.proofs.NextPaths.{next-small, past}
+use Rattle.subtree_search.proofs.Visited.{full-length, next-at, path-count, path-valid, path-within, visited-err, written-length}
+use Rattle.subtree_search.proofs.walk.visit.Goals as goal
+
+pub returns-in-Decided-clause-visited : goal.returns-in-Decided-clause-visited
+returns-in-Decided-clause-visited g c = (refl, c.in-Decided.ensures.entry c.args.log.now)
+
+pub conclude-requires-clause-alive : goal.conclude-requires-clause-alive
+conclude-requires-clause-alive g c =
+    let ticked = c.in-Ticked.ensures.entry c.args.log.now in
+    (c.in-Ticked.target, ticked.own, ticked.told, ticked.alive)
+
+pub returns-in_err-found-clause-visited : goal.returns-in_err-found-clause-visited
+returns-in_err-found-clause-visited g c =
+    let f = c.args.forward.now in
+    let old = world c.args.fuel.now.amount (g.B.Bound.state c.args.bound.now) (g.H.Shared.state c.args.shared.now) c.args.log.now in
+    let now = world c.enter.new.fuel.amount (g.B.Bound.state c.enter.new.bound) (g.H.Shared.state c.enter.new.shared) c.args.log.now in
+    let full = full-length f.instance f.pushed c.order-order.result.now c.pushed-depth.result.now (c.order-order.ensures ∙ ap work_order c.tables-tables.ensures) c.pushed-depth.ensures.literals (omega arith) in
+    visited-err f.instance c.args.walk.now.level f.pushed c.args.walk.now.nodes.items c.args.walk.now.nodes.items old (world c.enter.new.fuel.amount (g.B.Bound.state c.conclude.new.bound) (g.H.Shared.state c.enter.new.shared) c.conclude.new.log) c.from_residual.result c.from_residual.ensures.0
+    (λ e. full-searched f.instance c.requires.ready.valid c.args.walk.now.level c.requires.ready.level f.pushed c.requires.prefix old now c.in-Ticked.target (c.in-Ticked.ensures.entry c.args.log.now)
+    (prefix-is_partial f.instance f.pushed c.requires.prefix) full (g.B.Bound.state c.conclude.new.bound) c.conclude.new.log (Err e) c.in_err-found.ensures)
+
+pub returns-then-depth-order-clause-ready : goal.returns-then-depth-order-clause-ready
+returns-then-depth-order-clause-ready g c = record { valid = c.requires.ready.valid; level = c.requires.ready.level; room = written-length c.args.walk.now.plan.items c.conclude.new.plan c.args.walk.now.plan.len (omega (arith, c.args.walk.now.plan.ok.0)) (c.conclude.auto.plan ∙ ap length c.deref_mut.ensures.value) ∙ c.requires.ready.room }
+
+pub returns-then-depth-order-clause-visited : goal.returns-then-depth-order-clause-visited
+returns-then-depth-order-clause-visited g c =
+    let f = c.args.forward.now in
+    let old = world c.args.fuel.now.amount (g.B.Bound.state c.args.bound.now) (g.H.Shared.state c.args.shared.now) c.args.log.now in
+    let now = world c.enter.new.fuel.amount (g.B.Bound.state c.enter.new.bound) (g.H.Shared.state c.enter.new.shared) c.args.log.now in
+    let full = full-length f.instance f.pushed c.order-order.result.now c.pushed-depth.result.now (c.order-order.ensures ∙ ap work_order c.tables-tables.ensures) c.pushed-depth.ensures.literals (omega arith) in
+    (refl, full-searched f.instance c.requires.ready.valid c.args.walk.now.level c.requires.ready.level f.pushed c.requires.prefix old now c.in-Ticked.target (c.in-Ticked.ensures.entry c.args.log.now)
+    (prefix-is_partial f.instance f.pushed c.requires.prefix) full (g.B.Bound.state c.conclude.new.bound) c.conclude.new.log (Ok c.in_ok-found.found) c.in_ok-found.ensures)
+
+pub bounds-as_slice-path : goal.bounds-as_slice-path
+bounds-as_slice-path g c =
+    path-within c.args.forward.now.instance c.args.forward.now.pushed c.order-order.result.now c.pushed-depth.result.now (c.order-order.ensures ∙ ap work_order c.tables-tables.ensures) c.pushed-depth.ensures.literals c.requires.prefix (omega arith)
+    c.as_slice.result.now (c.as_slice.ensures ∙ ap (λ (i : Instance). i.paths) (c.instance.ensures.value ∙ c.tables-tables.ensures))
+
+pub choice_count-count-requires : goal.choice_count-count-requires
+choice_count-count-requires g c =
+    let same : c.as_slice.result.now ≡ c.args.forward.now.instance.paths = c.as_slice.ensures ∙ ap (λ (i : Instance). i.paths) (c.instance.ensures.value ∙ c.tables-tables.ensures) in
+    path-valid c.args.forward.now.instance c.as_slice.result.now same _ c.index-as_slice-path.result (path-within c.args.forward.now.instance c.args.forward.now.pushed c.order-order.result.now c.pushed-depth.result.now (c.order-order.ensures ∙ ap work_order c.tables-tables.ensures) c.pushed-depth.ensures.literals c.requires.prefix (omega arith) c.as_slice.result.now same) c.index-as_slice-path.is c.requires.ready.valid
+
+pub returns-in_err-push-clause-visited : goal.returns-in_err-push-clause-visited
+returns-in_err-push-clause-visited g c =
+    let f = c.args.forward.now in
+    let old = world c.args.fuel.now.amount (g.B.Bound.state c.args.bound.now) (g.H.Shared.state c.args.shared.now) c.args.log.now in
+    let now = world c.enter.new.fuel.amount (g.B.Bound.state c.enter.new.bound) (g.H.Shared.state c.enter.new.shared) c.args.log.now in
+    visited-err f.instance c.args.walk.now.level f.pushed c.args.walk.now.nodes.items c.push.new.self.items old now c.from_residual-in_err-push.result c.from_residual-in_err-push.ensures.0
+    (λ e. tick-ends f.instance c.requires.ready.valid c.args.walk.now.level c.requires.ready.level f.pushed c.requires.prefix old now c.in-Ticked.target (c.in-Ticked.ensures.entry c.args.log.now) now (keeps-same f.instance f.pushed now) refl refl e)
+
+pub returns-clause-visited : goal.returns-clause-visited
+returns-clause-visited g c =
+    let f = c.args.forward.now in
+    let old = world c.args.fuel.now.amount (g.B.Bound.state c.args.bound.now) (g.H.Shared.state c.args.shared.now) c.args.log.now in
+    let now = world c.enter.new.fuel.amount (g.B.Bound.state c.enter.new.bound) (g.H.Shared.state c.enter.new.shared) c.args.log.now in
+    let ticked = c.in-Ticked.ensures.entry c.args.log.now in
+    let same : c.as_slice.result.now ≡ f.instance.paths = c.as_slice.ensures ∙ ap (λ (i : Instance). i.paths) (c.instance.ensures.value ∙ c.tables-tables.ensures) in
+    let within = path-within f.instance f.pushed c.order-order.result.now c.pushed-depth.result.now (c.order-order.ensures ∙ ap work_order c.tables-tables.ensures) c.pushed-depth.ensures.literals c.requires.prefix (omega arith) c.as_slice.result.now same in
+    record {
+      node = record { tag = c.in-Ticked.target; path = get_or c.order-order.result.now (length c.pushed-depth.result.now) 0; choice = 0; count = c.choice_count-count.result; refs = c.new.result };
+      added = c.in_ok-push.ensures.items;
+      trying = tick-starts f.instance c.requires.ready.valid c.args.walk.now.level c.requires.ready.level f.pushed c.requires.prefix old now c.in-Ticked.target ticked
+          (record { tag = c.in-Ticked.target; path = get_or c.order-order.result.now (length c.pushed-depth.result.now) 0; choice = 0; count = c.choice_count-count.result; refs = c.new.result })
+          (next-at f.instance f.pushed c.order-order.result.now c.pushed-depth.result.now (c.order-order.ensures ∙ ap work_order c.tables-tables.ensures) c.pushed-depth.ensures.literals (omega arith))
+          (c.choice_count-count.ensures.count ∙ path-count f.instance c.as_slice.result.now same _ c.index-as_slice-path.result within c.index-as_slice-path.is)
+          refl refl c.new.ensures;
+      few = omega (arith, c.choice_count-count.ensures.few);
+      took = omega (arith, ticked.took);
+    }

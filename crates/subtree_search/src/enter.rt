@@ -1,0 +1,60 @@
+// What is asked at each prefix before its choices are tried.
+ghost use Rattle.std.specs.Prelude.{◌≤◌};
+ghost use Rattle.fapp_model.specs.Instances.{IsInstance};
+ghost use Rattle.fapp_model.specs.Levels.{levels_of};
+ghost use Rattle.fapp_model.specs.search.Prefixes.{IsPrefix};
+ghost use Rattle.search_log.specs.LogStates.{LogState};
+ghost use Rattle.settle_laws.specs.Worlds.{world};
+ghost use Rattle.subtree_search.specs.Entries.{IsEntry};
+
+use crate::tags::{lesser, level_tag};
+use fapp_model::Tag;
+use forward_count::Forward;
+use search_log::{Bound, Fuel, Ref, Shared};
+use settle_laws::Found;
+
+/// What is known of a prefix before its choices are tried.
+#[derive(Clone, Copy, Debug, PartialEq, Eq)]
+pub enum Entry {
+    /// That it is settled.
+    Decided(Found),
+    /// That a tick was taken, at this target.
+    Ticked(Tag),
+}
+
+/// Reads the bound, looks the prefix up, tests whether it is dead, and takes fuel. The first of these that decides is
+/// the result.
+pub fn enter<B: Bound, H: Shared>(
+    level: u32,
+    forward: &Forward,
+    fuel: &mut Fuel,
+    bound: &mut B,
+    shared: &mut H,
+) -> Entry
+    requires valid { IsInstance forward.now.instance }
+    requires level { level ≤ levels_of forward.now.instance }
+    requires prefix { IsPrefix forward.now.instance forward.now.pushed }
+    requires serves { H.serves shared.old forward.now.instance }
+    ensures serves { H.serves shared.new forward.now.instance }
+    ensures entry { (log : LogState) → IsEntry forward.now.instance level forward.now.pushed (world fuel.old.amount (B.state bound.old) (H.state shared.old) log)
+        (world fuel.new.amount (B.state bound.new) (H.state shared.new) log) result }
+{
+    let seen = bound.now();
+    if seen.code <= level_tag(level).code {
+        return Entry::Decided(Found::Moot { seen });
+    }
+    let target = lesser(seen, level_tag(level + 1));
+    if let Some(cite) = shared.lookup(forward.partial(), target) {
+        return Entry::Decided(Found::Settled {
+            line: Ref::Row(cite.row),
+            tag: target,
+        });
+    }
+    if forward.is_dead(target) {
+        return Entry::Decided(Found::Dead { tag: target });
+    }
+    if !fuel.take() {
+        return Entry::Decided(Found::Spent);
+    }
+    Entry::Ticked(target)
+}

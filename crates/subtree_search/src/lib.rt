@@ -1,0 +1,13 @@
+//! The search of one job.
+#![tactic(auto)]
+
+mod enter;
+mod job;
+mod lines;
+mod node;
+mod offering;
+mod prefix;
+mod tags;
+mod walk;
+
+pub use job::settle;

@@ -1,0 +1,25 @@
+// Tags that the search judges at.
+ghost use Rattle.std.specs.Prelude.{◌≡◌, ◌+◌, ◌≤◌, min};
+ghost use Rattle.fapp_model.specs.declared.level.TheConstants.{MAX_LEVELS};
+ghost use Rattle.settle_laws.specs.Levels.{level_code};
+
+use fapp_model::{Tag, Triple, tag_of};
+
+/// The lesser of two tags.
+pub fn lesser(a: Tag, b: Tag) -> Tag
+    ensures { result.code ≡ min a.code b.code }
+{
+    if b.code < a.code { b } else { a }
+}
+
+/// The tag (level, 0, 0).
+pub fn level_tag(level: u32) -> Tag
+    requires { level ≤ MAX_LEVELS + 1 }
+    ensures { result.code ≡ level_code level }
+{
+    tag_of(Triple {
+        k: level,
+        v: 0,
+        s: 0,
+    })
+}

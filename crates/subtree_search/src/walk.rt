@@ -1,0 +1,180 @@
+// The search from the literals that are pushed on.
+ghost use Rattle.std.specs.Prelude.{◌≡◌, [], IfOk, List, length};
+ghost use Rattle.std.specs.declared.alloc.AllocError.{AllocError};
+ghost use Rattle.fapp_model.specs.declared.literal.Literal.{Literal};
+ghost use Rattle.fapp_model.specs.search.Prefixes.{IsPrefix};
+ghost use Rattle.count_laws.specs.ForwardStates.{with_literals};
+ghost use Rattle.settle_laws.specs.Founds.{Searched};
+ghost use Rattle.settle_laws.specs.OpenNodes.{IsTrying};
+ghost use Rattle.settle_laws.specs.Worlds.{World, world};
+ghost use Rattle.subtree_search.specs.Walks.{IsReady, work_left};
+ghost use Rattle.subtree_search.specs.Steps.{ComesTo, IsAdvanced, IsBack, IsNoted, IsVisited, Lightens, NotesLess};
+
+use crate::enter::{Entry, enter};
+use crate::lines::{add_line, conclude};
+use crate::node::note_choice;
+use fapp_model::{Items, NoMemory, choice_count};
+use forward_count::Forward;
+use search_log::{Bound, Fuel, Log, Shared};
+use settle_laws::{Found, Node};
+use std::alloc::Global;
+
+/// Where a search stands.
+#[derive(Drop)]
+pub struct Walk {
+    pub alloc: Global,
+    /// The job's level.
+    pub level: u32,
+    /// The nodes that are open, from the outermost on.
+    pub nodes: Vec<Node>,
+    /// Room for an assignment: a choice for each path.
+    pub plan: Vec<u16>,
+}
+
+impl Walk {
+    /// No node is open. Room is made for an assignment of so many paths, and for as many nodes.
+    pub fn new(alloc: Global, level: u32, paths: usize) -> Result<Walk, NoMemory>
+        ensures { IfOk result (λ walk. (walk.level ≡ level) × (walk.nodes.items ≡ []) × (length walk.plan.items ≡ paths)) }
+    {
+        let nodes = Vec::with_capacity(alloc, paths)?;
+        let plan = vec![in alloc; 0; paths]?;
+        Ok(Walk {
+            alloc,
+            level,
+            nodes,
+            plan,
+        })
+    }
+}
+
+/// Comes to the prefix that is pushed. Where it isn't settled at once, it is the innermost node from then on.
+fn visit<B: Bound, H: Shared>(
+    walk: &mut Walk,
+    forward: &Forward,
+    fuel: &mut Fuel,
+    bound: &mut B,
+    shared: &mut H,
+    log: &mut Log,
+) -> Result<Option<Found>, NoMemory>
+    requires ready { IsReady forward.now.instance walk.old }
+    requires prefix { IsPrefix forward.now.instance forward.now.pushed }
+    requires serves { H.serves shared.old forward.now.instance }
+    ensures ready { IsReady forward.now.instance walk.new }
+    ensures level { walk.new.level ≡ walk.old.level }
+    ensures serves { H.serves shared.new forward.now.instance }
+    ensures visited { IsVisited forward.now.instance walk.old.level forward.now.pushed walk.old.nodes.items walk.new.nodes.items
+        (world fuel.old.amount (B.state bound.old) (H.state shared.old) log.old) (world fuel.new.amount (B.state bound.new) (H.state shared.new) log.new) result }
+{
+    let target = match enter(walk.level, forward, fuel, bound, shared) {
+        Entry::Decided(found) => return Ok(Some(found)),
+        Entry::Ticked(target) => target,
+    };
+    let tables = forward.tables();
+    let order = tables.order();
+    let depth = forward.pushed().len();
+    if depth >= order.len() {
+        let found = conclude(walk.alloc, &mut walk.plan, forward, bound, log)?;
+        return Ok(Some(found));
+    }
+    let path = order[depth];
+    let count = choice_count(&tables.instance().paths.as_slice()[path as usize]);
+    walk.nodes.push(Node {
+        tag: target,
+        path,
+        choice: 0,
+        count,
+        refs: Items::new(walk.alloc),
+    })?;
+    Ok(None)
+}
+
+/// Tries the innermost node's next choice, or closes it with a line where none is left. None comes where a node more is
+/// open then.
+fn advance<B: Bound, H: Shared>(
+    walk: &mut Walk,
+    forward: &mut Forward,
+    fuel: &mut Fuel,
+    bound: &mut B,
+    shared: &mut H,
+    log: &mut Log,
+) -> Result<Option<Found>, NoMemory>
+    requires ready { IsReady forward.old.instance walk.old }
+    requires serves { H.serves shared.old forward.old.instance }
+    requires trying { (root : List Literal) × (from : World) × IsPrefix forward.old.instance root × IsTrying forward.old.instance walk.old.level root from walk.old.nodes.items forward.old.pushed
+        (world fuel.old.amount (B.state bound.old) (H.state shared.old) log.old) }
+    ensures ready { IsReady forward.old.instance walk.new }
+    ensures level { walk.new.level ≡ walk.old.level }
+    ensures serves { H.serves shared.new forward.old.instance }
+    ensures front { forward.new ≡ with_literals forward.old forward.new.pushed }
+    ensures advanced { (root : List Literal) (from : World) → IsPrefix forward.old.instance root → IsTrying forward.old.instance walk.old.level root from walk.old.nodes.items forward.old.pushed
+        (world fuel.old.amount (B.state bound.old) (H.state shared.old) log.old) → IsAdvanced forward.old.instance walk.old.level root from walk.new.nodes.items forward.new.pushed
+        (world fuel.new.amount (B.state bound.new) (H.state shared.new) log.new) result }
+    ensures lighter { Lightens (work_left fuel.old.amount walk.old.nodes.items) (work_left fuel.new.amount walk.new.nodes.items) result }
+{
+    let Some(node) = walk.nodes.pop() else {
+        unreachable!()
+    };
+    if node.choice >= node.count {
+        let found = add_line(walk.alloc, node.tag, Some(node.path), node.refs, forward, log)?;
+        return Ok(Some(found));
+    }
+    forward.push(node.path, node.choice as u16);
+    walk.nodes.push(node)?;
+    visit(walk, forward, fuel, bound, shared, log)
+}
+
+/// Notes what was found of the choice that was tried at the innermost node. Where no node is open, or the search is
+/// over, it is handed back.
+fn note(walk: &mut Walk, forward: &mut Forward, found: Found) -> Result<Option<Found>, NoMemory>
+    requires ready { IsReady forward.old.instance walk.old }
+    requires coming { (root : List Literal) × (from : World) × (now : World) × IsPrefix forward.old.instance root × ComesTo {E = AllocError} forward.old.instance walk.old.level root from walk.old.nodes.items forward.old.pushed now (Ok found) }
+    ensures ready { IsReady forward.old.instance walk.new }
+    ensures level { walk.new.level ≡ walk.old.level }
+    ensures front { forward.new ≡ with_literals forward.old forward.new.pushed }
+    ensures noted { (root : List Literal) (from now : World) → IsPrefix forward.old.instance root → ComesTo {E = AllocError} forward.old.instance walk.old.level root from walk.old.nodes.items forward.old.pushed now (Ok found) →
+        IsNoted forward.old.instance walk.old.level root from walk.new.nodes.items forward.new.pushed now result }
+    ensures lighter { NotesLess walk.old.nodes.items walk.new.nodes.items result }
+{
+    let Some(mut node) = walk.nodes.pop() else {
+        return Ok(Some(found));
+    };
+    forward.pop();
+    if let Some(end) = note_choice(&mut node, found)? {
+        return Ok(Some(end));
+    }
+    walk.nodes.push(node)?;
+    Ok(None)
+}
+
+/// Searches the prefix that is pushed: its choices, theirs, and so on. The nodes that are open stand in a vector, so it
+/// takes the same stack whatever the number of paths.
+pub fn explore<B: Bound, H: Shared>(
+    walk: &mut Walk,
+    forward: &mut Forward,
+    fuel: &mut Fuel,
+    bound: &mut B,
+    shared: &mut H,
+    log: &mut Log,
+) -> Result<Found, NoMemory>
+    requires ready { IsReady forward.old.instance walk.old }
+    requires empty { walk.old.nodes.items ≡ [] }
+    requires prefix { IsPrefix forward.old.instance forward.old.pushed }
+    requires serves { H.serves shared.old forward.old.instance }
+    ensures serves { H.serves shared.new forward.old.instance }
+    ensures front { forward.new ≡ with_literals forward.old forward.new.pushed }
+    ensures back { IfOk result (λ found. IsBack found forward.old.pushed forward.new.pushed) }
+    ensures searched { Searched forward.old.instance walk.old.level forward.old.pushed (world fuel.old.amount (B.state bound.old) (H.state shared.old) log.old)
+        (world fuel.new.amount (B.state bound.new) (H.state shared.new) log.new) result }
+{
+    if let Some(found) = visit(walk, forward, fuel, bound, shared, log)? {
+        return Ok(found);
+    }
+    loop {
+        let Some(found) = advance(walk, forward, fuel, bound, shared, log)? else {
+            continue;
+        };
+        if let Some(end) = note(walk, forward, found)? {
+            return Ok(end);
+        }
+    }
+}
