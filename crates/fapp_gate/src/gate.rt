@@ -13,7 +13,7 @@ pub trait Gate: Sync {
 }
 
 /// A gate that holds nobody.
-#[derive(Drop)]
+#[derive(Clone, Copy, Debug)]
 pub struct OpenGate;
 
 impl Gate for OpenGate {
@@ -22,7 +22,7 @@ impl Gate for OpenGate {
     fn leave(&self, _job: u32) {}
 }
 
-/// Waits until the flag is set, for so many turns at most. Answers whether it was.
+/// Waits until the flag is set, for so many turns at most, each a look and a yield. Answers whether it was.
 pub(crate) fn waits_for(flag: &AtomicBool, turns: u64) -> bool {
     for _ in 0..turns {
         if flag.load(Ordering::SeqCst) {
@@ -30,5 +30,5 @@ pub(crate) fn waits_for(flag: &AtomicBool, turns: u64) -> bool {
         }
         thread::yield_now();
     }
-    false
+    flag.load(Ordering::SeqCst)
 }

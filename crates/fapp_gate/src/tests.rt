@@ -29,16 +29,18 @@ fn two_threads_meet(rt: HostRuntime) {
 
 #[test]
 fn one_thread_misses(rt: HostRuntime) {
-    let hold = HoldGate::new(0, 1, 100);
-    pass(&hold, 2);
-    assert!(rt; !hold.missed());
-    pass(&hold, 0);
-    assert!(rt; hold.missed());
-    let order = OrderGate::new(0, 1, 100);
-    pass(&order, 2);
-    assert!(rt; !order.missed());
-    pass(&order, 1);
-    assert!(rt; order.missed());
+    for job in [0, 1] {
+        let hold = HoldGate::new(0, 1, 100);
+        pass(&hold, 2);
+        assert!(rt; !hold.missed());
+        pass(&hold, job);
+        assert!(rt; hold.missed());
+        let order = OrderGate::new(0, 1, 100);
+        pass(&order, 2);
+        assert!(rt; !order.missed());
+        pass(&order, job);
+        assert!(rt; order.missed());
+    }
     pass(&OpenGate, 0);
 }
 

@@ -5,7 +5,7 @@ use Rattle.std.proofs.lemmas.List.{append-nil}
 use Rattle.std.proofs.lemmas.List.Concat.{flat_map-append}
 use Rattle.std.proofs.lemmas.List.FromFn.{map-range_with_len_more}
 use Rattle.fapp_gen.specs.Lines.{falling, line_text, numbered, spaced}
-use Rattle.fapp_gen.specs.Generated.{distance_line, domain_lines, first_lines, imperative_line, network_lines, network_text, path_line, record_lines, fixed_by, disturbed_by, offset, reach}
+use Rattle.fapp_gen.specs.Generated.{distance_line, domain_lines, first_lines, imperative_line, network_lines, network_text, path_line, record_lines, fixed_by, disturbed_by, offset, stretch}
 
 abbrev behind_spaces : List (List ℕ) → List ℕ
 behind_spaces fields = flat_map (λ (field : List ℕ). 32 ∷ field) fields
@@ -85,14 +85,14 @@ pub paths_pushed : (old s1 s2 s3 : List ℕ) (further : List (List (List ℕ))) 
 unfolding first_lines
 paths_pushed old s1 s2 s3 further e1 e2 e3 = rw (e3, e2, e1) (simp append_assoc)
 
-pub records_pushed : (number path hub other offset_is reach_is : ℕ) (old s1 s2 s3 s4 : List ℕ) → hub ≡ fixed_by path → other ≡ disturbed_by path → offset_is ≡ offset number path → reach_is ≡ reach number path
+pub records_pushed : (number path hub other offset_is stretch_is : ℕ) (old s1 s2 s3 s4 : List ℕ) → hub ≡ fixed_by path → other ≡ disturbed_by path → offset_is ≡ offset number path → stretch_is ≡ stretch number path
     → s1 ≡ old ++ line_text (imperative_line (codes "F") hub path offset_is)
     → s2 ≡ s1 ++ line_text (imperative_line (codes "P") hub path 0)
-    → s3 ≡ s2 ++ line_text (distance_line (codes "CE") other path (falling (2000 + reach_is) 10))
-    → s4 ≡ s3 ++ line_text (distance_line (codes "CD") other path (falling (1970 + reach_is) 10))
+    → s3 ≡ s2 ++ line_text (distance_line (codes "CE") other path (falling (2000 + stretch_is) 10))
+    → s4 ≡ s3 ++ line_text (distance_line (codes "CD") other path (falling (1970 + stretch_is) 10))
     → s4 ≡ old ++ flat_map line_text (record_lines number path)
 unfolding record_lines
-records_pushed number path hub other offset_is reach_is old s1 s2 s3 s4 eh eo en er e1 e2 e3 e4 =
+records_pushed number path hub other offset_is stretch_is old s1 s2 s3 s4 eh eo en er e1 e2 e3 e4 =
     rw (e4, e3, e2, e1, eh, eo, en, er) (regroup old _ _ _ _)
   where
     regroup : (old a b c d : List ℕ) → (((old ++ a) ++ b) ++ c) ++ d ≡ old ++ (a ++ (b ++ (c ++ (d ++ []))))

@@ -33,9 +33,10 @@ disturbed_by path = if is_odd path then 2 else 1
 abbrev pub offset : ℕ → ℕ → ℕ
 offset number path = 2000 + 10 * ((number + path) % 4)
 
--- how far it must lie from the one that disturbs it, at level 0
-abbrev pub reach : ℕ → ℕ → ℕ
-reach number path = 10 * (number * path % 10)
+-- by how much more than 2000 (equal polarizations) or 1970 (different ones) it must lie from the one that disturbs it, at
+-- level 0
+abbrev pub stretch : ℕ → ℕ → ℕ
+stretch number path = 10 * (number * path % 10)
 
 -- an imperative record of two paths that holds where their frequencies (F) lie so far apart, or where their polarizations (P)
 -- are equal
@@ -46,8 +47,8 @@ imperative_line kind i j n = codes "CI" ∷ decimal i ∷ decimal j ∷ kind ∷
 unfoldable pub record_lines : ℕ → ℕ → List (List (List ℕ))
 record_lines number path = imperative_line (codes "F") (fixed_by path) path (offset number path)
     ∷ imperative_line (codes "P") (fixed_by path) path 0
-    ∷ distance_line (codes "CE") (disturbed_by path) path (falling (2000 + reach number path) 10)
-    ∷ distance_line (codes "CD") (disturbed_by path) path (falling (1970 + reach number path) 10) ∷ []
+    ∷ distance_line (codes "CE") (disturbed_by path) path (falling (2000 + stretch number path) 10)
+    ∷ distance_line (codes "CD") (disturbed_by path) path (falling (1970 + stretch number path) 10) ∷ []
 
 -- all lines of the network of a number and so many paths, at least two
 unfoldable pub network_lines : ℕ → ℕ → List (List (List ℕ))

@@ -3,7 +3,7 @@
 ghost use Rattle.std.specs.Prelude.{◌≡◌, ◌++◌, ◌+◌, ◌-◌, ◌*◌, ◌∷◌, ◌≤◌, [], map, IfOk, OnOk, codes, flat_map};
 ghost use Rattle.std.specs.List.{range_with_len};
 ghost use Rattle.fapp_gen.specs.Lines.{falling, line_text, numbered};
-ghost use Rattle.fapp_gen.specs.Generated.{distance_line, disturbed_by, domain_lines, first_lines, fixed_by, is_odd, network_lines, network_text, offset, path_line, reach, record_lines};
+ghost use Rattle.fapp_gen.specs.Generated.{distance_line, disturbed_by, domain_lines, first_lines, fixed_by, is_odd, network_lines, network_text, offset, path_line, stretch, record_lines};
 
 use crate::line::{push_distances, push_imperative, push_line};
 use fapp_text::NoMemory;
@@ -94,13 +94,13 @@ fn push_path_records(out: &mut Vec<u8>, number: u64, path: u64) -> Result<(), No
     ensures { OnOk result (out.new.items ≡ out.old.items ++ flat_map line_text (record_lines number path)) }
 {
     let offset = 2000 + 10 * ((number + path) % 4);
-    let reach = 10 * (number * path % 10);
+    let stretch = 10 * (number * path % 10);
     let fixed = (fixed_by(path), path);
     let disturbed = (disturbed_by(path), path);
     push_imperative(out, b"F", fixed, offset)?;
     push_imperative(out, b"P", fixed, 0)?;
-    push_distances(out, b"CE", disturbed, 2000 + reach, 10)?;
-    push_distances(out, b"CD", disturbed, 1970 + reach, 10)?;
+    push_distances(out, b"CE", disturbed, 2000 + stretch, 10)?;
+    push_distances(out, b"CD", disturbed, 1970 + stretch, 10)?;
     Ok(())
 }
 

@@ -1,9 +1,6 @@
 ghost use Rattle.std.specs.Prelude.{◌≤◌};
 
-mod arcs;
 mod checks;
-mod plans;
-mod tables;
 
 use super::*;
 use crate::enumeration::least_plan;
@@ -13,32 +10,11 @@ use fapp_model::Triple;
 use record_reader::read_instance;
 use std::alloc::Global;
 use std::test::Fail;
+use worked_networks::{ALIKE, CHAIN, FALLING, FREE, PLAIN, SMALL, TIED, TORN};
 
 const WORDS: &str = "solve --answer-only";
 
-const PLAIN: &str =
-    "DM 1 10\nDM 2 10\nDM 2 20\nDM 2 30\nTR 1 1 1\nTR 2 2 1\nCE 1 2 20 20 20 20 20 20 20 20 20 20 20\n";
-
 const PLAIN_PLAN: &str = "AL 1 10 1\nAL 2 30 1\n";
-
-const CHAIN: &str = "DM 1 10\nDM 2 10\nDM 2 20\nTR 1 1 1\nTR 2 2 1\nCI 1 2 F E 10\n";
-
-const TORN: &str = "DM 1 10\nDM 1 20\nTR 1 1 1\nTR 2 1 1\nCI 1 2 F E 10\nCI 1 2 F I 10\n";
-
-const FALLING: &str =
-    "DM 1 10\nDM 2 10\nDM 2 20\nTR 1 1 1\nTR 2 2 1\nCE 1 2 20 18 16 14 12 10 8 6 4 2 0\n";
-
-const ALIKE: &str =
-    "DM 1 10\nDM 1 20\nTR 1 1 1\nTR 2 1 1\nTR 3 1 1\nCE 1 2 10 10 10 10 10 10 10 10 10 10 10\nCE 1 3 10 10 10 10 10 10 10 10 10 10 10\nCE 2 3 10 10 10 10 10 10 10 10 10 10 10\n";
-
-const FREE: &str =
-    "DM 1 10\nTR 1 1 1\nTR 2 1 0\nCE 1 2 50 50 50 50 50 50 50 50 50 50 50\nCD 1 2 0 0 0 0 0 0 0 0 0 0 0\n";
-
-const TIED: &str =
-    "DM 1 10\nTR 1 1 1\nTR 2 1 0\nCE 1 2 50 50 50 50 50 50 50 50 50 50 50\nCD 1 2 0 0 0 0 0 0 0 0 0 0 0\nCI 1 2 P E 0\n";
-
-const SMALL: &str =
-    "DM 1 1000\nDM 1 1040\nDM 2 1100\nDM 2 1140\nDM 2 1180\nDM 3 1000\nDM 3 1040\nDM 3 1080\nTR 1 1 1\nTR 2 2 1\nTR 3 3 1\nTR 4 2 0\nCI 1 2 F E 100\nCI 3 4 F E 100\nCI 1 3 F I 0\nCE 1 3 100 95 90 85 80 75 70 65 60 55 50\nCD 1 3 60 56 52 48 44 40 36 32 28 24 20\nCE 2 4 100 95 90 85 80 75 70 65 60 55 50\nCD 2 4 60 56 52 48 44 40 36 32 28 24 20\n";
 
 const CHECKED: &str = "--\n--\nBEST 0 0 0\nC 0 0 0 0 0\nEND\n";
 

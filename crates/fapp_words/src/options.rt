@@ -11,7 +11,7 @@ use fapp_text::number;
 pub struct SolveOptions {
     /// The threads that search side by side, 1 to 32.
     pub workers: u32,
-    /// The ticks of a job, 0 to 1,000,000. `None` where no fuel is named.
+    /// The most ticks of a job, 0 to 1,000,000. `None` where no fuel is named: then it is 1,000 and the number of paths.
     pub fuel: Option<u32>,
     /// The most prefixes that the search is split into, 1 to 4,096.
     pub split: u32,

@@ -6,7 +6,6 @@ ghost use Rattle.fapp_model.specs.search.Jobs.{job_count};
 ghost use Rattle.fapp_plan.specs.Outcomes.{IsOutcomeFor, IsPlacedFor};
 
 use super::tables::read;
-use super::{ALIKE, PLAIN, SMALL};
 use cert_lines::verdict_text;
 use fapp_model::{Instance, Literal, NoMemory, Tag, Triple, is_tag, levels, tag_of};
 use fapp_plan::{Collected, Outcome, Plan, Ref};
@@ -14,6 +13,7 @@ use fapp_tables::Tables;
 use std::alloc::Global;
 use std::process::Abort;
 use std::test::Fail;
+use worked_networks::{ALIKE, PLAIN, SMALL};
 
 const SINGLE: &str = "DM 1 5\nTR 9 1 -1\n";
 

@@ -2,12 +2,12 @@ ghost use Rattle.std.specs.Prelude.{◌≤◌, length, IfOk, IsTrue};
 ghost use Rattle.fapp_model.specs.Instances.{IsInstance};
 ghost use Rattle.fapp_model.specs.search.Partials.{IsLiteral, literal};
 
-use super::SMALL;
 use fapp_model::{Instance, choice_count};
 use fapp_tables::Tables;
 use record_reader::read_instance;
 use std::alloc::Global;
 use std::test::Fail;
+use worked_networks::SMALL;
 
 // Records of one pair, some of which name the second path first.
 const TURNED: &str =

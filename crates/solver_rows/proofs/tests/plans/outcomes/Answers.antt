@@ -2,7 +2,7 @@ use Rattle.std.proofs.Common.{◌≡◌, ◌≢◌, get_or, All, Some, None, ap,
 use Rattle.std.proofs.lemmas.List.{length-set}
 use Rattle.std.proofs.lemmas.List.Elements.{All-set}
 use Rattle.fapp_plan.specs.Outcomes.{IsPlacedFor}
-use Rattle.fapp_run.proofs.tests.plans.outcomes.Goals as goal
+use Rattle.solver_rows.proofs.tests.plans.outcomes.Goals as goal
 
 pub loop-id-preserved : goal.loop-id-preserved
 loop-id-preserved c =

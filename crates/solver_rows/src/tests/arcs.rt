@@ -1,9 +1,9 @@
 use super::tables::{is_literal, read};
-use super::{ALIKE, CHAIN, FALLING, FREE, TIED, TORN};
 use arc_levels::{ArcTable, Rule};
 use fapp_model::{Literal, Triple, triple_of};
 use fapp_tables::Tables;
 use std::test::Fail;
+use worked_networks::{ALIKE, CHAIN, FALLING, FREE, TIED, TORN};
 
 // Texts; at how many levels some path has no choice in the arcs; the choices that are outside some level's arcs, with
 // the number of these levels before the path and the choice; and choices within all arcs.

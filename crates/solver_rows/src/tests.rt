@@ -1,0 +1,3 @@
+mod arcs;
+mod plans;
+mod tables;
