@@ -40,9 +40,11 @@ returns-then-depth-order-clause-visited g c =
     let f = c.args.forward.now in
     let old = world c.args.fuel.now.amount (g.B.Bound.state c.args.bound.now) (g.H.Shared.state c.args.shared.now) c.args.log.now in
     let now = world c.enter.new.fuel.amount (g.B.Bound.state c.enter.new.bound) (g.H.Shared.state c.enter.new.shared) c.args.log.now in
-    let full = full-length f.instance f.pushed c.order-order.result.now c.pushed-depth.result.now (c.order-order.ensures ∙ ap work_order c.tables-tables.ensures) c.pushed-depth.ensures.literals (omega arith) in
-    (refl, full-searched f.instance c.requires.ready.valid c.args.walk.now.level c.requires.ready.level f.pushed c.requires.prefix old now c.in-Ticked.target (c.in-Ticked.ensures.entry c.args.log.now)
-    (prefix-is_partial f.instance f.pushed c.requires.prefix) full (g.B.Bound.state c.conclude.new.bound) c.conclude.new.log (Ok c.in_ok-found.found) c.in_ok-found.ensures)
+    let full = full-length f.instance f.pushed c.order-order.result.now c.pushed-depth.result.now (c.order-order.ensures ∙ ap work_order c.tables-tables.ensures) c.pushed-depth.ensures.literals (omega arith) in (
+      refl,
+      full-searched f.instance c.requires.ready.valid c.args.walk.now.level c.requires.ready.level f.pushed c.requires.prefix old now c.in-Ticked.target (c.in-Ticked.ensures.entry c.args.log.now)
+          (prefix-is_partial f.instance f.pushed c.requires.prefix) full (g.B.Bound.state c.conclude.new.bound) c.conclude.new.log (Ok c.in_ok-found.found) c.in_ok-found.ensures,
+    )
 
 pub bounds-as_slice-path : goal.bounds-as_slice-path
 bounds-as_slice-path g c =
