@@ -1,3 +1,4 @@
 mod arcs;
+mod counts;
 mod plans;
 mod tables;
