@@ -2,6 +2,7 @@ ghost use Rattle.std.specs.Prelude.{◌≤◌};
 
 mod arcs;
 mod checks;
+mod jobs;
 mod tables;
 
 use super::*;

@@ -1,5 +1,5 @@
 -- Lists that have all of others, and lines that are added.
-use Rattle.std.proofs.Common.{◌≡◌, ℕ, List, [], ◌∷◌, ◌++◌, length, All, AllPairs, Contains, refl, sym, ap, ◌∙◌, ⊎_elim, append_assoc, append-nil}
+use Rattle.std.proofs.Common.{◌≡◌, List, [], ◌∷◌, ◌++◌, All, AllPairs, Contains, sym, ap, ◌∙◌, ⊎_elim, append_assoc, append-nil}
 use Rattle.std.proofs.lemmas.List.Elements.{All-append, All-contains, All-cons, All-nil, Contains-append_cases}
 use Rattle.fapp_model.proofs.InOrder.{pairs-append}
 use Rattle.fapp_model.proofs.Members.{All-from_members, at_front, behind}

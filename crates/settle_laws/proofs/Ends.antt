@@ -1,8 +1,8 @@
 -- What is found of some literals when a line is added.
-use Rattle.std.proofs.Common.{◌≡◌, ℕ, ◌+◌, ◌<◌, ◌≤◌, false, List, [], ◌∷◌, ◌++◌, length, All, Contains, Option, Some, None, Result, Ok, Err, refl, sym, ap, subst, ◌∙◌, inl, inr, ⊎_elim, arith}
+use Rattle.std.proofs.Common.{◌≡◌, ℕ, ◌+◌, ◌<◌, ◌≤◌, List, [], ◌∷◌, ◌++◌, length, All, Contains, Some, Result, Ok, Err, refl, sym, ap, subst, ◌∙◌, inl, inr, ⊎_elim, arith}
 use Rattle.std.specs.List.{slice_get}
 use Rattle.std.proofs.lemmas.List.{length-append}
-use Rattle.std.proofs.lemmas.List.Elements.{All-contains, All-nil, Contains-append_left}
+use Rattle.std.proofs.lemmas.List.Elements.{All-nil, Contains-append_left}
 use Rattle.fapp_model.specs.declared.instance.Instance.{Instance}
 use Rattle.fapp_model.specs.declared.literal.Literal.{Literal}
 use Rattle.fapp_model.specs.declared.tag.Tag.{Tag}
@@ -14,7 +14,7 @@ use Rattle.fapp_model.specs.Levels.{levels_of}
 use Rattle.fapp_model.specs.Tags.{IsTagOf, code_of, triple_from}
 use Rattle.fapp_model.specs.search.Dead.{Dead}
 use Rattle.fapp_model.specs.search.Implied.{Implied}
-use Rattle.fapp_model.specs.search.Partials.{IsPartial, names}
+use Rattle.fapp_model.specs.search.Partials.{IsPartial}
 use Rattle.fapp_model.specs.search.Prefixes.{IsPrefix}
 use Rattle.fapp_model.specs.search.WorkOrder.{work_order}
 use Rattle.fapp_model.proofs.Members.{All-from_members}
@@ -23,26 +23,26 @@ use Rattle.dead_laws.proofs.ImpliedLemmas.{Implied-branch, Implied-more}
 use Rattle.log_laws.specs.declared.line.ChoiceRef.{ChoiceRef}
 use Rattle.log_laws.specs.declared.line.LogLine.{LogLine}
 use Rattle.log_laws.specs.declared.line.Ref.TheVariants.{Own}
-use Rattle.log_laws.specs.Contents.{KnownRow, content_of}
+use Rattle.log_laws.specs.Contents.{content_of}
 use Rattle.log_laws.specs.GoodLines.{IsGoodLine}
 use Rattle.log_laws.specs.Segments.{IsGoodLog}
 use Rattle.log_laws.proofs.Segmenting.{log-push}
-use Rattle.search_log.specs.Bounds.{BoundState, floor}
+use Rattle.search_log.specs.Bounds.{BoundState}
 use Rattle.search_log.specs.LogStates.{LogState}
 use Rattle.search_log.specs.Logs.{with_line}
 use Rattle.search_log.specs.Shares.{SharedState, known}
 use Rattle.settle_laws.specs.declared.found.Found.{Found}
-use Rattle.settle_laws.specs.declared.found.Found.TheVariants.{Dead as FoundDead, Settled}
+use Rattle.settle_laws.specs.declared.found.Found.TheVariants.{Settled}
 use Rattle.settle_laws.specs.declared.node.Node.{Node}
-use Rattle.settle_laws.specs.Founds.{IsHigh, IsOpen, IsRefuted, NoneWithin, Searched}
+use Rattle.settle_laws.specs.Founds.{IsHigh, IsRefuted, Searched}
 use Rattle.settle_laws.specs.Levels.{level_code}
-use Rattle.settle_laws.specs.Lines.{AddsLine, AreSorted, Concludes, IsConcluded, IsLined, Offered}
+use Rattle.settle_laws.specs.Lines.{AddsLine, AreSorted, Concludes, IsConcluded, IsLined}
 use Rattle.settle_laws.specs.Ticked.{IsTicked}
 use Rattle.settle_laws.specs.Ticks.{Ticks, TicksBelow}
 use Rattle.settle_laws.specs.Trying.{AreTriedChoices, IsChild, Trying}
 use Rattle.settle_laws.specs.Worlds.{IsKeptRight, IsLeastOffered, IsPlain, Keeps, KeepsAtMost, OffersCost, World, world}
-use Rattle.settle_laws.proofs.Adding.{gains-none, gains-one, gains-trans, has-same}
-use Rattle.settle_laws.proofs.FullPrefixes.{cost-implied, cost-own, dead-at-cost}
+use Rattle.settle_laws.proofs.Adding.{gains-none, gains-one, gains-trans}
+use Rattle.settle_laws.proofs.FullPrefixes.{cost-own, dead-at-cost}
 use Rattle.settle_laws.proofs.Keeping.{keeps-same, keeps-trans}
 use Rattle.settle_laws.proofs.LineParts.{branch-good, count-good}
 use Rattle.settle_laws.proofs.NextPaths.{next-apart, next-small}

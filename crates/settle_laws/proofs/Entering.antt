@@ -1,5 +1,5 @@
 -- What is known before a node's choices are tried.
-use Rattle.std.proofs.Common.{◌≡◌, ℕ, ◌+◌, ◌<◌, ◌≤◌, min, List, All, Contains, Option, Some, None, Result, Ok, refl, sym, ap, subst, inl, ⊎_elim, arith}
+use Rattle.std.proofs.Common.{◌≡◌, ℕ, ◌+◌, ◌<◌, ◌≤◌, min, List, All, Contains, Option, Some, None, Ok, refl, sym, subst, inl, ⊎_elim, arith}
 use Rattle.std.proofs.lemmas.List.Elements.{All-contains, Contains-append_cases}
 use Rattle.fapp_model.specs.declared.instance.Instance.{Instance}
 use Rattle.fapp_model.specs.declared.literal.Literal.{Literal}
@@ -13,14 +13,13 @@ use Rattle.fapp_model.specs.search.Prefixes.{IsPrefix}
 use Rattle.fapp_model.proofs.Members.{All-from_members}
 use Rattle.nogood.specs.Partials.{Gives}
 use Rattle.log_laws.specs.declared.line.Ref.TheVariants.{Row}
-use Rattle.log_laws.specs.Contents.{KnownRow, known_row}
+use Rattle.log_laws.specs.Contents.{KnownRow}
 use Rattle.log_laws.proofs.Segmenting.{log-more}
 use Rattle.search_log.specs.declared.log.KeptPlan.{KeptPlan}
 use Rattle.search_log.specs.declared.shared.Cite.{Cite}
 use Rattle.search_log.specs.Bounds.{BoundState, Tells, floor, lowest}
 use Rattle.search_log.specs.LogStates.{LogState}
 use Rattle.search_log.specs.Shares.{Fits, IsCiteOf, Looks, SharedState, known, row_content}
-use Rattle.settle_laws.specs.declared.found.Found.{Found}
 use Rattle.settle_laws.specs.declared.found.Found.TheVariants.{Dead as FoundDead, Settled, Moot, Spent}
 use Rattle.settle_laws.specs.Founds.{IsHigh, IsOpen, NoneWithin, Searched}
 use Rattle.settle_laws.specs.Levels.{level_code}

@@ -1,15 +1,13 @@
 -- Prefixes that name every path, and the plan that they are.
-use Rattle.std.proofs.Common.{None, ◌≡◌, ℕ, ◌<◌, ◌≤◌, true, eqb, List, [], ◌∷◌, length, Contains, slice_index, sym, ap, subst, ◌∙◌, inl, inr, ⊎_elim, arith}
+use Rattle.std.proofs.Common.{◌≡◌, ℕ, ◌<◌, ◌≤◌, eqb, List, [], ◌∷◌, length, Contains, slice_index, sym, ap, subst, ◌∙◌, inl, inr, ⊎_elim, arith}
 use Rattle.std.proofs.lemmas.Bool.{cases_lt, eq-eqb}
 use Rattle.std.proofs.lemmas.List.{same_lists, get_or_default}
 use Rattle.std.proofs.lemmas.List.Elements.{All-contains}
 use Rattle.fapp_model.specs.declared.instance.Instance.{Instance}
 use Rattle.fapp_model.specs.declared.literal.Literal.{Literal}
-use Rattle.fapp_model.specs.declared.tag.Tag.{Tag}
 use Rattle.fapp_model.specs.declared.triple.Triple.{Triple}
 use Rattle.fapp_model.specs.Assignments.{IsAssignment}
 use Rattle.fapp_model.specs.Costs.{cost}
-use Rattle.fapp_model.specs.InstanceTags.{IsTagFor}
 use Rattle.fapp_model.specs.Instances.{IsInstance}
 use Rattle.fapp_model.specs.Least.{IsFeasible}
 use Rattle.fapp_model.specs.Levels.{levels_of}
@@ -17,7 +15,7 @@ use Rattle.fapp_model.specs.Tags.{IsTagOf, code_of, triple_from}
 use Rattle.fapp_model.specs.Triples.{IsAtMost, IsBelow}
 use Rattle.fapp_model.specs.search.Dead.{Dead}
 use Rattle.fapp_model.specs.search.Implied.{Implied}
-use Rattle.fapp_model.specs.search.Partials.{Extends, IsPartial, names}
+use Rattle.fapp_model.specs.search.Partials.{Extends, IsPartial}
 use Rattle.fapp_model.specs.search.Prefixes.{IsAlong, IsPrefix}
 use Rattle.fapp_model.specs.search.WorkOrder.{work_order}
 use Rattle.fapp_model.proofs.Anys.{any-member}

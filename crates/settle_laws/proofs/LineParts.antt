@@ -1,19 +1,18 @@
 -- A line on the literals that are pushed is good, where what it says holds of them.
-use Rattle.std.proofs.Common.{◌≡◌, ◌≢◌, ℕ, ◌<◌, ◌≤◌, true, false, eqb, List, [], ◌∷◌, length, get_or, All, AllPairs, Contains, IsTrue, Option, Some, None, refl, sym, ap, subst, ◌∙◌, inl, inr, ⊎_elim, arith}
-use Rattle.std.specs.List.{AllZip, list_any}
+use Rattle.std.proofs.Common.{◌≡◌, ◌≢◌, ℕ, ◌<◌, ◌≤◌, true, false, eqb, List, [], ◌∷◌, length, get_or, All, Contains, IsTrue, Some, None, refl, sym, subst, ◌∙◌, inl, inr, ⊎_elim}
+use Rattle.std.specs.List.{AllZip}
 use Rattle.std.proofs.lemmas.Bool.{and_from, eq-eqb, true≢false}
-use Rattle.std.proofs.lemmas.List.Elements.{All-contains, All-cons, All-head, All-nil, All-tail, Contains-get_or}
+use Rattle.std.proofs.lemmas.List.Elements.{All-contains, All-cons, All-head, All-nil, All-tail}
 use Rattle.std.proofs.lemmas.List.Sums.{list_all-from_AllPass}
 use Rattle.fapp_model.specs.declared.instance.Instance.{Instance}
 use Rattle.fapp_model.specs.declared.literal.Literal.{Literal}
-use Rattle.fapp_model.specs.declared.tag.Tag.{Tag}
 use Rattle.fapp_model.specs.Assignments.{count_at}
 use Rattle.fapp_model.specs.InstanceTags.{IsTagFor}
 use Rattle.fapp_model.specs.Instances.{IsInstance}
 use Rattle.fapp_model.specs.Tags.{mode_level, triple_from}
 use Rattle.fapp_model.specs.search.Arcs.{OutsideArc}
-use Rattle.fapp_model.specs.search.Dead.{Dead, DeadBy}
-use Rattle.fapp_model.specs.search.Partials.{AreLiterals, HasAll, IsPartial, literal, names}
+use Rattle.fapp_model.specs.search.Dead.{Dead}
+use Rattle.fapp_model.specs.search.Partials.{HasAll, IsPartial, literal, names}
 use Rattle.fapp_model.proofs.Anys.{any-member, no-member, none-member}
 use Rattle.fapp_model.proofs.Members.{All-from_members}
 use Rattle.cert_lines.specs.acceptance.Contained.{has, has_all, has_all_but_one, is_same}
@@ -23,7 +22,7 @@ use Rattle.dead_laws.proofs.ExampleTests.{one-more}
 use Rattle.log_laws.specs.declared.line.ChoiceRef.{ChoiceRef}
 use Rattle.log_laws.specs.declared.line.LogLine.{LogLine}
 use Rattle.log_laws.specs.Contents.{Cites, Content, KnownRow}
-use Rattle.log_laws.specs.GoodLines.{AreRefs, IsBranch, IsChildOf, IsCount, IsGoodLine, IsOutside, IsSettled, PassesBy}
+use Rattle.log_laws.specs.GoodLines.{AreRefs, IsBranch, IsChildOf, IsCount, IsGoodLine, IsOutside, PassesBy}
 use Rattle.log_laws.proofs.Implying.{lits-partial}
 use Rattle.settle_laws.specs.Lines.{AreSorted}
 use Rattle.settle_laws.specs.Trying.{AreTriedChoices, IsChild}

@@ -1,5 +1,5 @@
 -- The line of a prefix that is dead at once.
-use Rattle.std.proofs.Common.{◌≡◌, ℕ, ◌+◌, ◌-◌, ◌<◌, ◌≤◌, max, List, [], ◌∷◌, ◌++◌, length, None, Some, Result, Ok, Err, refl, sym, ap, subst, ◌∙◌, inl, inr, arith}
+use Rattle.std.proofs.Common.{◌≡◌, ℕ, ◌+◌, ◌≤◌, List, [], ◌∷◌, ◌++◌, length, None, Result, Ok, Err, refl, sym, ap, subst, ◌∙◌, inl, inr, arith}
 use Rattle.fapp_model.specs.declared.instance.Instance.{Instance}
 use Rattle.fapp_model.specs.declared.literal.Literal.{Literal}
 use Rattle.fapp_model.specs.declared.tag.Tag.{Tag}
@@ -12,18 +12,16 @@ use Rattle.fapp_model.specs.search.Implied.{Implied}
 use Rattle.fapp_model.specs.search.Partials.{IsPartial}
 use Rattle.dead_laws.proofs.DeadImplied.{dead-implied}
 use Rattle.dead_laws.proofs.ImpliedLemmas.{Implied-more}
-use Rattle.log_laws.specs.GoodLines.{IsGoodLine}
 use Rattle.log_laws.specs.declared.line.Ref.{Ref}
 use Rattle.log_laws.specs.declared.line.Ref.TheVariants.{Own, Row}
 use Rattle.search_log.specs.LogStates.{LogState}
 use Rattle.search_log.specs.Shares.{known}
 use Rattle.settle_laws.specs.declared.found.Found.{Found}
 use Rattle.settle_laws.specs.declared.found.Found.TheVariants.{Dead as FoundDead, Settled, Moot, Spent}
-use Rattle.settle_laws.specs.Founds.{IsFoundBy, IsLastRef, Searched, refused}
-use Rattle.settle_laws.specs.Levels.{level_code}
+use Rattle.settle_laws.specs.Founds.{IsFoundBy, IsLastRef, Searched}
 use Rattle.settle_laws.specs.Lined.{IsAtMostCount, IsLinedBy, IsNewRef, Lined}
 use Rattle.settle_laws.specs.Lines.{AddsLine, IsLined}
-use Rattle.settle_laws.specs.Worlds.{Keeps, World, world}
+use Rattle.settle_laws.specs.Worlds.{World, world}
 use Rattle.settle_laws.proofs.Ends.{line-adds, line-keeps, line-last, line-refutes}
 use Rattle.settle_laws.proofs.Entering.{floor-le}
 use Rattle.settle_laws.proofs.LineParts.{count-good}

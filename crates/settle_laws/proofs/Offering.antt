@@ -1,5 +1,5 @@
 -- A cost that is kept and then offered.
-use Rattle.std.proofs.Common.{◌≡◌, ◌⊎◌, ℕ, ◌<◌, ◌≤◌, min, List, [], ◌++◌, length, Option, Some, None, Result, Ok, Err, IsTrue, refl, sym, ap, subst, ◌∙◌, inl, inr, ⊎_elim, arith, append-nil}
+use Rattle.std.proofs.Common.{◌≡◌, ◌⊎◌, ℕ, ◌<◌, ◌≤◌, min, List, [], Option, Some, None, Result, Ok, Err, IsTrue, refl, sym, ap, subst, ◌∙◌, inl, inr, ⊎_elim, arith, append-nil}
 use Rattle.std.proofs.lemmas.Bool.{cases_lt, cases_order}
 use Rattle.fapp_model.specs.declared.instance.Instance.{Instance}
 use Rattle.fapp_model.specs.declared.level.TheConstants.{MAX_LEVELS}
@@ -21,12 +21,12 @@ use Rattle.log_laws.proofs.CodeOrder.{below-codes, codes-at_most}
 use Rattle.search_log.specs.declared.log.KeptPlan.{KeptPlan}
 use Rattle.search_log.specs.Bounds.{BoundState, Offers, floor, lowest, with_offer}
 use Rattle.search_log.specs.LogStates.{LogState}
-use Rattle.search_log.specs.Logs.{IsBetter, KeepsBest, with_best}
+use Rattle.search_log.specs.Logs.{IsBetter, KeepsBest}
 use Rattle.search_log.specs.Shares.{SharedState, known}
 use Rattle.settle_laws.specs.declared.found.Found.{Found}
 use Rattle.settle_laws.specs.Lines.{IsConcluded, IsLined, Offered}
-use Rattle.settle_laws.specs.Worlds.{IsKeptRight, IsLeastOffered, Keeps, KeepsAtMost, OffersCost, world}
-use Rattle.settle_laws.proofs.Adding.{gains-none, has-same}
+use Rattle.settle_laws.specs.Worlds.{IsKeptRight, IsLeastOffered, Keeps, KeepsAtMost, world}
+use Rattle.settle_laws.proofs.Adding.{has-same}
 use Rattle.settle_laws.proofs.FullPrefixes.{cost-back, not-below}
 use Rattle.settle_laws.proofs.TagCodes.{same-triple}
 

@@ -1,5 +1,5 @@
 -- Nodes that are open one below the other.
-use Rattle.std.proofs.Common.{◌≡◌, ℕ, ◌<◌, List, [], ◌∷◌, ◌++◌, Result, subst}
+use Rattle.std.proofs.Common.{ℕ, ◌<◌, List, [], ◌∷◌, ◌++◌, Result, subst}
 use Rattle.fapp_model.specs.declared.instance.Instance.{Instance}
 use Rattle.fapp_model.specs.declared.literal.Literal.{Literal}
 use Rattle.fapp_model.specs.search.Partials.{literal}
@@ -43,9 +43,13 @@ module _ (instance : Instance) (level : ℕ) where
   -- with the prefix that the literals are
   pub open-prefix : (P : List Literal → World → Type 0) (nodes : List Node) (literals : List Literal) (old : World) → IsPrefix instance literals → OpenTo P instance level literals old nodes → OpenTo (λ reached entered. IsPrefix instance reached × P reached entered) instance level literals old nodes
   open-prefix P [] literals old prefix h = (prefix, h)
-  open-prefix P (node ∷ more) literals old prefix h = (h.0, h.1, h.2,
-      open-prefix P more (literals ++ literal node.path node.choice ∷ []) h.0
-      (next-prefix instance literals prefix node.path h.1.next node.choice (subst (λ n. node.choice < n) h.1.counted h.2)) h.3)
+  open-prefix P (node ∷ more) literals old prefix h = (
+    h.0,
+    h.1,
+    h.2,
+    open-prefix P more (literals ++ literal node.path node.choice ∷ []) h.0
+        (next-prefix instance literals prefix node.path h.1.next node.choice (subst (λ n. node.choice < n) h.1.counted h.2)) h.3,
+  )
 
   -- what doesn't speak of the innermost literals
   pub open-out : (Q : Type 0) (nodes : List Node) (literals : List Literal) (old : World) → OpenTo (λ reached entered. Q) instance level literals old nodes → Q

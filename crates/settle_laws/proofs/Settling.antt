@@ -1,7 +1,6 @@
 -- What a job comes to, once its line was offered or its lines were cut.
-use Rattle.std.proofs.Common.{◌≡◌, ◌⊎◌, ℕ, ◌+◌, ◌-◌, ◌<◌, ◌≤◌, max, true, List, [], ◌∷◌, ◌++◌, length, take, drop, All, Contains, Option, Some, Result, Ok, Err, refl, sym, ap, subst, ◌∙◌, inl, inr, ⊎_elim, arith, append-nil}
+use Rattle.std.proofs.Common.{◌≡◌, ℕ, ◌-◌, ◌<◌, ◌≤◌, max, List, [], ◌∷◌, ◌++◌, length, take, drop, All, Contains, Some, Result, Ok, Err, refl, sym, ap, subst, ◌∙◌, inl, inr, ⊎_elim, arith, append-nil}
 use Rattle.std.specs.List.{slice_get}
-use Rattle.std.specs.Result.{IsOk}
 use Rattle.std.proofs.lemmas.List.{length-append, take-append-le, take_all}
 use Rattle.std.proofs.lemmas.List.Elements.{All-contains, Contains-append_left, Contains-append_right, Contains-append_cases, Contains-push}
 use Rattle.fapp_model.specs.declared.instance.Instance.{Instance}
@@ -15,8 +14,6 @@ use Rattle.fapp_model.specs.search.Prefixes.{GoesOn, IsAlong, IsPrefix}
 use Rattle.fapp_model.specs.search.Tries.{IsTries}
 use Rattle.fapp_model.specs.search.WorkOrder.{work_order}
 use Rattle.fapp_model.proofs.Members.{All-from_members}
-use Rattle.log_laws.specs.declared.line.LogLine.{LogLine}
-use Rattle.log_laws.specs.declared.line.Ref.{Ref}
 use Rattle.log_laws.specs.declared.line.Ref.TheVariants.{Own, Row}
 use Rattle.log_laws.specs.declared.line.Segment.{Segment}
 use Rattle.log_laws.specs.Contents.{Content, KnownRow, content_of, known_row}
@@ -24,21 +21,19 @@ use Rattle.log_laws.specs.Segments.{IsGoodLog, ended}
 use Rattle.log_laws.proofs.Segmenting.{log-cut, log-home, log-more}
 use Rattle.search_log.specs.declared.job.Outcome.{Outcome}
 use Rattle.search_log.specs.declared.job.Outcome.TheVariants.{Refuted, Moot as OutcomeMoot, Spent as OutcomeSpent}
-use Rattle.search_log.specs.Bounds.{BoundState}
 use Rattle.search_log.specs.LogStates.{LogState}
 use Rattle.search_log.specs.Logs.{cut_behind, with_segment}
 use Rattle.search_log.specs.Shares.{IsServed, SharedState, known}
 use Rattle.settle_laws.specs.declared.found.Found.{Found}
 use Rattle.settle_laws.specs.declared.found.Found.TheVariants.{Settled, Moot, Spent}
-use Rattle.settle_laws.specs.Founds.{IsOpen, IsRefuted, refused}
-use Rattle.settle_laws.specs.Lined.{IsAtMostCount, IsNewRef, Lined}
+use Rattle.settle_laws.specs.Founds.{IsRefuted, refused}
+use Rattle.settle_laws.specs.Lined.{IsAtMostCount, Lined}
 use Rattle.settle_laws.specs.Published.{GotNone, GotRow, IsOfferable}
-use Rattle.settle_laws.specs.Settling.{AreHome, AreHomeBy, IsCut, IsOffered, IsOutcome, Publishes, Settles, not_taken}
+use Rattle.settle_laws.specs.Settling.{AreHomeBy, IsOffered, IsOutcome, Publishes, Settles, not_taken}
 use Rattle.settle_laws.specs.Ticks.{Ticks}
 use Rattle.settle_laws.specs.Worlds.{Gains, IsGood, IsKeptRight, IsLeastOffered, KeepsAtMost, OffersCost, World, world}
 use Rattle.settle_laws.proofs.Adding.{gains-none, has-same}
 use Rattle.settle_laws.proofs.TickJoin.{no-ticks}
-use Rattle.tries_laws.specs.TriesLaws.{AreTried}
 use Rattle.tries_laws.proofs.TriesCounts.{Follows, along-drop, tries-count}
 
 -- ---- ticks and tries
@@ -138,13 +133,12 @@ module _ (instance : Instance) (level : ℕ) (literals : List Literal) (old mid 
       (l.is.0, l.is.1, cut-lines instance level literals old mid (Ok (Moot seen)) l mid.shared log from from_is behind cut) refl
 
   pub spent-settles : {E F : Type 0} → IsPrefix instance literals → Lined {E = E} instance level literals old mid (Ok Spent) → Settles {E = F} instance level literals old (world mid.fuel mid.bound mid.shared log) (Ok OutcomeSpent)
-  spent-settles {E} prefix l = cut-settles instance level literals old mid (Ok Spent) l mid.shared log from from_is behind cut (Ok OutcomeSpent) [] refl still refl (omega arith) refl
-      (
-        l.is.0,
-        l.is.1,
-        cut-lines instance level literals old mid (Ok Spent) l mid.shared log from from_is behind cut,
-        (λ tries is. omega (arith, l.taken, l.is.1, ticks-most instance level literals l.count tries prefix l.ticks is)),
-      ) refl
+  spent-settles {E} prefix l = cut-settles instance level literals old mid (Ok Spent) l mid.shared log from from_is behind cut (Ok OutcomeSpent) [] refl still refl (omega arith) refl (
+    l.is.0,
+    l.is.1,
+    cut-lines instance level literals old mid (Ok Spent) l mid.shared log from from_is behind cut,
+    (λ tries is. omega (arith, l.taken, l.is.1, ticks-most instance level literals l.count tries prefix l.ticks is)),
+  ) refl
 
   pub err-settles : {E F : Type 0} (e : E) (f : F) → Lined instance level literals old mid (Err e) → Settles instance level literals old (world mid.fuel mid.bound mid.shared log) (Err f)
   err-settles e f l = cut-settles instance level literals old mid (Err e) l mid.shared log from from_is behind cut (Err f) [] refl still refl (omega arith) (inl refl)
@@ -266,8 +260,7 @@ pub offerable : {E : Type 0} → (instance : Instance) (level : ℕ) (literals :
 offerable instance level literals old mid place tag l line at =
     let r = l.is.3 in
     let same : r.cited.0 ≡ line = (let there = r.cited.1 in cc) in
-    let content : r.content ≡ content_of line = r.cited.2 ∙ ap content_of same in
-    (
+    let content : r.content ≡ content_of line = r.cited.2 ∙ ap content_of same in (
       subst (λ (c : Content). IsTagOf instance (triple_from c.tag)) content r.own,
       subst (IsServed instance) content r.served,
     )

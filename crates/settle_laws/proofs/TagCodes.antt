@@ -1,5 +1,5 @@
 -- Tags by their codes.
-use Rattle.std.proofs.Common.{◌≡◌, ℕ, ◌+◌, ◌<◌, ◌≤◌, List, sym, ap, subst, ◌∙◌, refl, arith}
+use Rattle.std.proofs.Common.{◌≡◌, ℕ, ◌+◌, ◌≤◌, List, sym, subst, refl, arith}
 use Rattle.fapp_model.specs.declared.instance.Instance.{Instance}
 use Rattle.fapp_model.specs.declared.level.TheConstants.{MAX_LEVELS}
 use Rattle.fapp_model.specs.declared.literal.Literal.{Literal}

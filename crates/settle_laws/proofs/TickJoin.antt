@@ -1,8 +1,8 @@
 -- The ticks of one choice after another.
-use Rattle.std.proofs.Common.{◌≡◌, ◌≢◌, ℕ, ◌+◌, ◌-◌, ◌<◌, ◌≤◌, List, [], ◌∷◌, ◌++◌, length, take, All, AllPairs, Contains, refl, sym, ap, subst, ◌∙◌, inl, inr, ⊎_elim, arith, append_assoc, append-nil}
+use Rattle.std.proofs.Common.{◌≡◌, ◌≢◌, ℕ, ◌+◌, ◌-◌, ◌<◌, ◌≤◌, List, [], ◌∷◌, ◌++◌, length, take, Contains, refl, sym, ap, subst, ◌∙◌, inl, inr, ⊎_elim, arith, append_assoc, append-nil}
 use Rattle.std.proofs.lemmas.Bool.{cases_lt}
 use Rattle.std.proofs.lemmas.List.{length-append, take-append-le, take_all}
-use Rattle.std.proofs.lemmas.List.Elements.{All-append, All-contains, All-cons, All-nil, Contains-append_left, Contains-append_right, Contains-append_cases}
+use Rattle.std.proofs.lemmas.List.Elements.{All-append, All-contains, All-cons, All-nil, Contains-append_left, Contains-append_right}
 use Rattle.fapp_model.specs.declared.instance.Instance.{Instance}
 use Rattle.fapp_model.specs.declared.literal.Literal.{Literal}
 use Rattle.fapp_model.specs.search.Dead.{Dead}
@@ -10,8 +10,7 @@ use Rattle.fapp_model.specs.search.Jobs.{target}
 use Rattle.fapp_model.specs.search.Partials.{literal}
 use Rattle.fapp_model.specs.search.Prefixes.{GoesOn, IsPrefix}
 use Rattle.tries_laws.specs.TriesLaws.{AreTried}
-use Rattle.fapp_model.proofs.Members.{All-from_members, at_front, behind}
-use Rattle.fapp_model.proofs.InOrder.{pairs-cons, pairs-head, pairs-tail}
+use Rattle.fapp_model.proofs.Members.{All-from_members, at_front}
 use Rattle.settle_laws.specs.Ticks.{IsEarlier, Ticks, TicksBelow}
 use Rattle.settle_laws.proofs.Adding.{pairs-join}
 

@@ -1,4 +1,4 @@
-use Rattle.std.proofs.Common.{◌≡◌, ◌+◌, length, ap, ◌∙◌, arith}
+use Rattle.std.proofs.Common.{length, ap, ◌∙◌, arith}
 use Rattle.log_laws.specs.Segments.{ended}
 use Rattle.search_log.specs.LogStates.{LogState}
 use Rattle.search_log.proofs.Ended.{ended-push}
