@@ -1,7 +1,12 @@
+ghost use Rattle.std.specs.Prelude.{◌≡◌, ◌≤◌, [], IfOk};
+ghost use Rattle.fapp_model.specs.Levels.{levels_of};
+ghost use Rattle.count_laws.specs.ForwardStates.{at_level};
+ghost use Rattle.search_log.specs.Shares.{IsServed, row_content};
+
 use super::PLAIN;
 use super::tables::read;
 use arc_levels::ArcTable;
-use fapp_model::{Items, Tag, Triple, levels, tag_of, triple_of};
+use fapp_model::{Items, Literal, Triple, levels, tag_of, triple_of};
 use fapp_tables::Tables;
 use forward_count::Forward;
 use nogood::Row;
@@ -89,6 +94,70 @@ fn end_of(outcome: Outcome) -> End {
         Outcome::Moot { seen } => End::Moot(triple_of(seen)),
         Outcome::Spent => End::Spent,
     }
+}
+
+/// The row without literals that the search of APART's job of the last level finds, by its line.
+fn found_row(alloc: Global, job: &Job, forward: &mut Forward) -> Result<Row, Fail>
+    requires empty { forward.old.pushed ≡ [] }
+    requires level { job.now.level ≤ levels_of forward.old.instance }
+    requires root { job.now.prefix ≡ [] }
+    ensures forward { forward.new ≡ at_level forward.old job.now.level }
+    ensures row { IfOk result (λ row. IsServed forward.old.instance (row_content row)) }
+{
+    let mut fuel = Fuel::new(1003);
+    let mut bound = PlainBound::new(tag_of(plain(12)));
+    let mut log = Log::new(alloc);
+    let outcome = settle(
+        alloc,
+        job,
+        forward,
+        &mut fuel,
+        &mut bound,
+        &mut NoRows,
+        &mut log,
+    )?;
+    let Outcome::Refuted { line, .. } = outcome else {
+        return Err("not refuted".into());
+    };
+    let Ref::Own(place) = line else {
+        return Err("no line".into());
+    };
+    let tag = log.lines()[place as usize].tag;
+    let lits = [Literal { path: 0, choice: 0 }; 8];
+    Ok(Row { tag, len: 0, lits })
+}
+
+#[test]
+fn a_row_that_is_shared_settles_a_job(rt: HostRuntime) -> Result<(), Fail> {
+    assert!(rt; APART.len() < 1000);
+    let instance = read(rt.alloc(), APART)?;
+    let tables = Tables::new(rt.alloc(), &instance)?;
+    let arcs = ArcTable::build(rt.alloc(), &tables)?;
+    let mut forward = Forward::new(rt.alloc(), &tables, &arcs)?;
+    assert!(rt; 11 <= levels(&instance));
+    let job = Job {
+        level: 11,
+        prefix: Items::new(rt.alloc()),
+    };
+    let row = found_row(rt.alloc(), &job, &mut forward)?;
+    assert_eq!(rt; triple_of(row.tag), plain(12));
+    let mut rows = MemRows::new(Vec::from_slice(rt.alloc(), &[row])?);
+    let mut fuel = Fuel::new(0);
+    let mut bound = PlainBound::new(tag_of(plain(12)));
+    let mut log = Log::new(rt.alloc());
+    let outcome = settle(
+        rt.alloc(),
+        &job,
+        &mut forward,
+        &mut fuel,
+        &mut bound,
+        &mut rows,
+        &mut log,
+    )?;
+    assert_eq!(rt; end_of(outcome), End::Refuted(plain(12)));
+    assert!(rt; matches!(outcome, Outcome::Refuted { line: Ref::Row(0), .. }));
+    assert!(rt; log.lines().is_empty());
+    Ok(())
 }
 
 #[test]
