@@ -1,14 +1,13 @@
 -- What the steps of a search do to the nodes that are open.
-use Rattle.std.proofs.Common.{◌≡◌, ℕ, ◌+◌, ◌-◌, ◌<◌, ◌≤◌, ◌^◌, false, List, [], ◌∷◌, ◌++◌, length, take, Option, Some, None, Result, Ok, Err, refl, sym, ap, subst, ◌∙◌, arith, sum_by}
+use Rattle.std.proofs.Common.{◌≡◌, ℕ, ◌+◌, ◌-◌, ◌<◌, ◌≤◌, ◌^◌, List, [], ◌∷◌, ◌++◌, length, take, Option, Some, None, Result, Ok, Err, refl, sym, ap, subst, ◌∙◌, arith, sum_by}
 use Rattle.std.specs.Result.{IsErr}
 use Rattle.std.proofs.lemmas.List.{length-append, take-append-le, take_all}
 use Rattle.std.proofs.lemmas.List.Sums.{sum_by_push}
 use Rattle.fapp_model.specs.declared.instance.Instance.{Instance}
 use Rattle.fapp_model.specs.declared.literal.Literal.{Literal}
-use Rattle.fapp_model.specs.Assignments.{count_at}
 use Rattle.fapp_model.specs.Instances.{IsInstance}
 use Rattle.fapp_model.specs.Levels.{levels_of}
-use Rattle.fapp_model.specs.search.Partials.{literal, names}
+use Rattle.fapp_model.specs.search.Partials.{literal}
 use Rattle.fapp_model.specs.search.Prefixes.{IsPrefix}
 use Rattle.cert_lines.proofs.ListLaws.{few_choices}
 use Rattle.search_log.specs.LogStates.{LogState}
@@ -23,11 +22,11 @@ use Rattle.settle_laws.specs.OpenNodes.{IsTrying, OpenTo}
 use Rattle.settle_laws.specs.Trying.{Trying}
 use Rattle.settle_laws.specs.Worlds.{World, world}
 use Rattle.settle_laws.proofs.Ends.{branch-searched}
-use Rattle.settle_laws.proofs.NextPaths.{next-apart, next-prefix, next-small}
+use Rattle.settle_laws.proofs.NextPaths.{next-small}
 use Rattle.settle_laws.proofs.Opening.{Passing, open-end, open-map, open-out, open-pop, open-prefix, open-push}
 use Rattle.settle_laws.proofs.Steps.{ends, ends-unnoted, goes-on}
 use Rattle.subtree_search.specs.Walks.{work_left}
-use Rattle.subtree_search.specs.Steps.{ComesTo, IsAdvanced, IsBack, IsNoted, IsVisited, Opens}
+use Rattle.subtree_search.specs.Steps.{ComesTo, IsAdvanced, IsBack, IsNoted, IsVisited}
 
 pub snoc-same : {X : Type 0} → (xs ys : List X) (x y : X) → xs ++ x ∷ [] ≡ ys ++ y ∷ [] → (xs ≡ ys) × (x ≡ y)
 snoc-same [] [] x y e = (refl, cc)
@@ -77,8 +76,11 @@ module _ (instance : Instance) (level : ℕ) (root : List Literal) (from : World
       closes : OpenTo (λ reached entered. (pushed ≡ reached) × Searched instance level reached entered (world now.fuel now.bound now.shared log) result) instance level root from outer
       closes = open-map instance level (λ reached entered. IsPrefix instance reached × Tries pushed now node reached entered)
           (λ reached entered. (pushed ≡ reached) × Searched instance level reached entered (world now.fuel now.bound now.shared log) result)
-          (λ reached entered p. (p.1.0, branch-searched instance valid level within reached p.0 (prefix-is_partial instance reached p.0) entered now node p.1.1 done log result
-          (subst (λ lits. IsLined instance lits node.tag (Some node.path) node.refs now.log log result) p.1.0 lined)))
+          (λ reached entered p. (
+            p.1.0,
+            branch-searched instance valid level within reached p.0 (prefix-is_partial instance reached p.0) entered now node p.1.1 done log result
+                (subst (λ lits. IsLined instance lits node.tag (Some node.path) node.refs now.log log result) p.1.0 lined),
+          ))
           outer root from (open-prefix instance level (Tries pushed now node) outer root from prefix h)
 
       pub closes-ending : IsEnding result → Searched instance level root from (world now.fuel now.bound now.shared log) result
@@ -170,21 +172,21 @@ module _ (E : Type 0) (instance : Instance) (level : ℕ) (root : List Literal) 
     nodes_are = added;
     inside = open-map instance level Passed (λ reached entered. (shorter ≡ reached) × Trying instance level reached entered now new)
         (λ reached entered p. (
-        popped ∙ front-of reached (literal node.path node.choice) pushed p.1.3.0,
-        goes-on instance level reached entered p.1.0 now node p.1.1 valid within p.0 p.1.2 found p.1.3.1 new notes))
+          popped ∙ front-of reached (literal node.path node.choice) pushed p.1.3.0,
+          goes-on instance level reached entered p.1.0 now node p.1.1 valid within p.0 p.1.2 found p.1.3.1 new notes,
+        ))
         outer root from passed;
   }
 
   -- the search is over
   pub notes-end : (new : Node) (end : Found) → Notes node new found (Some end) → (back : List Literal) → Searched {E = E} instance level root from now (Ok end) × IsBack end root back
   notes-end new end notes back =
-      let ended = ended-as E node new found end notes in
-      (
+      let ended = ended-as E node new found end notes in (
         open-end instance level (Ok end) ended.1 now outer root from
-        (open-map instance level Passed (λ reached entered. Searched {E = E} instance level reached entered now (Ok end))
-        (λ reached entered p. ends instance level reached entered p.1.0 now node p.1.1 (Ok end) ended.1
-        (subst (λ f. Searched {E = E} instance level (reached ++ literal node.path node.choice ∷ []) p.1.0 now (Ok f)) ended.0 p.1.3.1))
-        outer root from passed),
+            (open-map instance level Passed (λ reached entered. Searched {E = E} instance level reached entered now (Ok end))
+            (λ reached entered p. ends instance level reached entered p.1.0 now node p.1.1 (Ok end) ended.1
+            (subst (λ f. Searched {E = E} instance level (reached ++ literal node.path node.choice ∷ []) p.1.0 now (Ok f)) ended.0 p.1.3.1))
+            outer root from passed),
         back-anyhow E end root back ended.1,
       )
 

@@ -115,7 +115,14 @@ fn advance<B: Bound, H: Shared>(
         unreachable!()
     };
     if node.choice >= node.count {
-        let found = add_line(walk.alloc, node.tag, Some(node.path), node.refs, forward, log)?;
+        let found = add_line(
+            walk.alloc,
+            node.tag,
+            Some(node.path),
+            node.refs,
+            forward,
+            log,
+        )?;
         return Ok(Some(found));
     }
     forward.push(node.path, node.choice as u16);

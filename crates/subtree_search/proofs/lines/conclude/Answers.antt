@@ -1,11 +1,7 @@
-use Rattle.std.proofs.Common.{◌≡◌, ◌≤◌, ℕ, List, length, None, Some, true, false, IsTrue, ◌∙◌, refl, sym, ap, subst, arith}
-use Rattle.std.proofs.lemmas.Bool.{true≢false}
-use Rattle.fapp_model.specs.declared.instance.Instance.{Instance}
+use Rattle.std.proofs.Common.{◌≡◌, None, true, false, ◌∙◌, sym, ap, subst, arith}
 use Rattle.fapp_model.specs.Assignments.{IsAssignment, meets}
 use Rattle.fapp_model.specs.Costs.{cost}
-use Rattle.fapp_model.specs.Least.{IsFeasible}
 use Rattle.fapp_model.specs.Tags.{code_of}
-use Rattle.fapp_model.specs.search.Partials.{Extends, IsPartial}
 use Rattle.search_log.specs.Logs.{KeepsBest}
 use Rattle.search_log.specs.Bounds.{Offers}
 use Rattle.settle_laws.specs.Lines.{IsLined, Offered}
@@ -65,11 +61,11 @@ returns g c =
     let o : Offered c.args.forward.now.instance c.args.forward.now.pushed (g.B.Bound.state c.args.bound.now) (g.B.Bound.state c.offer.new.self) c.args.log.now c.keep_best.new.self = record {
       plan = c.fill.new.plan;
       feasible = plan-feasible c.args.forward.now.instance c.requires.valid c.args.forward.now.pushed c.requires.prefix c.requires.full
-    (prefix-is_partial c.args.forward.now.instance c.args.forward.now.pushed c.requires.prefix) c.partial.result.now c.partial.ensures c.fill.new.plan (c.fill.auto.plan ∙ c.requires.room)
-    (subst (λ n. IsPlanOf c.partial.result.now n c.fill.new.plan) c.requires.room c.fill.ensures) met;
+          (prefix-is_partial c.args.forward.now.instance c.args.forward.now.pushed c.requires.prefix) c.partial.result.now c.partial.ensures c.fill.new.plan (c.fill.auto.plan ∙ c.requires.room)
+          (subst (λ n. IsPlanOf c.partial.result.now n c.fill.new.plan) c.requires.room c.fill.ensures) met;
       extends = plan-extends c.args.forward.now.instance c.requires.valid c.args.forward.now.pushed c.requires.prefix c.requires.full
-    (prefix-is_partial c.args.forward.now.instance c.args.forward.now.pushed c.requires.prefix) c.partial.result.now c.partial.ensures c.fill.new.plan (c.fill.auto.plan ∙ c.requires.room)
-    (subst (λ n. IsPlanOf c.partial.result.now n c.fill.new.plan) c.requires.room c.fill.ensures);
+          (prefix-is_partial c.args.forward.now.instance c.args.forward.now.pushed c.requires.prefix) c.partial.result.now c.partial.ensures c.fill.new.plan (c.fill.auto.plan ∙ c.requires.room)
+          (subst (λ n. IsPlanOf c.partial.result.now n c.fill.new.plan) c.requires.room c.fill.ensures);
       keeps = subst (λ t. KeepsBest c.args.log.now t c.fill.new.plan c.keep_best.new.self) costs c.in_ok-keep_best.ensures.ok;
       offers = subst (λ n. Offers (g.B.Bound.state c.args.bound.now) (g.B.Bound.state c.offer.new.self) n) code c.offer.ensures;
     } in

@@ -1,16 +1,10 @@
-use Rattle.std.proofs.Common.{◌≡◌, ◌+◌, ◌<◌, ◌≤◌, List, ◌∷◌, ◌++◌, length, get_or, slice_index_or, Some, None, Err, Ok, sym, ap, subst, ◌∙◌, refl, arith}
-use Rattle.std.specs.List.{slice_get}
-use Rattle.std.proofs.lemmas.List.Elements.{All-contains, Contains-get_or}
+use Rattle.std.proofs.Common.{◌≡◌, length, get_or, Err, Ok, ap, ◌∙◌, refl, arith}
 use Rattle.fapp_model.specs.declared.instance.Instance.{Instance}
-use Rattle.fapp_model.specs.Assignments.{count_at}
-use Rattle.fapp_model.specs.Instances.{IsPath}
 use Rattle.fapp_model.specs.search.WorkOrder.{work_order}
 use Rattle.tries_laws.proofs.PrefixParts.{prefix-is_partial}
-use Rattle.settle_laws.specs.Lines.{IsConcluded}
 use Rattle.settle_laws.specs.Worlds.{world}
 use Rattle.settle_laws.proofs.Ends.{full-searched, tick-ends, tick-starts}
 use Rattle.settle_laws.proofs.Keeping.{keeps-same}
-use Rattle.settle_laws.proofs.NextPaths.{next-small, past}
 use Rattle.subtree_search.proofs.Visited.{full-length, next-at, path-count, path-valid, path-within, visited-err, written-length}
 use Rattle.subtree_search.proofs.walk.visit.Goals as goal
 
@@ -40,9 +34,11 @@ returns-then-depth-order-clause-visited g c =
     let f = c.args.forward.now in
     let old = world c.args.fuel.now.amount (g.B.Bound.state c.args.bound.now) (g.H.Shared.state c.args.shared.now) c.args.log.now in
     let now = world c.enter.new.fuel.amount (g.B.Bound.state c.enter.new.bound) (g.H.Shared.state c.enter.new.shared) c.args.log.now in
-    let full = full-length f.instance f.pushed c.order-order.result.now c.pushed-depth.result.now (c.order-order.ensures ∙ ap work_order c.tables-tables.ensures) c.pushed-depth.ensures.literals (omega arith) in
-    (refl, full-searched f.instance c.requires.ready.valid c.args.walk.now.level c.requires.ready.level f.pushed c.requires.prefix old now c.in-Ticked.target (c.in-Ticked.ensures.entry c.args.log.now)
-    (prefix-is_partial f.instance f.pushed c.requires.prefix) full (g.B.Bound.state c.conclude.new.bound) c.conclude.new.log (Ok c.in_ok-found.found) c.in_ok-found.ensures)
+    let full = full-length f.instance f.pushed c.order-order.result.now c.pushed-depth.result.now (c.order-order.ensures ∙ ap work_order c.tables-tables.ensures) c.pushed-depth.ensures.literals (omega arith) in (
+      refl,
+      full-searched f.instance c.requires.ready.valid c.args.walk.now.level c.requires.ready.level f.pushed c.requires.prefix old now c.in-Ticked.target (c.in-Ticked.ensures.entry c.args.log.now)
+          (prefix-is_partial f.instance f.pushed c.requires.prefix) full (g.B.Bound.state c.conclude.new.bound) c.conclude.new.log (Ok c.in_ok-found.found) c.in_ok-found.ensures,
+    )
 
 pub bounds-as_slice-path : goal.bounds-as_slice-path
 bounds-as_slice-path g c =
