@@ -1,14 +1,13 @@
 -- What the steps of a search do to the nodes that are open.
-use Rattle.std.proofs.Common.{◌≡◌, ℕ, ◌+◌, ◌-◌, ◌<◌, ◌≤◌, ◌^◌, false, List, [], ◌∷◌, ◌++◌, length, take, Option, Some, None, Result, Ok, Err, refl, sym, ap, subst, ◌∙◌, arith, sum_by}
+use Rattle.std.proofs.Common.{◌≡◌, ℕ, ◌+◌, ◌-◌, ◌<◌, ◌≤◌, ◌^◌, List, [], ◌∷◌, ◌++◌, length, take, Option, Some, None, Result, Ok, Err, refl, sym, ap, subst, ◌∙◌, arith, sum_by}
 use Rattle.std.specs.Result.{IsErr}
 use Rattle.std.proofs.lemmas.List.{length-append, take-append-le, take_all}
 use Rattle.std.proofs.lemmas.List.Sums.{sum_by_push}
 use Rattle.fapp_model.specs.declared.instance.Instance.{Instance}
 use Rattle.fapp_model.specs.declared.literal.Literal.{Literal}
-use Rattle.fapp_model.specs.Assignments.{count_at}
 use Rattle.fapp_model.specs.Instances.{IsInstance}
 use Rattle.fapp_model.specs.Levels.{levels_of}
-use Rattle.fapp_model.specs.search.Partials.{literal, names}
+use Rattle.fapp_model.specs.search.Partials.{literal}
 use Rattle.fapp_model.specs.search.Prefixes.{IsPrefix}
 use Rattle.cert_lines.proofs.ListLaws.{few_choices}
 use Rattle.search_log.specs.LogStates.{LogState}
@@ -23,11 +22,11 @@ use Rattle.settle_laws.specs.OpenNodes.{IsTrying, OpenTo}
 use Rattle.settle_laws.specs.Trying.{Trying}
 use Rattle.settle_laws.specs.Worlds.{World, world}
 use Rattle.settle_laws.proofs.Ends.{branch-searched}
-use Rattle.settle_laws.proofs.NextPaths.{next-apart, next-prefix, next-small}
+use Rattle.settle_laws.proofs.NextPaths.{next-small}
 use Rattle.settle_laws.proofs.Opening.{Passing, open-end, open-map, open-out, open-pop, open-prefix, open-push}
 use Rattle.settle_laws.proofs.Steps.{ends, ends-unnoted, goes-on}
 use Rattle.subtree_search.specs.Walks.{work_left}
-use Rattle.subtree_search.specs.Steps.{ComesTo, IsAdvanced, IsBack, IsNoted, IsVisited, Opens}
+use Rattle.subtree_search.specs.Steps.{ComesTo, IsAdvanced, IsBack, IsNoted, IsVisited}
 
 pub snoc-same : {X : Type 0} → (xs ys : List X) (x y : X) → xs ++ x ∷ [] ≡ ys ++ y ∷ [] → (xs ≡ ys) × (x ≡ y)
 snoc-same [] [] x y e = (refl, cc)

@@ -1,5 +1,5 @@
 -- What is so in the loop of the search.
-use Rattle.std.proofs.Common.{◌≡◌, ℕ, List, [], ◌∷◌, ◌++◌, Option, Some, None, Result, Ok, Err, refl, sym, ap, subst, ◌∙◌}
+use Rattle.std.proofs.Common.{◌≡◌, ℕ, List, [], ◌∷◌, ◌++◌, Result, Ok, Err, refl, sym, ap, subst, ◌∙◌}
 use Rattle.std.specs.Result.{IsErr}
 use Rattle.fapp_model.specs.declared.instance.Instance.{Instance}
 use Rattle.fapp_model.specs.declared.literal.Literal.{Literal}
@@ -11,7 +11,7 @@ use Rattle.settle_laws.specs.Founds.{Searched}
 use Rattle.settle_laws.specs.OpenNodes.{IsTrying}
 use Rattle.settle_laws.specs.Worlds.{World}
 use Rattle.subtree_search.specs.declared.walk.Walk.{Walk}
-use Rattle.subtree_search.specs.Steps.{ComesTo, IsAdvanced, IsBack, IsNoted, Opens}
+use Rattle.subtree_search.specs.Steps.{ComesTo, Opens}
 use Rattle.subtree_search.specs.Walks.{IsReady}
 
 pub err-any : {E F : Type 0} → (instance : Instance) (level : ℕ) (literals : List Literal) (old new : World) (e : E) → Searched instance level literals old new (Err e) → (f : F) → Searched instance level literals old new (Err f)

@@ -1,7 +1,7 @@
 -- The literals that are pushed, path by path.
-use Rattle.std.proofs.Common.{◌≡◌, ℕ, ◌+◌, ◌<◌, ◌≤◌, true, false, List, [], ◌∷◌, ◌++◌, length, get_or, slice_index, All, AllPairs, Contains, Option, Some, None, unwrap_or, refl, sym, ap, subst, ◌∙◌, inl, inr, ⊎_elim, arith}
+use Rattle.std.proofs.Common.{◌≡◌, ℕ, ◌+◌, ◌<◌, ◌≤◌, true, false, List, [], ◌∷◌, ◌++◌, length, slice_index, All, Contains, Option, Some, None, unwrap_or, sym, ap, subst, ◌∙◌, ⊎_elim, arith}
 use Rattle.std.proofs.lemmas.Bool.{cases_lt, true≢false}
-use Rattle.std.proofs.lemmas.List.Elements.{All-contains, All-nil, All-push, All-weaker, Contains-append_left, Contains-get_or, Contains-push}
+use Rattle.std.proofs.lemmas.List.Elements.{All-contains, All-nil, All-push, All-weaker, Contains-append_left, Contains-push}
 use Rattle.std.proofs.lemmas.List.Quantifiers.{all_pairs_push}
 use Rattle.fapp_model.specs.declared.instance.Instance.{Instance}
 use Rattle.fapp_model.specs.declared.literal.Literal.{Literal}
@@ -14,7 +14,7 @@ use Rattle.fapp_model.specs.search.WorkOrder.{work_order}
 use Rattle.fapp_model.proofs.InOrder.{pairs-nil}
 use Rattle.fapp_model.proofs.Members.{All-from_members}
 use Rattle.count_laws.specs.ForwardStates.{AreSlots}
-use Rattle.nogood.specs.Partials.{Gives, choice_given}
+use Rattle.nogood.specs.Partials.{choice_given}
 use Rattle.settle_laws.specs.Lines.{AreSorted}
 use Rattle.settle_laws.proofs.FullPrefixes.{full-has}
 use Rattle.subtree_search.specs.Plans.{AreFirst, IsPlanOf}

@@ -1,5 +1,5 @@
 -- The literals that are pushed, path by path.
-use Rattle.std.specs.Prelude.{◌≡◌, ℕ, ◌<◌, List, length, slice_index, All, AllPairs, Contains, Option, unwrap_or}
+use Rattle.std.specs.Prelude.{◌≡◌, ℕ, ◌<◌, List, slice_index, All, AllPairs, Contains, Option, unwrap_or}
 use Rattle.fapp_model.specs.declared.literal.Literal.{Literal}
 use Rattle.nogood.specs.Partials.{choice_given}
 

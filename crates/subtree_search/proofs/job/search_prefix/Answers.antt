@@ -1,9 +1,8 @@
-use Rattle.std.proofs.Common.{◌≡◌, None, Some, Ok, Err, refl, sym, ap, subst, ◌∙◌, arith}
+use Rattle.std.proofs.Common.{◌≡◌, None, Ok, ap, subst}
 use Rattle.std.specs.declared.alloc.AllocError.{AllocError}
 use Rattle.count_laws.specs.ForwardStates.{ForwardState}
 use Rattle.tries_laws.proofs.PrefixParts.{prefix-is_partial}
 use Rattle.settle_laws.specs.Founds.{Searched}
-use Rattle.settle_laws.specs.Lined.{Lined}
 use Rattle.settle_laws.specs.Lines.{IsLined}
 use Rattle.settle_laws.specs.Worlds.{world}
 use Rattle.settle_laws.proofs.Lining.{dead-lined, lined-by, not-dead}

@@ -1,9 +1,6 @@
-use Rattle.std.proofs.Common.{◌≡◌, ◌≤◌, [], length, Ok, Err, refl, sym, ap, subst, ◌∙◌, arith}
-use Rattle.std.specs.declared.alloc.AllocError.{AllocError}
-use Rattle.fapp_model.specs.declared.instance.Instance.{Instance}
+use Rattle.std.proofs.Common.{◌≡◌, ap, subst, ◌∙◌, arith}
 use Rattle.count_laws.specs.ForwardStates.{ForwardState, at_level, with_literals}
 use Rattle.settle_laws.specs.Lined.{Lined}
-use Rattle.settle_laws.specs.Settling.{Settles}
 use Rattle.settle_laws.specs.Worlds.{world}
 use Rattle.settle_laws.proofs.Settling.{nothing-settles}
 use Rattle.subtree_search.proofs.Closing.{settles-err}

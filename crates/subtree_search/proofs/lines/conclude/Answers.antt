@@ -1,11 +1,7 @@
-use Rattle.std.proofs.Common.{◌≡◌, ◌≤◌, ℕ, List, length, None, Some, true, false, IsTrue, ◌∙◌, refl, sym, ap, subst, arith}
-use Rattle.std.proofs.lemmas.Bool.{true≢false}
-use Rattle.fapp_model.specs.declared.instance.Instance.{Instance}
+use Rattle.std.proofs.Common.{◌≡◌, None, true, false, ◌∙◌, sym, ap, subst, arith}
 use Rattle.fapp_model.specs.Assignments.{IsAssignment, meets}
 use Rattle.fapp_model.specs.Costs.{cost}
-use Rattle.fapp_model.specs.Least.{IsFeasible}
 use Rattle.fapp_model.specs.Tags.{code_of}
-use Rattle.fapp_model.specs.search.Partials.{Extends, IsPartial}
 use Rattle.search_log.specs.Logs.{KeepsBest}
 use Rattle.search_log.specs.Bounds.{Offers}
 use Rattle.settle_laws.specs.Lines.{IsLined, Offered}

@@ -1,4 +1,3 @@
-use Rattle.std.proofs.Common.{◌≡◌, length}
 use Rattle.subtree_search.specs.Plans.{IsPlanOf}
 use Rattle.subtree_search.proofs.lines.fill.Given as goal
 

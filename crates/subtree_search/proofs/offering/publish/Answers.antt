@@ -1,4 +1,4 @@
-use Rattle.std.proofs.Common.{◌≡◌, ◌+◌, length, sym, ap, subst, arith, ◌∙◌}
+use Rattle.std.proofs.Common.{subst, arith}
 use Rattle.nogood.specs.declared.row.Published.TheVariants.{Home}
 use Rattle.search_log.specs.Shares.{Offered}
 use Rattle.subtree_search.proofs.Closing.{home-published, read-at}

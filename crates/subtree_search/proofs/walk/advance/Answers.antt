@@ -1,9 +1,7 @@
-use Rattle.std.proofs.Common.{◌≡◌, ◌+◌, ◌∷◌, ◌++◌, List, [], length, Some, None, Err, Ok, sym, ap, subst, ◌∙◌, refl, arith}
+use Rattle.std.proofs.Common.{◌≡◌, Err, Ok, sym, ap, subst, arith}
 use Rattle.cert_lines.proofs.ListLaws.{few_choices}
-use Rattle.count_laws.specs.ForwardStates.{ForwardState, with_pushed}
-use Rattle.fapp_model.specs.search.Partials.{literal}
+use Rattle.count_laws.specs.ForwardStates.{ForwardState}
 use Rattle.fapp_model.specs.search.Prefixes.{IsPrefix}
-use Rattle.settle_laws.specs.Founds.{Searched}
 use Rattle.settle_laws.specs.Worlds.{world}
 use Rattle.settle_laws.proofs.NextPaths.{next-apart, next-prefix, next-small}
 use Rattle.subtree_search.specs.Steps.{IsVisited}

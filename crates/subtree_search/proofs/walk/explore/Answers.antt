@@ -1,11 +1,8 @@
-use Rattle.std.proofs.Common.{◌≡◌, ◌<◌, ◌≤◌, None, Some, Ok, Err, refl, sym, ap, subst, ◌∙◌, arith, []}
+use Rattle.std.proofs.Common.{◌<◌, ◌≤◌, Ok, Err, refl, sym, subst, arith}
 use Rattle.std.specs.declared.alloc.AllocError.{AllocError}
-use Rattle.count_laws.specs.ForwardStates.{ForwardState, with_literals}
-use Rattle.settle_laws.specs.Founds.{Searched}
-use Rattle.settle_laws.specs.OpenNodes.{IsTrying}
 use Rattle.settle_laws.specs.Worlds.{world}
-use Rattle.subtree_search.specs.Steps.{IsAdvanced, IsBack, IsNoted, IsVisited, Lightens, NotesLess, ComesTo}
-use Rattle.subtree_search.specs.Walks.{IsReady, work_left}
+use Rattle.subtree_search.specs.Steps.{IsAdvanced, IsNoted, IsVisited, Lightens, NotesLess}
+use Rattle.subtree_search.specs.Walks.{work_left}
 use Rattle.subtree_search.proofs.Exploring.{comes-back, comes-here, err-any, fronted-on, opened-trying, prefix-here, ready-here, same-instance, searched-back, searched-err, trying-back, trying-here}
 use Rattle.subtree_search.proofs.walk.explore.Goals as goal
 

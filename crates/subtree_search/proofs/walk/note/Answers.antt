@@ -1,4 +1,4 @@
-use Rattle.std.proofs.Common.{◌≡◌, ◌++◌, ◌∷◌, [], None, Some, Ok, Err, sym, ap, subst, ◌∙◌, refl, arith}
+use Rattle.std.proofs.Common.{ap, subst}
 use Rattle.std.specs.declared.alloc.AllocError.{AllocError}
 use Rattle.count_laws.specs.ForwardStates.{ForwardState}
 use Rattle.settle_laws.specs.Noted.{Notes}

@@ -1,16 +1,10 @@
-use Rattle.std.proofs.Common.{◌≡◌, ◌+◌, ◌<◌, ◌≤◌, List, ◌∷◌, ◌++◌, length, get_or, slice_index_or, Some, None, Err, Ok, sym, ap, subst, ◌∙◌, refl, arith}
-use Rattle.std.specs.List.{slice_get}
-use Rattle.std.proofs.lemmas.List.Elements.{All-contains, Contains-get_or}
+use Rattle.std.proofs.Common.{◌≡◌, length, get_or, Err, Ok, ap, ◌∙◌, refl, arith}
 use Rattle.fapp_model.specs.declared.instance.Instance.{Instance}
-use Rattle.fapp_model.specs.Assignments.{count_at}
-use Rattle.fapp_model.specs.Instances.{IsPath}
 use Rattle.fapp_model.specs.search.WorkOrder.{work_order}
 use Rattle.tries_laws.proofs.PrefixParts.{prefix-is_partial}
-use Rattle.settle_laws.specs.Lines.{IsConcluded}
 use Rattle.settle_laws.specs.Worlds.{world}
 use Rattle.settle_laws.proofs.Ends.{full-searched, tick-ends, tick-starts}
 use Rattle.settle_laws.proofs.Keeping.{keeps-same}
-use Rattle.settle_laws.proofs.NextPaths.{next-small, past}
 use Rattle.subtree_search.proofs.Visited.{full-length, next-at, path-count, path-valid, path-within, visited-err, written-length}
 use Rattle.subtree_search.proofs.walk.visit.Goals as goal
 
