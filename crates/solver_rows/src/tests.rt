@@ -1,5 +1,4 @@
 mod arcs;
 mod counts;
-mod jobs;
 mod plans;
 mod tables;
