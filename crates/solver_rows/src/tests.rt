@@ -1,4 +1,2 @@
 mod arcs;
-mod counts;
-mod plans;
 mod tables;
