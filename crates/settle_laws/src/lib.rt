@@ -1,5 +1,4 @@
-//! What the search of a job finds and what it keeps, and laws over it. Each law stands as the contract of a function
-//! that does nothing; the lemmas that they and the search rest on are in `proofs/`.
+//! What the search of a job finds and what it keeps, as definitions, and the lemmas that the search rests on.
 #![tactic(auto)]
 
 mod found;

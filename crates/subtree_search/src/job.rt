@@ -91,7 +91,12 @@ fn finish<H: Shared>(
     }
 }
 
-/// Searches a job: each assignment that extends its prefix, at its level.
+/// Searches a job: each assignment that extends its prefix, at its level. `forward` has no literal before and after, and
+/// counts at the job's level after.
+///
+/// Refuted names the line or row that settles the job, Moot what the bound told where it decided, Spent that the fuel did
+/// not suffice. `NoMemory` comes where room for the open nodes, a line, the kept assignment or a segment could not be had.
+/// After Moot, Spent and `NoMemory` the log has no line of this job; fuel, bound, rows and the kept assignment stay.
 pub fn settle<B: Bound, H: Shared>(
     alloc: Global,
     job: &Job,
