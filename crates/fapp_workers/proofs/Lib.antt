@@ -2,4 +2,4 @@ pub mod DealtSums
 pub mod Growing
 pub mod Decisions
 pub mod AtWork
-pub mod Gathered
+pub mod Together

@@ -1,5 +1,5 @@
 // The workers side by side.
-ghost use Rattle.std.specs.Prelude.{◌≡◌, ◌×◌, ◌<◌, ◌≤◌, IfOk};
+ghost use Rattle.std.specs.Prelude.{◌≡◌, ◌<◌, ◌≤◌, IfOk};
 ghost use Rattle.std.specs.Thread.{IsSync};
 ghost use Rattle.fapp_workers.specs.Works.{AreWorksOf};
 ghost use Rattle.fapp_workers.specs.Collections.{IsGathered};
@@ -19,7 +19,7 @@ use std::thread::{Threads, join};
 
 /// What all workers found: their logs, what became of each job, the least cost that a log keeps, or the top tag where none
 /// keeps one, and how many ticks each job took.
-#[derive(Debug, Drop)]
+#[derive(Drop)]
 pub struct Gathered {
     pub logs: Vec<Log>,
     pub collected: Collected,

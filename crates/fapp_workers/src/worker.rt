@@ -24,7 +24,7 @@ pub struct Done {
 }
 
 /// What a worker has done.
-#[derive(Debug, Drop)]
+#[derive(Drop)]
 pub struct Worked {
     pub log: Log,
     /// The least cost that it found, or the top tag where it found no assignment.
@@ -59,7 +59,7 @@ fn decide(
     requires job { id < job_count plan.now.instance plan.now.split }
     ensures instance { forward.new.instance ≡ forward.old.instance }
     ensures empty { forward.new.pushed ≡ [] }
-    ensures { IfOk result (Decides plan.now id amount (⟦<PlainBound as Bound>⟧.state bound.old) log.old (⟦<PlainBound as Bound>⟧.state bound.new) log.new) }
+    ensures decides { IfOk result (Decides plan.now id amount (⟦<PlainBound as Bound>⟧.state bound.old) log.old (⟦<PlainBound as Bound>⟧.state bound.new) log.new) }
 {
     let job = plan.job(alloc, id)?;
     let mut fuel = Fuel::new(amount);
