@@ -82,6 +82,9 @@ module _ (instance : Instance) (literals : List Literal) (old now : World) (keep
     lines = gains-trans old.log.lines now.log.lines log.lines keeps.lines (gains-one now.log.lines log.lines line (ap (λ (l : LogState). l.lines) added) plain);
     segments = ap (λ (l : LogState). l.segments) added ∙ keeps.segments;
     good = λ good. line-good good_line (keeps.good good);
+    began = keeps.began;
+    tells = keeps.tells;
+    lowers = keeps.lowers;
     falls = keeps.falls;
     least = λ h. subst (λ (l : LogState). IsLeastOffered l.best now.bound.least) (sym added) (keeps.least h);
     right = λ h. subst (λ (l : LogState). IsKeptRight instance l.best) (sym added) (keeps.right h);

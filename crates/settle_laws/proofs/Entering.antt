@@ -42,6 +42,12 @@ floor-le b = lowest-le b.told b.least
 tells-falls : (b c : BoundState) (tag : ℕ) → Tells b c tag → floor c ≤ floor b
 tells-falls b c tag h = omega (arith, floor-le c, h.told, h.falls)
 
+told-falls : (b c : BoundState) (tag : ℕ) → Tells b c tag → c.told ≤ b.told
+told-falls b c tag h = omega (arith, floor-le b, h.told, h.falls)
+
+offers-same : (b c : BoundState) (tag : ℕ) → Tells b c tag → (n : ℕ) → lowest n c.least ≤ lowest n b.least
+offers-same b c tag h n = subst (λ o. lowest n o ≤ lowest n b.least) (sym h.least) (omega arith)
+
 -- ---- rows
 
 -- the rows that a holder has known were copied
@@ -79,6 +85,9 @@ module _ (instance : Instance) (level : ℕ) (literals : List Literal) (fuel : �
       lines = gains-none log.lines;
       segments = refl;
       good = λ good. good;
+      began = tells.began;
+      tells = told-falls b c seen.code tells;
+      lowers = offers-same b c seen.code tells;
       falls = tells-falls b c seen.code tells;
       least = least-same log.best;
       right = λ h. h;
@@ -110,6 +119,9 @@ module _ (instance : Instance) (level : ℕ) (literals : List Literal) (fuel : �
       lines = gains-none log.lines;
       segments = refl;
       good = λ good. log-more instance (known s) (known t) log.lines log.segments (rows-grow s t looks.kept looks.published) good;
+      began = tells.began;
+      tells = told-falls b c seen.code tells;
+      lowers = offers-same b c seen.code tells;
       falls = tells-falls b c seen.code tells;
       least = least-same log.best;
       right = λ h. h;

@@ -152,6 +152,9 @@ module _ (instance : Instance) (valid : IsInstance instance) (literals : List Li
     lines = record { more = []; are = kept-lines ∙ sym (append-nil old.lines); plain = λ k d l. absurd (omega arith) };
     segments = kept-segments;
     good = λ good. subst (λ segments. IsGoodLog instance (known shared) new.lines segments) (sym kept-segments) (subst (λ lines. IsGoodLog instance (known shared) lines old.segments) (sym kept-lines) good);
+    began = o.offers.began;
+    tells = omega (arith, o.offers.told);
+    lowers = λ tag. (by-least bound.least after.least tag tag (code_of (cost instance o.plan)) refl o.offers.least).0;
     falls = (offers-falls bound after (code_of (cost instance o.plan)) o.offers).0;
     least = λ h. subst (IsLeastOffered new.best) (sym o.offers.least) (keeps-least (cost instance o.plan) (code_of (cost instance o.plan)) own-triple o.plan old new o.keeps bound.least h);
     right = keeps-right (cost instance o.plan) (code_of (cost instance o.plan)) own-triple o.plan old new o.keeps instance o.feasible refl;

@@ -11,7 +11,7 @@ use Rattle.log_laws.specs.declared.line.Segment.{Segment}
 use Rattle.log_laws.specs.Contents.{KnownRow}
 use Rattle.search_log.specs.declared.job.Outcome.{Outcome}
 use Rattle.search_log.specs.declared.job.Outcome.TheVariants.{Refuted, Moot, Spent}
-use Rattle.search_log.specs.Bounds.{floor}
+use Rattle.search_log.specs.Bounds.{floor, lowest}
 use Rattle.search_log.specs.Shares.{known}
 use Rattle.settle_laws.specs.Founds.{IsExact, IsHigh, IsOpen, IsRefuted, NoneWithin}
 use Rattle.settle_laws.specs.Levels.{level_code}
@@ -83,6 +83,9 @@ pub record Settles {E : Type 0} (instance : Instance) (level : ℕ) (literals : 
   pub lines : Gains old.log.lines new.log.lines
   pub few : length new.log.lines ≤ length old.log.lines + max 1 (old.fuel - new.fuel)
   pub good : IsGood instance old → IsGood instance new
+  pub began : new.bound.began ≡ old.bound.began
+  pub tells : new.bound.told ≤ old.bound.told
+  pub lowers : (tag : ℕ) → lowest tag new.bound.least ≤ lowest tag old.bound.least
   pub falls : floor new.bound ≤ floor old.bound
   pub least : IsLeastOffered old.log.best old.bound.least → IsLeastOffered new.log.best new.bound.least
   pub right : IsKeptRight instance old.log.best → IsKeptRight instance new.log.best

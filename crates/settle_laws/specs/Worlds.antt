@@ -10,7 +10,7 @@ use Rattle.fapp_model.specs.search.Partials.{Extends}
 use Rattle.log_laws.specs.declared.line.LogLine.{LogLine}
 use Rattle.log_laws.specs.Segments.{IsGoodLog}
 use Rattle.search_log.specs.declared.log.KeptPlan.{KeptPlan}
-use Rattle.search_log.specs.Bounds.{BoundState, floor}
+use Rattle.search_log.specs.Bounds.{BoundState, floor, lowest}
 use Rattle.search_log.specs.LogStates.{LogState}
 use Rattle.search_log.specs.Shares.{SharedState, known}
 
@@ -64,8 +64,8 @@ pub record OffersCost (instance : Instance) (literals : List Literal) (new : Wor
   pub kept : KeepsAtMost new.log.best (code_of (cost instance plan))
 
 -- What every search of some literals keeps, whatever it answers: rows and lines are only added, and nothing is
--- published; a good log is good again; what the bound told or was offered does not rise; what is kept stays the least offer,
--- and a true cost, where it was; only assignments that have the literals are offered.
+-- published; a good log is good again; neither what the bound told nor its least offer rises; what is kept stays the least
+-- offer, and a true cost, where it was; only assignments that have the literals are offered.
 pub record Keeps (instance : Instance) (literals : List Literal) (old new : World) : Type 0 where
   pub fuel : new.fuel ≤ old.fuel
   pub copied : All (Contains new.shared.copied) old.shared.copied
@@ -75,6 +75,9 @@ pub record Keeps (instance : Instance) (literals : List Literal) (old new : Worl
   pub lines : Gains old.log.lines new.log.lines
   pub segments : new.log.segments ≡ old.log.segments
   pub good : IsGood instance old → IsGood instance new
+  pub began : new.bound.began ≡ old.bound.began
+  pub tells : new.bound.told ≤ old.bound.told
+  pub lowers : (tag : ℕ) → lowest tag new.bound.least ≤ lowest tag old.bound.least
   pub falls : floor new.bound ≤ floor old.bound
   pub least : IsLeastOffered old.log.best old.bound.least → IsLeastOffered new.log.best new.bound.least
   pub right : IsKeptRight instance old.log.best → IsKeptRight instance new.log.best
