@@ -4,3 +4,4 @@ pub mod Advancing
 pub mod Exploring
 pub mod Fronts
 pub mod Closing
+mod Serving

@@ -1,5 +1,5 @@
 // The line that settles a job, made known.
-ghost use Rattle.std.specs.Prelude.{◌≡◌, ◌+◌, ◌≤◌, length};
+ghost use Rattle.std.specs.Prelude.{◌≡◌, ◌↔◌, ◌+◌, ◌≤◌, length};
 ghost use Rattle.fapp_model.specs.declared.instance.Instance.{Instance};
 ghost use Rattle.log_laws.specs.Segments.{ended};
 ghost use Rattle.settle_laws.specs.Published.{IsOfferable, IsPublished};
@@ -14,7 +14,7 @@ pub fn publish<H: Shared>(place: u32, shared: &mut H, log: &mut Log) -> Result<(
     requires last { place + 1 ≡ length log.old.lines }
     requires behind { ended log.old.segments ≤ place }
     requires offerable { (instance : Instance) × H.serves shared.old instance × IsOfferable instance log.old.lines place }
-    ensures serves { (instance : Instance) → H.serves shared.old instance → H.serves shared.new instance }
+    ensures serves { (instance : Instance) → H.serves shared.old instance ↔ H.serves shared.new instance }
     ensures published { IsPublished (H.state shared.old) (H.state shared.new) log.old log.new place result }
 {
     let last = &log.lines()[place as usize];
