@@ -1,21 +1,18 @@
 -- A worker between two jobs.
-use Rattle.std.proofs.Common.{◌≡◌, ℕ, zero, suc, ◌+◌, ◌-◌, ◌*◌, ◌<◌, ◌≤◌, max, List, [], ◌∷◌, ◌++◌, length, map, get_or, slice_get, All, AllPairs, Contains, Option, None, Some, Ok, tt, refl, sym, ap, ◌∙◌, subst, arith, sum_by}
-use Rattle.std.specs.declared.alloc.AllocError.{AllocError}
+use Rattle.std.proofs.Common.{◌≡◌, ℕ, zero, suc, ◌+◌, ◌-◌, ◌<◌, ◌≤◌, List, [], ◌∷◌, ◌++◌, length, map, slice_get, All, Option, None, Some, is_some, refl, sym, ap, ◌∙◌, subst, inl, inr, arith}
 use Rattle.std.proofs.Math.Nat.{mul-le-mul_right}
 use Rattle.std.proofs.lemmas.Bool.{cases_lt}
 use Rattle.std.proofs.lemmas.List.{length-append}
-use Rattle.std.proofs.lemmas.List.Elements.{All-append, All-nil, AllPairs-nil}
+use Rattle.std.proofs.lemmas.List.Elements.{All-append, All-nil}
 use Rattle.std.proofs.lemmas.List.Sums.{count_by-le-length, sum_by_push}
 use Rattle.fapp_model.specs.declared.instance.Instance.{Instance}
-use Rattle.fapp_model.specs.declared.literal.Literal.{Literal}
 use Rattle.fapp_model.specs.declared.tag.Tag.{Tag}
 use Rattle.fapp_model.specs.Costs.{cost}
 use Rattle.fapp_model.specs.Instances.{IsInstance}
 use Rattle.fapp_model.specs.Levels.{levels_of}
 use Rattle.fapp_model.specs.Tags.{code_of}
-use Rattle.fapp_model.specs.search.Jobs.{job_count, job_level, job_prefix, prefixes, target}
+use Rattle.fapp_model.specs.search.Jobs.{job_count, job_level, job_prefix}
 use Rattle.fapp_model.specs.search.Prefixes.{IsPrefix}
-use Rattle.fapp_model.specs.search.Tries.{IsTries}
 use Rattle.fapp_plan.specs.Plans.{Split}
 use Rattle.fapp_plan.specs.VerdictRule.{top_code}
 use Rattle.log_laws.specs.declared.line.LogLine.{LogLine}
@@ -25,13 +22,14 @@ use Rattle.search_log.specs.declared.log.KeptPlan.{KeptPlan}
 use Rattle.search_log.specs.Bounds.{BoundState, lowest}
 use Rattle.search_log.specs.Logs.{empty_log}
 use Rattle.search_log.specs.LogStates.{LogState}
-use Rattle.settle_laws.specs.Settling.{AreHome, Settles}
-use Rattle.settle_laws.specs.Worlds.{IsKeptRight, IsLeastOffered, IsPlain}
-use Rattle.fapp_plan.proofs.Rules.{IsCodeFor, code-most}
+use Rattle.settle_laws.specs.Settling.{AreHome}
+use Rattle.settle_laws.specs.Worlds.{IsKeptRight, IsLeastOffered, IsPlain, world}
+use Rattle.fapp_plan.proofs.Rules.{code-most}
 use Rattle.settle_laws.proofs.FullPrefixes.{cost-own}
 use Rattle.settle_laws.proofs.Settling.{ticks-most}
 use Rattle.settle_laws.proofs.TagCodes.{code-back}
 use Rattle.tries_laws.proofs.JobParts.{job-is, prefixes-all}
+use Rattle.outcome_laws.proofs.Words.{cost-level}
 use Rattle.fapp_workers.specs.declared.worker.Done.{Done}
 use Rattle.fapp_workers.specs.Decided.{Decides, no_rows}
 use Rattle.outcome_laws.specs.Outcomes.{AreTicksOf}
@@ -58,24 +56,15 @@ none-mapped f (x ∷ xs) e = absurd (omega (arith, ap length e))
 
 module _ (split : Split) (fuel id : ℕ) (bound after : BoundState) (log longer : LogState) (last : Done) (inside : id < job_count split.instance split.split)
     (d : Decides split id fuel bound log after longer last) (low : lowest after.began after.least ≤ after.told) where
-  instance : Instance
-  instance = split.instance
-
-  level : ℕ
-  level = job_level split.instance id
-
-  prefix : List Literal
-  prefix = job_prefix split.instance split.split id
-
-  valid : level ≤ levels_of split.instance
+  valid : job_level split.instance id ≤ levels_of split.instance
   valid = (job-is split.instance split.split id inside).in_range
 
   ticks-few : AreTicksOf split fuel id last.ticks
   ticks-few = record {
     within = d.within;
     tried = λ tries is.
-        let most = ticks-most split.instance (job_level split.instance id) (job_prefix split.instance split.split id) d.settles.count tries (job-prefix-is split id inside) d.settles.ticks is in
-        omega (arith, most, d.settles.taken, d.within);
+        let most = ticks-most split.instance (job_level split.instance id) (job_prefix split.instance split.split id) (world fuel bound no_rows log) (world (fuel - last.ticks) after no_rows longer) d.settles.refused_at tries (job-prefix-is split id inside) d.settles.ticks is in
+        omega (arith, most, d.within);
   }
 
   last-done : IsDone split fuel id longer.lines (lowest after.began after.least) last
@@ -130,6 +119,7 @@ works-on split fuel workers number id bound after log longer done last next insi
   where
     lower : lowest after.began after.least ≤ lowest bound.began bound.least
     lower = omega (arith, d.settles.lowers bound.began, ap (λ n. lowest n after.least) d.settles.began)
+
     done-grows : (k : ℕ) → IsDone split fuel (dealt workers number k) log.lines (lowest bound.began bound.least) (done_at done k) →
         IsDone split fuel (dealt workers number k) longer.lines (lowest after.began after.least) (done_at done k)
     done-grows k h = record {
@@ -143,9 +133,9 @@ none-at zero line e = absurd cc
 none-at (suc n) line e = absurd cc
 
 empty-good : (instance : Instance) → IsGoodLog instance [] [] []
-empty-good instance = record {
+empty-good given = record {
   good_lines = λ n line e. absurd (none-at n line e);
-  in_order = record { ends = All-nil _; ascending = AllPairs-nil _; lower = All-nil _ };
+  in_order = record { ends = All-nil _; ascending = λ i j d less inside. absurd (omega (arith, inside)); lower = All-nil _ };
 }
 
 -- a worker that has not begun
@@ -169,10 +159,9 @@ cost-kept instance valid began top None (Some n) offered right = absurd offered
 cost-kept instance valid began top (Some best) None offered right = absurd offered
 cost-kept instance valid began top (Some best) (Some n) offered right =
     let same : code_of best.cost ≡ n = ap code_of offered ∙ code-back n in
-    let own : IsCodeFor instance (code_of (cost instance best.plan)) = cost-own instance best.plan valid in
-    let small : code_of (cost instance best.plan) ≤ top_code instance = code-most instance (code_of (cost instance best.plan)) own in
+    let small : code_of (cost instance best.plan) ≤ top_code instance = code-most instance (code_of (cost instance best.plan)) (cost-own instance best.plan valid) in
     let cost_is : code_of best.cost ≡ code_of (cost instance best.plan) = ap code_of right.1 in
-    omega (arith, same, small, cost_is, top)
+    (omega (arith, same, small, cost_is, top), omega (arith, same, cost_is, top, (cost-level instance best.plan valid).below_top))
 
 pub work-ends : (split : Split) (fuel workers number id : ℕ) (bound : BoundState) (log : LogState) (done : List Done) (least : Tag) → IsInstance split.instance →
     id ≡ dealt workers number (length done) → job_count split.instance split.split ≤ id → IsAtWork split fuel workers number bound log done →
@@ -188,3 +177,7 @@ work-ends split fuel workers number id bound log done least valid next past w is
   inside = w.inside;
   each = λ k less. subst (λ word. IsDone split fuel (dealt workers number k) log.lines word (done_at done k)) (sym is) (w.each k less);
 }
+
+-- the next job of a worker
+pub dealt-next : (workers number k m : ℕ) → m ≡ k + 1 → dealt workers number k + workers ≡ dealt workers number m
+dealt-next workers number k m next = rw next (omega arith)

@@ -1,5 +1,5 @@
 -- A sum over jobs is the sum over the workers of what was dealt to each.
-use Rattle.std.proofs.Common.{◌≡◌, ℕ, zero, suc, ◌+◌, ◌*◌, ◌/◌, ◌%◌, ◌<◌, ◌≤◌, Bool, true, false, cond, eqb, List, [], ◌∷◌, ◌++◌, sum_by, refl, sym, ap, ◌∙◌, subst, inl, inr, arith, add-zero, zero-add, mod-lt}
+use Rattle.std.proofs.Common.{◌≡◌, ℕ, zero, suc, ◌+◌, ◌*◌, ◌/◌, ◌%◌, ◌<◌, ◌≤◌, Bool, true, false, cond, eqb, [], ◌∷◌, ◌++◌, sum_by, refl, sym, ap, ◌∙◌, subst, inl, inr, arith, zero-add, mod-lt}
 use Rattle.std.proofs.Math.Nat.{eq-or-lt_of_le, mod-add-div', lt_of_mul-lt-mul_right, mul-le-mul_right}
 use Rattle.std.proofs.lemmas.Bool.{cases_lt, eqb-true, eq-eqb}
 use Rattle.std.proofs.lemmas.Bool.Decides.{nat_tests}
@@ -7,13 +7,15 @@ use Rattle.std.proofs.lemmas.List.Sums.{sum_by_push}
 use Rattle.std.proofs.lemmas.Nat.{mod-mul-add}
 use Rattle.std.specs.List.{range_with_len}
 use Rattle.fapp_model.proofs.CostParts.{range_more}
-use Rattle.fapp_model.proofs.Sums.{range-sum-same, sum_by-swap, sum_by-none}
+use Rattle.fapp_model.proofs.Sums.{range-sum-same, sum_by-swap}
 
 one-more : (n : ℕ) → n + 1 ≡ suc n
 one-more n = omega arith
 
 sum-more : (f : ℕ → ℕ) (n : ℕ) → sum_by f (range_with_len 0 (suc n)) ≡ sum_by f (range_with_len 0 n) + f n
-sum-more f n = ap (sum_by f) (rw (← one-more n) (range_more 0 n)) ∙ (sum_by_push f (range_with_len 0 n) (0 + n) ∙ ap (λ k. sum_by f (range_with_len 0 n) + f k) (zero-add n))
+sum-more f n =
+    let more : range_with_len 0 (suc n) ≡ range_with_len 0 n ++ (0 + n) ∷ [] = subst (λ m. range_with_len 0 m ≡ range_with_len 0 n ++ (0 + n) ∷ []) (one-more n) (range_more 0 n) in
+    ap (sum_by f) more ∙ (sum_by_push f (range_with_len 0 n) (0 + n) ∙ ap (λ k. sum_by f (range_with_len 0 n) + f k) (zero-add n))
 
 -- what a job adds to the sum of a worker
 abbrev part : (ℕ → ℕ) → ℕ → ℕ → ℕ → ℕ
@@ -131,7 +133,7 @@ pub dealt-sum : (f : ℕ → ℕ) (workers jobs : ℕ) (counts : ℕ → ℕ) �
     sum_by f (range_with_len 0 jobs) ≡ sum_by (λ w. sum_by (λ k. f (w + k * workers)) (range_with_len 0 (counts w))) (range_with_len 0 workers)
 dealt-sum f workers jobs counts some h =
     let split : sum_by f (range_with_len 0 jobs) ≡ sum_by (λ id. sum_by (λ w. part f workers w id) (range_with_len 0 workers)) (range_with_len 0 jobs) =
-        range-sum-same f (λ id. sum_by (λ w. part f workers w id) (range_with_len 0 workers)) jobs (λ id less. sym (one-class (f id) workers (id % workers) (mod-lt id some))) in
+    range-sum-same f (λ id. sum_by (λ w. part f workers w id) (range_with_len 0 workers)) jobs (λ id less. sym (one-class (f id) workers (id % workers) (mod-lt id some))) in
     split ∙ (sum_by-swap (λ id w. part f workers w id) (range_with_len 0 jobs) (range_with_len 0 workers)
     ∙ range-sum-same (λ w. sum_by (λ id. part f workers w id) (range_with_len 0 jobs)) (λ w. sum_by (λ k. f (w + k * workers)) (range_with_len 0 (counts w))) workers
     (λ w less. class-sum f workers w jobs (counts w) less (h w less)))

@@ -1,6 +1,5 @@
 -- What all workers did, by job.
-use Rattle.std.specs.Prelude.{◌≡◌, ℕ, ◌<◌, ◌≤◌, List, [], length, slice_index_or, sum, sum_by, All}
-use Rattle.fapp_model.specs.declared.instance.Instance.{Instance}
+use Rattle.std.specs.Prelude.{◌≡◌, ℕ, ◌<◌, ◌≤◌, [], length, slice_index_or, sum, sum_by, All}
 use Rattle.fapp_model.specs.search.Jobs.{job_count}
 use Rattle.fapp_plan.specs.Plans.{Split}
 use Rattle.search_log.specs.LogStates.{LogState}

@@ -1,5 +1,5 @@
 -- The ranges of settings.
-use Rattle.std.specs.Prelude.{ℕ, ◌≤◌}
+use Rattle.std.specs.Prelude.{◌≤◌}
 use Rattle.fapp_workers.specs.declared.settings.Settings.{Settings}
 
 pub record AreInRange (settings : Settings) : Type 0 where

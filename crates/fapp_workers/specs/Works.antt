@@ -1,5 +1,5 @@
 -- What a worker has done.
-use Rattle.std.specs.Prelude.{◌≡◌, ℕ, ◌+◌, ◌*◌, ◌<◌, ◌≤◌, Bool, List, [], length, slice_index_or, sum_by, count_by, All, Option, Some, None, is_some}
+use Rattle.std.specs.Prelude.{◌≡◌, ℕ, ◌+◌, ◌*◌, ◌<◌, ◌≤◌, List, [], length, slice_index_or, sum_by, count_by, All, Option, Some, None, is_some}
 use Rattle.fapp_model.specs.declared.instance.Instance.{Instance}
 use Rattle.fapp_model.specs.search.Jobs.{job_count}
 use Rattle.fapp_model.specs.Tags.{code_of}
@@ -39,10 +39,10 @@ pub record IsOwnLog (instance : Instance) (log : LogState) : Type 0 where
   pub plain : All IsPlain log.lines
   pub right : IsKeptRight instance log.best
 
--- the cost of what is kept, or the top tag where nothing is
+-- the cost of what is kept, which is below the top tag, or that tag where nothing is kept
 abbrev pub IsCostKept : Instance → Option KeptPlan → ℕ → Type 0
 IsCostKept instance None word = word ≡ top_code instance
-IsCostKept instance (Some best) word = word ≡ code_of best.cost
+IsCostKept instance (Some best) word = (word ≡ code_of best.cost) × (word < top_code instance)
 
 pub record IsDone (split : Split) (fuel id : ℕ) (lines : List LogLine) (word : ℕ) (done : Done) : Type 0 where
   pub settled : IsJobSettledBy split fuel id [] lines word done.outcome
@@ -58,7 +58,7 @@ pub record IsWorkOf (split : Split) (fuel workers number : ℕ) (worked : Worked
   pub each : (k : ℕ) → k < length worked.done →
       IsDone split fuel (dealt workers number k) worked.log.lines worked.least.code (done_at worked.done k)
 
--- the works of the workers with these numbers, in order
-pub record AreWorksOf (split : Split) (fuel workers first last : ℕ) (all : List Worked) : Type 0 where
-  pub whole : first + length all ≡ last
-  pub each : (i : ℕ) (d : Worked) → i < length all → IsWorkOf split fuel workers (first + i) (slice_index_or all i d)
+-- the works of so many workers, in the order of their numbers
+pub record AreWorksOf (split : Split) (fuel workers : ℕ) (all : List Worked) : Type 0 where
+  pub count : length all ≡ workers
+  pub each : (i : ℕ) (d : Worked) → i < length all → IsWorkOf split fuel workers i (slice_index_or all i d)

@@ -1,5 +1,5 @@
 // What all workers did, by job.
-ghost use Rattle.std.specs.Prelude.{◌≡◌, ◌<◌, length, map, IfOk};
+ghost use Rattle.std.specs.Prelude.{◌≡◌, ◌<◌, ◌≤◌, length, map, IfOk};
 ghost use Rattle.std.specs.List.{range_with_len};
 ghost use Rattle.fapp_model.specs.search.Jobs.{job_count};
 ghost use Rattle.fapp_workers.specs.Gathering.{AreAllDone, AreCollected, IsDealtOut, IsLeastFound, job_done};

@@ -1,7 +1,6 @@
 // The workers side by side.
-ghost use Rattle.std.specs.Prelude.{◌≡◌, ◌<◌, ◌≤◌, IfOk};
-ghost use Rattle.std.specs.Thread.{IsSync};
-ghost use Rattle.fapp_workers.specs.Works.{AreWorksOf};
+ghost use Rattle.std.specs.Prelude.{◌≡◌, ◌<◌, ◌≤◌, IfOk, Ok, map};
+ghost use Rattle.fapp_workers.specs.Works.{AreWorksOf, IsWorkOf};
 ghost use Rattle.fapp_workers.specs.Collections.{IsGathered};
 ghost use Rattle.fapp_workers.specs.Ranges.{AreInRange};
 
@@ -15,7 +14,7 @@ use fapp_plan::{Collected, Plan};
 use fapp_tables::Tables;
 use search_log::Log;
 use std::alloc::Global;
-use std::thread::{Threads, join};
+use std::thread::{self, Threads};
 
 /// What all workers found: their logs, what became of each job, the least cost that a log keeps, or the top tag where none
 /// keeps one, and how many ticks each job took.
@@ -27,7 +26,18 @@ pub struct Gathered {
     pub ticks: Vec<u64>,
 }
 
-/// What the workers with the numbers from `from` to `to` have done, in the order of their numbers.
+/// What each worker has done, in the order of their numbers. The first that found no memory ends it.
+fn all_of(alloc: Global, works: Vec<Result<Worked, NoMemory>>) -> Result<Vec<Worked>, NoMemory>
+    ensures { IfOk result (λ all. works.items ≡ map Ok all.items) }
+{
+    let mut all = Vec::with_capacity(alloc, works.len())?;
+    for worked in works {
+        all.push(worked?)?;
+    }
+    Ok(all)
+}
+
+/// What so many workers do side by side, in the order of their numbers.
 fn work_all<R: Threads + Sync, G: Gate>(
     rt: &R,
     alloc: Global,
@@ -35,42 +45,23 @@ fn work_all<R: Threads + Sync, G: Gate>(
     arcs: &ArcTable,
     plan: &Plan,
     settings: &Settings,
-    from: u32,
-    to: u32,
     gate: &G,
 ) -> Result<Vec<Worked>, NoMemory>
     requires arcs { arcs.now ≡ tables.now }
     requires plan { plan.now.instance ≡ tables.now }
     requires workers { settings.now.workers ≤ 32 }
-    requires some { from < to }
-    requires within { to ≤ settings.now.workers }
-    ensures { IfOk result (λ all. AreWorksOf plan.now settings.now.fuel settings.now.workers from to all.items) }
+    ensures { IfOk result (λ all. AreWorksOf plan.now settings.now.fuel settings.now.workers all.items) }
 {
-    if to - from == 1 {
-        let mut all = Vec::new(alloc);
-        all.push(work(alloc, tables, arcs, plan, settings, from, gate)?)?;
-        return Ok(all);
-    }
-    let middle = from + (to - from) / 2;
-    let (left, right) = join(
+    let works = thread::map_indices(
         rt,
-        || -> Result<Vec<Worked>, NoMemory>
-            requires { IsSync R.row × (arcs.now ≡ tables.now) × (plan.now.instance ≡ tables.now) × (settings.now.workers ≤ 32) × (from < middle) × (middle ≤ settings.now.workers) }
-            ensures { IfOk result (λ all. AreWorksOf plan.entry.now settings.entry.now.fuel settings.entry.now.workers from middle all.items) }
-        {
-            work_all(
-                rt, alloc, tables, arcs, plan, settings, from, middle, gate,
-            )
-        },
-        || -> Result<Vec<Worked>, NoMemory>
-            requires { IsSync R.row × (arcs.now ≡ tables.now) × (plan.now.instance ≡ tables.now) × (settings.now.workers ≤ 32) × (middle < to) × (to ≤ settings.now.workers) }
-            ensures { IfOk result (λ all. AreWorksOf plan.entry.now settings.entry.now.fuel settings.entry.now.workers middle to all.items) }
-        { work_all(rt, alloc, tables, arcs, plan, settings, middle, to, gate) },
-    );
-    let mut all = left?;
-    let mut rest = right?;
-    all.append(&mut rest)?;
-    Ok(all)
+        alloc,
+        settings.workers as usize,
+        &|number: usize| -> Result<Worked, NoMemory>
+            requires { (arcs.now ≡ tables.now) × (plan.now.instance ≡ tables.now) × (settings.now.workers ≤ 32) × (number < settings.now.workers) }
+            ensures { IfOk result (IsWorkOf plan.entry.now settings.entry.now.fuel settings.entry.now.workers number) }
+        { work(alloc, tables, arcs, plan, settings, number as u32, gate) },
+    )?;
+    all_of(alloc, works)
 }
 
 /// Settles all jobs of a plan by workers side by side. Each worker has every so-many-th job, by number, and a bound, a
@@ -89,17 +80,7 @@ pub fn solve_jobs<R: Threads + Sync, G: Gate>(
     requires settings { AreInRange settings.now }
     ensures { IfOk result (IsGathered plan.now settings.now.fuel) }
 {
-    let all = work_all(
-        rt,
-        alloc,
-        tables,
-        arcs,
-        plan,
-        settings,
-        0,
-        settings.workers,
-        gate,
-    )?;
+    let all = work_all(rt, alloc, tables, arcs, plan, settings, gate)?;
     let collected = collect(alloc, plan, &all)?;
     let ticks = ticks_of(alloc, plan, &all)?;
     let word = least_of(&all);
