@@ -1,0 +1,3 @@
+//! One certificate from the lines of several logs, the arcs and the plan of jobs.
+#![tactic(auto)]
+
