@@ -1,3 +1,11 @@
-//! One certificate from the lines of several logs, the arcs and the plan of jobs.
+//! One certificate from the arcs, the lines of several logs and the plan of jobs.
 #![tactic(auto)]
 
+mod copies;
+mod gathered;
+mod levels;
+mod merged;
+mod prefixes;
+mod remainder;
+mod segments;
+mod tree;

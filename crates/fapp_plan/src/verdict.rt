@@ -43,7 +43,9 @@ fn settling(outcome: &Option<(u32, Outcome)>, tag: Tag) -> Option<(u32, Ref)>
     ensures { result ≡ settling tag.code outcome.now }
 {
     match outcome {
-        Some((log, Outcome::Refuted { line, tag: found })) if found.code >= tag.code => Some((*log, *line)),
+        Some((log, Outcome::Refuted { line, tag: found })) if found.code >= tag.code => Some((
+            *log, *line,
+        )),
         _ => None,
     }
 }
@@ -53,9 +55,8 @@ fn first_settling(outcomes: &[Option<(u32, Outcome)>], tag: Tag) -> Option<(u32,
     ensures { result ≡ first_of (settling tag.code) outcomes.now }
 {
     for outcome in outcomes {
-        let found = settling(outcome, tag);
-        if found.is_some() {
-            return found;
+        if let Some(found) = settling(outcome, tag) {
+            return Some(found);
         }
     }
     None
