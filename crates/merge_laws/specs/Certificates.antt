@@ -21,7 +21,7 @@ gathered arcs logs pieces rows =
 -- the lines that end a certificate at a tag: one root line where the arcs say as much, else the plan's tree
 abbrev pub finished : Instance → ℕ → List Placed → Tag → ℕ → Merged → List Line
 finished instance split outcomes t arcs_code s = if nat_le t.code arcs_code then (s.out ++ root_line t ∷ [])
-    else emit_tree instance t (prefix_paths instance split) (prefix_number instance outcomes t.code s) s.out
+    else emit_tree instance t (prefix_number instance outcomes t.code s) (prefix_paths instance split) ([] ∷ []) s.out
 
 -- the whole certificate at a tag above (0, 0, 0), and the one line at that tag
 abbrev pub certificate : Instance → ℕ → List Line → ℕ → List (List LogLine) → List Piece → ℕ → List Placed → Tag → List Line

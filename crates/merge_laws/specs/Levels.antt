@@ -1,11 +1,11 @@
 -- The plan's tree: a line for each list of choices of the first paths of the work order, the longest lists first.
-use Rattle.std.specs.Prelude.{ℕ, zero, suc, ◌+◌, List, [], ◌∷◌, ◌++◌, length, map, take, slice_index_or}
+use Rattle.std.specs.Prelude.{ℕ, zero, suc, ◌+◌, ◌-◌, List, [], ◌∷◌, ◌++◌, length, map, flat_map}
 use Rattle.std.specs.List.{range_with_len}
 use Rattle.fapp_model.specs.declared.instance.Instance.{Instance}
 use Rattle.fapp_model.specs.declared.literal.Literal.{Literal}
 use Rattle.fapp_model.specs.declared.tag.Tag.{Tag}
 use Rattle.fapp_model.specs.Assignments.{count_at}
-use Rattle.fapp_model.specs.search.Prefixes.{choice_lists}
+use Rattle.fapp_model.specs.search.Partials.{literal}
 use Rattle.cert_lines.specs.declared.answer.Child.{Child}
 use Rattle.cert_lines.specs.declared.answer.Line.{Line}
 use Rattle.cert_lines.specs.declared.answer.Rule.TheVariants.{Branch, Count}
@@ -45,13 +45,20 @@ emit_level instance t path next [] out = out
 emit_level instance t path next (literals ∷ lists) out =
     emit_level instance t path (next + count_at instance path) lists (out ++ branch_line instance t path next literals ∷ [])
 
--- the lists of fewer than so many choices, longest first, where those that are longer by one have lines from a number on
-abbrev pub emit_levels : Instance → Tag → List ℕ → ℕ → ℕ → List Line → List Line
-emit_levels instance t paths zero next out = out
-emit_levels instance t paths (suc k) next out = emit_levels instance t paths k (length out + 1)
-    (emit_level instance t (slice_index_or paths k 0) next (choice_lists instance (take k paths)) out)
+-- the lists that are longer by a choice of a path
+abbrev pub longer : Instance → ℕ → List Literal → List (List Literal)
+longer instance path literals = map (λ index. literals ++ literal path index ∷ []) (range_with_len 0 (count_at instance path))
 
--- the tree along some paths
-abbrev pub emit_tree : Instance → Tag → List ℕ → (ℕ → ℕ) → List Line → List Line
-emit_tree instance t paths number out = emit_levels instance t paths (length paths) (length out + 1)
-    (emit_prefixes t number 0 (choice_lists instance paths) out)
+abbrev pub all_longer : Instance → ℕ → List (List Literal) → List (List Literal)
+all_longer instance path lists = flat_map (longer instance path) lists
+
+-- a Branch line on a path for each list, where the lines of those that are longer by a choice stand at the end
+abbrev pub emit_above : Instance → Tag → ℕ → List (List Literal) → List Line → List Line
+emit_above instance t path lists out =
+    emit_level instance t path (length out + 1 - length (all_longer instance path lists)) lists out
+
+-- the tree along some paths behind some lists: first what is longer than these, then they
+abbrev pub emit_tree : Instance → Tag → (ℕ → ℕ) → List ℕ → List (List Literal) → List Line → List Line
+emit_tree instance t number [] lists out = emit_prefixes t number 0 lists out
+emit_tree instance t number (path ∷ paths) lists out =
+    emit_above instance t path lists (emit_tree instance t number paths (all_longer instance path lists) out)

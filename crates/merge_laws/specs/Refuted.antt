@@ -1,5 +1,5 @@
 -- What settles the prefixes of jobs.
-use Rattle.std.specs.Prelude.{◌≡◌, ℕ, ◌<◌, ◌≤◌, nat_le, if◌then◌else◌, List, [], ◌∷◌, slice_index_or, Option, Some, None}
+use Rattle.std.specs.Prelude.{◌≡◌, ℕ, ◌<◌, ◌≤◌, List, slice_index_or, Option, Some, None}
 use Rattle.fapp_model.specs.declared.instance.Instance.{Instance}
 use Rattle.fapp_model.specs.declared.tag.Tag.{Tag}
 use Rattle.fapp_model.specs.search.Jobs.{job_count, job_prefix}
@@ -7,29 +7,9 @@ use Rattle.fapp_model.specs.search.Partials.{HasAll}
 use Rattle.log_laws.specs.declared.line.LogLine.{LogLine}
 use Rattle.log_laws.specs.declared.line.Ref.{Ref}
 use Rattle.log_laws.specs.Contents.{Cites, Content, KnownRow}
-use Rattle.search_log.specs.declared.job.Outcome.{Outcome}
-use Rattle.search_log.specs.declared.job.Outcome.TheVariants.{Refuted, Moot, Spent}
-use Rattle.fapp_plan.specs.Outcomes.{Placed, outcomes_at, refuted_code}
+use Rattle.search_log.specs.declared.job.Outcome.TheVariants.{Refuted}
+use Rattle.fapp_plan.specs.Outcomes.{Placed, settled_by}
 use Rattle.merge_laws.specs.Stages.{Merged, lines_of, number_of}
-
--- the line that an outcome names, with the place of its log
-abbrev pub named_by : ℕ → Outcome → Option (ℕ × Ref)
-named_by log (Refuted line tag) = Some (log, line)
-named_by log (Moot seen) = None
-named_by log Spent = None
-
-abbrev pub named : Placed → Option (ℕ × Ref)
-named None = None
-named (Some placed) = named_by placed.0 placed.1
-
--- what the first of some outcomes names that is Refuted with a tag of at least a code above 0
-abbrev pub first_named : ℕ → List Placed → Option (ℕ × Ref)
-first_named code [] = None
-first_named code (outcome ∷ more) = if nat_le code (refuted_code outcome) then named outcome else first_named code more
-
--- the same of a prefix's jobs
-abbrev pub settled_by : Instance → List Placed → ℕ → ℕ → Option (ℕ × Ref)
-settled_by instance outcomes code place = first_named code (outcomes_at instance outcomes place)
 
 -- the number of what is named, or 0
 abbrev pub number_by : Merged → Option (ℕ × Ref) → ℕ
