@@ -1,2 +1,4 @@
 pub mod Numbers
 pub mod Lefts
+pub mod Growing
+pub mod Trees

@@ -48,7 +48,8 @@ fn finished(
         merged.add(root_line(alloc, tag))?;
         return Ok(merged.into_lines());
     }
-    merged.write_tree(alloc, plan, collected, tag, plan.steps(), &no_choices(alloc)?)?;
+    let lists = no_choices(alloc)?;
+    merged.write_tree(plan, collected, tag, plan.steps(), &lists)?;
     Ok(merged.into_lines())
 }
 
