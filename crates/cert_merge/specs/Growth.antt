@@ -1,5 +1,5 @@
 -- How a certificate grows in one call.
-use Rattle.std.specs.Prelude.{◌≡◌, ◌≢◌, ◌⊎◌, ℕ, ◌+◌, ◌<◌, ◌≤◌, List, [], ◌∷◌, ◌++◌, length, map, flat_map, drop, slice_index_or, All, AllPairs}
+use Rattle.std.specs.Prelude.{◌≡◌, ◌≢◌, ◌⊎◌, ℕ, ◌+◌, ◌<◌, ◌≤◌, List, [], ◌∷◌, ◌++◌, length, map, drop, slice_index_or, All, AllPairs}
 use Rattle.std.specs.List.{range_with_len}
 use Rattle.fapp_model.specs.declared.instance.Instance.{Instance}
 use Rattle.fapp_model.specs.declared.literal.Literal.{Literal}
@@ -12,7 +12,7 @@ use Rattle.fapp_plan.specs.declared.steps.Step.{Step}
 use Rattle.merge_laws.specs.declared.piece.Piece.{Piece}
 use Rattle.merge_laws.specs.Certificates.{gathered}
 use Rattle.merge_laws.specs.GoodLogs.{AreByRow, all_lines}
-use Rattle.merge_laws.specs.Levels.{longer}
+use Rattle.merge_laws.specs.Levels.{all_longer}
 use Rattle.merge_laws.specs.Stages.{Merged, done_of, lines_of}
 
 -- other lines, and the same numbers
@@ -70,4 +70,4 @@ AreWithSteps paths lists = All (λ list. AllPairs (λ p q. p ≢ q) (map (λ a. 
 -- the lists that are longer by a choice of each of some paths
 abbrev pub deepest : Instance → List ℕ → List (List Literal) → List (List Literal)
 deepest instance [] lists = lists
-deepest instance (path ∷ paths) lists = deepest instance paths (flat_map (longer instance path) lists)
+deepest instance (path ∷ paths) lists = deepest instance paths (all_longer instance path lists)

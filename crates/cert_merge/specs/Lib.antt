@@ -1,2 +1,3 @@
 pub mod Conditions
 pub mod Growth
+pub mod MergedLines

@@ -1,9 +1,11 @@
 //! One certificate from the arcs, the lines of several logs and the plan of jobs.
 #![tactic(auto)]
 
+mod claim;
 mod copies;
 mod gathered;
 mod levels;
+mod merge;
 mod merged;
 mod prefixes;
 mod remainder;

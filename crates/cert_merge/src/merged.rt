@@ -1,7 +1,7 @@
 // A certificate that grows by the lines of logs.
-ghost use Rattle.std.specs.Prelude.{◌≡◌, ◌+◌, ◌<◌, ◌≤◌, [], ◌∷◌, ◌++◌, length, replicate, flat_map, IfOk, OnOk};
+ghost use Rattle.std.specs.Prelude.{◌≡◌, ◌+◌, ◌<◌, ◌≤◌, [], ◌∷◌, ◌++◌, length, replicate, flat_map, slice_index_or, IfOk, OnOk};
 ghost use Rattle.fapp_model.specs.declared.limits.TheConstants.{MAX_NUMBER};
-ghost use Rattle.merge_laws.specs.Stages.{emit, land, noted, number_of, start};
+ghost use Rattle.merge_laws.specs.Stages.{done_of, emit, land, noted, number_of, start};
 ghost use Rattle.merge_laws.specs.Written.{written_child};
 ghost use Rattle.cert_merge.specs.Growth.{with_line};
 
