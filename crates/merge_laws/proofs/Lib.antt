@@ -5,3 +5,5 @@ pub mod Beside
 pub mod WrittenLines
 pub mod StageSteps
 pub mod Stretches
+pub mod LogFacts
+pub mod SegmentOrder
