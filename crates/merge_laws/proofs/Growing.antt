@@ -17,7 +17,7 @@ use Rattle.log_laws.specs.Contents.{Content}
 use Rattle.merge_laws.specs.Fates.{AreMarked, IsFate, Stands}
 
 pub marked-grows : (instance : Instance) (out more : List Line) → AreMarked instance out → AreMarked instance (out ++ more)
-marked-grows instance out more h t a home outside = list_any-append _ out more ∙ or_left (is_marked out t a) (is_marked more t a) (h t a home outside)
+marked-grows instance out more h t a own home outside = list_any-append _ out more ∙ or_left (is_marked out t a) (is_marked more t a) (h t a own home outside)
 
 at-front : (out more : List Line) (n : ℕ) → 0 < n → n ≤ length out → line_at (out ++ more) n ≡ line_at out n
 at-front out more n low high = get_or_append_left out more no_line (n - 1) (omega (arith, low, high))

@@ -7,3 +7,5 @@ pub mod StageSteps
 pub mod Stretches
 pub mod LogFacts
 pub mod SegmentOrder
+pub mod Starting
+pub mod Gathering

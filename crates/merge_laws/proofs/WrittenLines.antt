@@ -42,10 +42,10 @@ use Rattle.merge_laws.proofs.Clean.{all-from, clean-cite, first_of-clean, has_al
 use Rattle.merge_laws.proofs.Judged.{judged-where-excluded}
 
 -- what is dead is judged dead, from lines that mark the choices outside the arcs, whatever is cited
-pub marked-judged : (instance : Instance) (out : List Line) (t : Tag) (cites : List ℕ) (literals : List Literal) → AreMarked instance out → IsPartial instance literals → 0 < t.code → Dead instance (triple_from t.code) literals → is_dead instance out t cites literals ≡ true
-marked-judged instance out t cites literals marked partial some dead =
+pub marked-judged : (instance : Instance) (out : List Line) (t : Tag) (cites : List ℕ) (literals : List Literal) → AreMarked instance out → IsTagFor instance t → IsPartial instance literals → 0 < t.code → Dead instance (triple_from t.code) literals → is_dead instance out t cites literals ≡ true
+marked-judged instance out t cites literals marked own partial some dead =
     judged-where-excluded (OutsideArc instance (mode_level (triple_from t.code))) (is_excluded out t cites literals) instance (triple_from t.code) literals partial
-    (λ a home outside. or_left (is_marked out t a) (is_cited out cites literals a) (marked t a home outside))
+    (λ a home outside. or_left (is_marked out t a) (is_cited out cites literals a) (marked t a own home outside))
     (above-least t.code some) dead
 
 -- where nothing is cited, what is outside or ruled out is outside
@@ -164,7 +164,7 @@ module _ (instance : Instance) (rows : List KnownRow) (earlier : List LogLine) (
 
   judged : (index : ℕ) → index < count_at instance path → Dead instance (triple_from line.tag.code) (literal path index ∷ line.lits) → is_settled instance out line.tag line.lits path children index ≡ true
   judged index below dead = or_right (list_any (λ child. eqb child.choice index) children) (is_dead instance out line.tag [] (literal path index ∷ line.lits))
-      (marked-judged instance out line.tag [] (literal path index ∷ line.lits) marked (whole index below) above dead)
+      (marked-judged instance out line.tag [] (literal path index ∷ line.lits) marked own (whole index below) above dead)
 
   by-child : (ref : ChoiceRef) → Contains line.refs ref → is_settled instance out line.tag line.lits path children ref.choice ≡ true
   by-child ref m =
