@@ -9,3 +9,5 @@ pub mod LogFacts
 pub mod SegmentOrder
 pub mod Starting
 pub mod Gathering
+pub mod TreeLines
+pub mod BottomLists
