@@ -11,3 +11,5 @@ pub mod Starting
 pub mod Gathering
 pub mod TreeLines
 pub mod BottomLists
+pub mod Tree
+pub mod Trees
