@@ -1,0 +1,15 @@
+pub mod Clean
+pub mod Growing
+pub mod Judged
+pub mod Beside
+pub mod WrittenLines
+pub mod StageSteps
+pub mod Stretches
+pub mod LogFacts
+pub mod SegmentOrder
+pub mod Starting
+pub mod Gathering
+pub mod TreeLines
+pub mod BottomLists
+pub mod Tree
+pub mod Trees

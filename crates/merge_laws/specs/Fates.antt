@@ -3,6 +3,7 @@ use Rattle.std.specs.Prelude.{◌≡◌, ◌⊎◌, ℕ, ◌<◌, ◌≤◌, Lis
 use Rattle.fapp_model.specs.declared.instance.Instance.{Instance}
 use Rattle.fapp_model.specs.declared.literal.Literal.{Literal}
 use Rattle.fapp_model.specs.declared.tag.Tag.{Tag}
+use Rattle.fapp_model.specs.InstanceTags.{IsTagFor}
 use Rattle.fapp_model.specs.Tags.{IsTagOf, mode_level, triple_from}
 use Rattle.fapp_model.specs.search.Arcs.{OutsideArc}
 use Rattle.fapp_model.specs.search.Dead.{Dead}
@@ -31,5 +32,5 @@ IsFate instance out content n = IsLeftOut instance content n ⊎ Stands out cont
 
 -- each choice outside the arcs of a tag's level is excluded at that tag
 abbrev pub AreMarked : Instance → List Line → Type 0
-AreMarked instance out = (t : Tag) (a : Literal) → IsLiteral instance a →
+AreMarked instance out = (t : Tag) (a : Literal) → IsTagFor instance t → IsLiteral instance a →
     OutsideArc instance (mode_level (triple_from t.code)) a → IsTrue (is_marked out t a)

@@ -6,3 +6,5 @@ pub mod GoodLogs
 pub mod Levels
 pub mod Refuted
 pub mod Certificates
+pub mod Conditions
+pub mod MergedLines
