@@ -40,4 +40,6 @@ module _ (log count counter : ℕ) (first : List LogLine) (start : Merged) (rest
       (sym (way.lines ∙ ap (λ n. emit_all log (take n rest) s) zero_left), sym (way.rest_is ∙ ap (λ n. drop n rest) zero_left))
 
 pub way-start : (log count : ℕ) (first : List LogLine) (start : Merged) → IsOnTheWay log count 0 first start first start
-way-start log count first start = record { lines = refl; rest_is = refl }
+way-start log count first start =
+    let same : count ≡ count - 0 = omega arith in
+    record { lines = ap (λ n. emit_all log (take n first) start) same; rest_is = ap (λ n. drop n first) same }

@@ -2,3 +2,5 @@ pub mod Numbers
 pub mod Lefts
 pub mod Growing
 pub mod Trees
+pub mod Gatherings
+pub mod PlanSteps

@@ -11,9 +11,9 @@ use Rattle.fapp_model.specs.Assignments.{count_at}
 use Rattle.fapp_model.specs.search.Partials.{literal}
 use Rattle.cert_lines.specs.declared.answer.Line.{Line}
 use Rattle.merge_laws.specs.Levels.{all_longer, branch_line, emit_above, emit_level, emit_prefixes, emit_tree, longer, prefix_line}
-use Rattle.cert_merge.specs.Growth.{AreApart, AreWithSteps}
+use Rattle.fapp_plan.specs.declared.steps.Step.{Step}
+use Rattle.cert_merge.specs.Growth.{AreApart, AreStepsOf, AreWithSteps, IsStepOf, deepest, step_paths}
 
-paths_of : List Literal → List ℕ
 
 -- ---- literals of different paths
 
@@ -48,7 +48,7 @@ longer-differ instance path paths (literals ∷ lists) h =
     (longer-differ instance path paths lists (All-tail (Differ (path ∷ paths)) literals lists h))
 
 pub longer-count : (instance : Instance) (path : ℕ) (lists : List (List Literal)) → length (all_longer instance path lists) ≡ length lists * count_at instance path
-longer-count instance path [] = refl
+longer-count instance path [] = grind arith
 longer-count instance path (literals ∷ lists) =
     let one = length-map-range_with_len (λ index. literals ++ literal path index ∷ []) 0 (count_at instance path) in
     let both = length-append (longer instance path literals) (all_longer instance path lists) in
@@ -73,3 +73,42 @@ tree-length instance t number [] lists out = omega (arith, prefixes-length t num
 tree-length instance t number (path ∷ paths) lists out =
     let below = emit_tree instance t number paths (all_longer instance path lists) out in
     omega (arith, level-length instance t path (length below + 1 - length (all_longer instance path lists)) lists below)
+
+-- ---- one step
+
+abbrev IsFit : Instance → Step → Type 0
+IsFit instance step = IsStepOf instance step × (step.choices ≤ 65536)
+
+pub step-head : (instance : Instance) (steps rest : List Step) (step : Step) → steps ≡ step ∷ rest → AreStepsOf instance steps → IsFit instance step × AreStepsOf instance rest
+step-head instance steps rest step is h =
+    let whole = subst (All (IsFit instance)) is h in
+    (All-head (IsFit instance) step rest whole, All-tail (IsFit instance) step rest whole)
+
+module _ (instance : Instance) (t : Tag) (number : ℕ → ℕ) (steps rest : List Step) (step : Step) (lists : List (List Literal)) (out : List Line) (is : steps ≡ step ∷ rest) (fits : AreStepsOf instance steps) where
+  abbrev deeper : List (List Literal)
+  deeper = all_longer instance step.path lists
+
+  abbrev below : List Line
+  below = emit_tree instance t number (step_paths rest) deeper out
+
+  -- the longer lists are fewer than the lines, so their first line has a number
+  pub first-inside : length deeper ≤ length below
+  first-inside = tree-length instance t number (step_paths rest) deeper out
+
+  pub first-few : (most first : ℕ) → length below ≤ most → first ≡ length below + 1 - length deeper → first + length lists * step.choices ≤ most + 1
+  first-few most first few at =
+      let inside = first-inside in
+      let count = longer-count instance step.path lists in
+      let same : length lists * step.choices ≡ length lists * count_at instance step.path = ap (λ n. length lists * n) (step-head instance steps rest step is fits).0.0 in
+      omega arith
+
+  pub tree-step : (first : ℕ) → first ≡ length below + 1 - length deeper → emit_level instance t step.path first lists below ≡ emit_tree instance t number (step_paths steps) lists out
+  tree-step first at =
+      ap (λ n. emit_level instance t step.path n lists below) at
+      ∙ ap (λ (all : List Step). emit_tree instance t number (step_paths all) lists out) (sym is)
+
+  pub step-differs : AreWithSteps (step_paths steps) lists → AreWithSteps (step_paths rest) deeper
+  step-differs h = longer-differ instance step.path (step_paths rest) lists (subst (λ (all : List Step). AreWithSteps (step_paths all) lists) is h)
+
+  pub step-deepest : (all : List (List Literal)) → deepest instance (step_paths steps) lists ≡ all → deepest instance (step_paths rest) deeper ≡ all
+  step-deepest all h = ap (λ (these : List Step). deepest instance (step_paths these) lists) (sym is) ∙ h
