@@ -31,8 +31,9 @@ module _ (log count counter : ℕ) (first : List LogLine) (start : Merged) (rest
 
   pub way-short : rest ≡ [] → (s ≡ emit_all log (take count first) start) × ([] ≡ drop count first)
   way-short none = (
-      sym (way.lines ∙ (ap (λ xs. emit_all log (take (count - counter) xs) s) none ∙ ap (λ xs. emit_all log xs s) (take_all (count - counter) [] (omega arith)))),
-      sym (way.rest_is ∙ (ap (λ xs. drop (count - counter) xs) none ∙ drop_all (count - counter) [] (omega arith))))
+    sym (way.lines ∙ (ap (λ xs. emit_all log (take (count - counter) xs) s) none ∙ ap (λ xs. emit_all log xs s) (take_all (count - counter) [] (omega arith)))),
+    sym (way.rest_is ∙ (ap (λ xs. drop (count - counter) xs) none ∙ drop_all (count - counter) [] (omega arith))),
+  )
 
   pub way-end : count ≤ counter → (s ≡ emit_all log (take count first) start) × (rest ≡ drop count first)
   way-end l =

@@ -42,11 +42,11 @@ module _ (logs : List (List LogLine)) (s : Merged) (rests : List (List LogLine))
   left-more = record {
     count = length-set rests log (drop count rest) ∙ left.count;
     each = λ other. ⊎_elim
-    (λ (same : other ≡ log). subst (λ k. lines_of (set rests log (drop count rest)) k ≡ drop (done_of next k) (lines_of logs k)) (sym same) here)
-    (λ (apart : other ≡ log → ⊥).
-    get_or-set_other rests log other (drop count rest) [] apart
-    ∙ (left.each other ∙ ap (λ n. drop n (lines_of logs other)) (sym (done-other log other (take count rest) s apart))))
-    (cases_eq other log);
+        (λ (same : other ≡ log). subst (λ k. lines_of (set rests log (drop count rest)) k ≡ drop (done_of next k) (lines_of logs k)) (sym same) here)
+        (λ (apart : other ≡ log → ⊥).
+        get_or-set_other rests log other (drop count rest) [] apart
+        ∙ (left.each other ∙ ap (λ n. drop n (lines_of logs other)) (sym (done-other log other (take count rest) s apart))))
+        (cases_eq other log);
   }
 
 -- the same where the numbers alone are known
