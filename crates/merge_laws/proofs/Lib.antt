@@ -13,3 +13,4 @@ pub mod TreeLines
 pub mod BottomLists
 pub mod Tree
 pub mod Trees
+pub mod Ruling
