@@ -14,3 +14,5 @@ pub mod BottomLists
 pub mod Tree
 pub mod Trees
 pub mod Ruling
+pub mod NoPaths
+pub mod Roots
