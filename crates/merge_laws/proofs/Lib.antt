@@ -16,3 +16,5 @@ pub mod Trees
 pub mod Ruling
 pub mod NoPaths
 pub mod Roots
+pub mod BranchCounts
+pub mod LineCounts
