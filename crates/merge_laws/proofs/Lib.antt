@@ -18,3 +18,4 @@ pub mod NoPaths
 pub mod Roots
 pub mod BranchCounts
 pub mod LineCounts
+pub mod Finishing
