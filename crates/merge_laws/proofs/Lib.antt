@@ -19,3 +19,4 @@ pub mod Roots
 pub mod BranchCounts
 pub mod LineCounts
 pub mod Finishing
+pub mod Merging

@@ -1,0 +1,58 @@
+-- What holds of merged lines.
+use Rattle.std.specs.Prelude.{◌≡◌, ◌⊎◌, ℕ, ◌+◌, ◌*◌, ◌<◌, ◌≤◌, List, [], ◌∷◌, length, All, Contains}
+use Rattle.fapp_model.specs.declared.instance.Instance.{Instance}
+use Rattle.fapp_model.specs.declared.literal.Literal.{Literal}
+use Rattle.fapp_model.specs.declared.tag.Tag.{Tag}
+use Rattle.fapp_model.specs.Instances.{IsInstance, IsNumber}
+use Rattle.fapp_model.specs.Tags.{triple_from}
+use Rattle.fapp_model.specs.search.Jobs.{prefixes}
+use Rattle.fapp_model.specs.search.Prefixes.{choice_lists, lists_along}
+use Rattle.cert_lines.specs.declared.answer.Line.{Line}
+use Rattle.cert_lines.specs.declared.answer.Verdict.{Verdict}
+use Rattle.cert_lines.specs.WellFormed.{IsLine}
+use Rattle.cert_lines.specs.acceptance.RootFaults.{verdict_tag}
+use Rattle.accept_laws.specs.Lines.{AreGood}
+use Rattle.arc_levels.specs.ArcLines.{AreArcLines}
+use Rattle.arc_levels.specs.Outside.{IsRootTag}
+use Rattle.log_laws.specs.declared.line.Ref.{Ref}
+use Rattle.log_laws.specs.Contents.{Cites, Content, KnownRow}
+use Rattle.search_log.specs.LogStates.{LogState}
+use Rattle.fapp_plan.specs.Outcomes.{Placed, settled_by}
+use Rattle.merge_laws.specs.declared.piece.Piece.{Piece}
+use Rattle.merge_laws.specs.Certificates.{gathered}
+use Rattle.merge_laws.specs.Conditions.{IsMergeable}
+use Rattle.merge_laws.specs.Fates.{AreMarked, IsFate}
+use Rattle.merge_laws.specs.GoodLogs.{AreByRow, AreGoodLogs, all_lines}
+use Rattle.merge_laws.specs.Levels.{emit_tree}
+use Rattle.merge_laws.specs.MergedLines.{IsCertificate, IsMerged}
+use Rattle.merge_laws.specs.Stages.{Merged, lines_of, number_of}
+
+-- Merged lines are well formed and accepted for the verdict, cite nothing at (0, 0, 0), and are no more than the bound.
+abbrev pub MergedLinesAreAccepted : Type 0
+MergedLinesAreAccepted = (instance : Instance) (split : ℕ) (logs : List LogState) (outcomes : List Placed) (word : ℕ) (verdict : Verdict) (lines : List Line) →
+    IsInstance instance → IsMergeable instance split logs outcomes word verdict → IsCertificate instance split logs outcomes verdict lines →
+    IsNumber (length lines) → IsMerged instance split logs verdict lines
+
+-- what the lines before the tree are: good, each choice outside the arcs marked, and whatever a log or an outcome cites
+-- has its number
+pub record AreGathered (instance : Instance) (rows : List KnownRow) (logs : List LogState) (s : Merged) : Type 0 where
+  pub good : AreGood instance s.out
+  pub formed : IsNumber (length s.out) → All (IsLine instance) s.out
+  pub marked : AreMarked instance s.out
+  pub cited : (log : ℕ) (ref : Ref) (content : Content) → Cites rows (lines_of (all_lines logs) log) ref content →
+      IsFate instance s.out content (number_of s log ref)
+
+-- The arc lines, the segments by row and the rests of good logs are that.
+abbrev pub GatheredLinesAreGood : Type 0
+GatheredLinesAreGood = (instance : Instance) (rows : List KnownRow) (logs : List LogState) (pieces : List Piece) (arcs : List Line) (room : ℕ) →
+    IsInstance instance → AreArcLines instance arcs → AreGoodLogs instance rows logs → AreByRow logs pieces → All (λ p. p.row < room) pieces →
+    AreGathered instance rows logs (gathered arcs (all_lines logs) pieces room)
+
+-- The arcs' root tag is one.
+abbrev pub OneRootTag : Type 0
+OneRootTag = (instance : Instance) (a b : ℕ) → IsRootTag instance (triple_from a) → IsRootTag instance (triple_from b) → a ≡ b
+
+-- A tree has a line for each list of choices of its first paths.
+abbrev pub TreeLines : Type 0
+TreeLines = (instance : Instance) (t : Tag) (number : ℕ → ℕ) (paths : List ℕ) (out : List Line) →
+    length (emit_tree instance t number paths ([] ∷ []) out) ≡ length out + length (lists_along instance paths)
