@@ -23,7 +23,9 @@ use Rattle.fapp_model.proofs.Members.{All-from_members, no_member}
 use Rattle.fapp_model.proofs.TagParts.{TagShape, limited, plain, mode-limited, mode-plain, shape_of}
 use Rattle.fapp_model.proofs.WorkOrders.{first-asym, order-is}
 use Rattle.cert_lines.specs.declared.answer.Line.{Line}
-use Rattle.cert_lines.specs.WellFormed.{IsLine}
+use Rattle.cert_lines.specs.declared.answer.Verdict.{Verdict}
+use Rattle.cert_lines.specs.WellFormed.{IsLine, is_shown}
+use Rattle.cert_lines.specs.acceptance.RootFaults.{verdict_tag}
 use Rattle.cert_lines.specs.acceptance.LineFaults.{line_fault}
 use Rattle.accept_laws.proofs.CodeOrder.{codes-at_most}
 use Rattle.arc_levels.specs.ArcLines.{AreArcLines}
@@ -32,17 +34,18 @@ use Rattle.log_laws.specs.declared.line.LogLine.{LogLine}
 use Rattle.log_laws.specs.declared.line.Ref.{Ref}
 use Rattle.log_laws.specs.Contents.{Cites, Content, KnownRow}
 use Rattle.search_log.specs.declared.job.Outcome.TheVariants.{Refuted}
-use Rattle.fapp_plan.specs.Outcomes.{Placed, outcomes_at, settled_by}
+use Rattle.fapp_plan.specs.Outcomes.{IsPlacedFor, Placed, outcomes_at, settled_by}
 use Rattle.fapp_plan.specs.Steps.{prefix_paths}
-use Rattle.fapp_plan.specs.VerdictRule.{lower_code}
+use Rattle.fapp_plan.specs.VerdictRule.{IsVerdictOf, lower_code}
 use Rattle.fapp_plan.proofs.Rules.{prefix-partial, some-prefix}
 use Rattle.merge_laws.specs.declared.piece.Piece.{Piece}
 use Rattle.merge_laws.specs.Fates.{AreMarked, IsFate}
+use Rattle.merge_laws.specs.Laws.{IsSettledAt}
 use Rattle.merge_laws.specs.Levels.{root_line}
 use Rattle.merge_laws.specs.Refuted.{AreRefuted, number_by, prefix_number}
 use Rattle.merge_laws.specs.Stages.{Merged, lines_of, number_of}
 use Rattle.merge_laws.proofs.Beside.{above-least}
-use Rattle.merge_laws.proofs.Ruling.{IsFound, IsJobOf, found-everywhere, job-of}
+use Rattle.merge_laws.proofs.Ruling.{IsFound, found-everywhere, job-of, root-is_tag, ruled-tag}
 use Rattle.merge_laws.proofs.Tree.{AreSettled, IsSettled}
 use Rattle.merge_laws.proofs.TreeLines.{bare-good}
 
@@ -151,3 +154,25 @@ module _ (instance : Instance) (split : ℕ) (outcomes : List Placed) (rows : Li
       let partial = prefix-partial instance split 0 (some-prefix instance split valid) in
       let home = All-contains (IsLiteral instance) (get_or (prefixes instance split) 0 []) a partial.in_range (All-contains (Contains (get_or (prefixes instance split) 0 [])) literals a h m) in
       absurd (let l = home.path in omega arith))
+
+-- ---- by the rule alone
+
+pub rule-settles : (instance : Instance) (split : ℕ) (outcomes : List Placed) (word root place : ℕ) (verdict : Verdict) → IsInstance instance → length outcomes ≡ job_count instance split → All (IsPlacedFor instance) outcomes →
+    IsTrue (is_shown (levels_of instance) (triple_from word)) → IsRootTag instance (triple_from root) → IsVerdictOf instance split outcomes word root verdict → root < (verdict_tag instance verdict).code → place < length (prefixes instance split) →
+    IsSettledAt instance split outcomes (verdict_tag instance verdict).code place
+rule-settles instance split outcomes word root place verdict valid count tags shown is rule above small =
+    let t = verdict_tag instance verdict in
+    let ruled = ruled-tag instance split outcomes word root verdict valid tags shown (root-is_tag instance root is) rule in
+    let found = found-everywhere t.code (omega arith) instance split outcomes root place above ruled.most small in
+    let job = job-of instance split outcomes place (Some (found.log, Refuted found.ref found.tag)) count found.member in
+    record {
+      id = job.id;
+      below = job.below;
+      prefix = job.prefix;
+      log = found.log;
+      line = found.ref;
+      tag = found.tag;
+      refuted = job.at;
+      reaches = found.reaches;
+      first = settled-is instance outcomes t.code place found;
+    }

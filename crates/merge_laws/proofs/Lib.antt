@@ -3,6 +3,7 @@ pub mod Growing
 pub mod Judged
 pub mod Beside
 pub mod WrittenLines
+pub mod Staged
 pub mod StageSteps
 pub mod Stretches
 pub mod LogFacts

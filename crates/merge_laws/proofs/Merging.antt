@@ -16,14 +16,18 @@ use Rattle.fapp_model.specs.search.LineBound.{choice_total, tree_size}
 use Rattle.fapp_model.specs.search.Prefixes.{lists_along}
 use Rattle.fapp_model.proofs.InOrder.{pairs-nil}
 use Rattle.fapp_model.proofs.Members.{All-from_members}
+use Rattle.cert_lines.specs.declared.answer.Answer.{Answer}
 use Rattle.cert_lines.specs.declared.answer.Line.{Line}
 use Rattle.cert_lines.specs.declared.answer.Rule.TheVariants.{Count}
 use Rattle.cert_lines.specs.declared.answer.Verdict.{Verdict}
 use Rattle.cert_lines.specs.WellFormed.{IsLine}
 use Rattle.cert_lines.specs.acceptance.LineFaults.{line_fault, lines_fault}
+use Rattle.cert_lines.specs.acceptance.Accepts.{answer_fault}
+use Rattle.cert_lines.specs.acceptance.PlanFaults.{plan_fault}
 use Rattle.cert_lines.specs.acceptance.RootFaults.{root_fault, verdict_tag}
 use Rattle.accept_laws.specs.Lines.{AreGood}
-use Rattle.accept_laws.proofs.GoodLines.{good-none}
+use Rattle.accept_laws.proofs.GoodLines.{clean-lines, good-none}
+use Rattle.accept_laws.proofs.Accepting.{parts-accepted}
 use Rattle.arc_levels.specs.ArcLines.{AreArcLines, IsLineOf}
 use Rattle.arc_levels.specs.Outside.{IsRootTag}
 use Rattle.log_laws.specs.declared.line.LogLine.{LogLine}
@@ -43,7 +47,8 @@ use Rattle.merge_laws.specs.Laws.{AreGathered}
 use Rattle.merge_laws.specs.Levels.{branch_line, emit_level, emit_prefixes, emit_tree, all_longer, prefix_line, root_line}
 use Rattle.merge_laws.specs.MergedLines.{HasNoCite, IsCertificate, IsMerged, branch_total}
 use Rattle.merge_laws.specs.Refuted.{AreRefuted, prefix_number}
-use Rattle.merge_laws.specs.Stages.{IsStage, Merged, lines_of, number_of}
+use Rattle.merge_laws.specs.Stages.{Merged, lines_of, number_of}
+use Rattle.merge_laws.proofs.Staged.{IsStage}
 use Rattle.merge_laws.proofs.BottomLists.{bottom, bottom-all}
 use Rattle.merge_laws.proofs.BranchCounts.{IsBounded, all-branches, gathered-bounded}
 use Rattle.merge_laws.proofs.Finishing.{empty-literals, first-settled, nothing-within, number, paths-apart, prefixes-settled, root-good}
@@ -243,3 +248,6 @@ gathered-good instance rows logs pieces arcs room valid lined good sorted fit =
 
 pub whole-tree : (instance : Instance) (t : Tag) (number : ℕ → ℕ) (paths : List ℕ) (out : List Line) → length (emit_tree instance t number paths ([] ∷ []) out) ≡ length out + length (lists_along instance paths)
 whole-tree instance t number paths out = let e = length-tree instance t number paths ([] ∷ []) out in omega arith
+
+pub answer-accepted : (instance : Instance) (split : ℕ) (logs : List LogState) (answer : Answer) → plan_fault instance answer.plan answer.verdict ≡ None → IsMerged instance split logs answer.verdict answer.lines → answer_fault instance answer ≡ None
+answer-accepted instance split logs answer plan h = parts-accepted instance answer (record { plan = plan; lines = clean-lines instance answer.lines h.good; root = h.root })

@@ -1,15 +1,18 @@
 -- What holds of merged lines.
-use Rattle.std.specs.Prelude.{◌≡◌, ◌⊎◌, ℕ, ◌+◌, ◌*◌, ◌<◌, ◌≤◌, List, [], ◌∷◌, length, All, Contains}
+use Rattle.std.specs.Prelude.{◌≡◌, ℕ, ◌+◌, ◌<◌, ◌≤◌, List, [], ◌∷◌, length, slice_index_or, All, IsTrue, Some, None}
 use Rattle.fapp_model.specs.declared.instance.Instance.{Instance}
-use Rattle.fapp_model.specs.declared.literal.Literal.{Literal}
 use Rattle.fapp_model.specs.declared.tag.Tag.{Tag}
 use Rattle.fapp_model.specs.Instances.{IsInstance, IsNumber}
+use Rattle.fapp_model.specs.Levels.{levels_of}
 use Rattle.fapp_model.specs.Tags.{triple_from}
-use Rattle.fapp_model.specs.search.Jobs.{prefixes}
-use Rattle.fapp_model.specs.search.Prefixes.{choice_lists, lists_along}
+use Rattle.fapp_model.specs.search.Jobs.{job_count, job_prefix, prefixes}
+use Rattle.fapp_model.specs.search.Prefixes.{lists_along}
+use Rattle.cert_lines.specs.declared.answer.Answer.{Answer}
 use Rattle.cert_lines.specs.declared.answer.Line.{Line}
 use Rattle.cert_lines.specs.declared.answer.Verdict.{Verdict}
-use Rattle.cert_lines.specs.WellFormed.{IsLine}
+use Rattle.cert_lines.specs.WellFormed.{IsLine, is_shown}
+use Rattle.cert_lines.specs.acceptance.Accepts.{Accepts}
+use Rattle.cert_lines.specs.acceptance.PlanFaults.{plan_fault}
 use Rattle.cert_lines.specs.acceptance.RootFaults.{verdict_tag}
 use Rattle.accept_laws.specs.Lines.{AreGood}
 use Rattle.arc_levels.specs.ArcLines.{AreArcLines}
@@ -17,7 +20,9 @@ use Rattle.arc_levels.specs.Outside.{IsRootTag}
 use Rattle.log_laws.specs.declared.line.Ref.{Ref}
 use Rattle.log_laws.specs.Contents.{Cites, Content, KnownRow}
 use Rattle.search_log.specs.LogStates.{LogState}
-use Rattle.fapp_plan.specs.Outcomes.{Placed, settled_by}
+use Rattle.search_log.specs.declared.job.Outcome.TheVariants.{Refuted}
+use Rattle.fapp_plan.specs.Outcomes.{IsPlacedFor, Placed, settled_by}
+use Rattle.fapp_plan.specs.VerdictRule.{IsVerdictOf}
 use Rattle.merge_laws.specs.declared.piece.Piece.{Piece}
 use Rattle.merge_laws.specs.Certificates.{gathered}
 use Rattle.merge_laws.specs.Conditions.{IsMergeable}
@@ -47,6 +52,32 @@ abbrev pub GatheredLinesAreGood : Type 0
 GatheredLinesAreGood = (instance : Instance) (rows : List KnownRow) (logs : List LogState) (pieces : List Piece) (arcs : List Line) (room : ℕ) →
     IsInstance instance → AreArcLines instance arcs → AreGoodLogs instance rows logs → AreByRow logs pieces → All (λ p. p.row < room) pieces →
     AreGathered instance rows logs (gathered arcs (all_lines logs) pieces room)
+
+-- Merged lines make an accepted answer, with any plan that has no fault for the verdict.
+abbrev pub MergedAnswerIsAccepted : Type 0
+MergedAnswerIsAccepted = (instance : Instance) (split : ℕ) (logs : List LogState) (answer : Answer) →
+    plan_fault instance answer.plan answer.verdict ≡ None → IsMerged instance split logs answer.verdict answer.lines →
+    Accepts instance answer
+
+-- a job on a prefix is Refuted with at least a tag, and what it names is what settles the prefix at that tag
+pub record IsSettledAt (instance : Instance) (split : ℕ) (outcomes : List Placed) (code place : ℕ) : Type 0 where
+  pub id : ℕ
+  pub below : id < job_count instance split
+  pub prefix : job_prefix instance split id ≡ slice_index_or (prefixes instance split) place []
+  pub log : ℕ
+  pub line : Ref
+  pub tag : Tag
+  pub refuted : slice_index_or outcomes id None ≡ Some (log, Refuted line tag)
+  pub reaches : code ≤ tag.code
+  pub first : settled_by instance outcomes code place ≡ Some (log, line)
+
+-- Where the verdict's tag is above the arcs' root tag, each prefix is settled at it.
+abbrev pub RuleSettlesPrefixes : Type 0
+RuleSettlesPrefixes = (instance : Instance) (split : ℕ) (outcomes : List Placed) (word root place : ℕ) (verdict : Verdict) →
+    IsInstance instance → length outcomes ≡ job_count instance split → All (IsPlacedFor instance) outcomes →
+    IsTrue (is_shown (levels_of instance) (triple_from word)) → IsRootTag instance (triple_from root) →
+    IsVerdictOf instance split outcomes word root verdict → root < (verdict_tag instance verdict).code →
+    place < length (prefixes instance split) → IsSettledAt instance split outcomes (verdict_tag instance verdict).code place
 
 -- The arcs' root tag is one.
 abbrev pub OneRootTag : Type 0
