@@ -1,2 +1,6 @@
 pub mod Numbers
 pub mod Lefts
+pub mod Growing
+pub mod Trees
+pub mod Gatherings
+pub mod PlanSteps

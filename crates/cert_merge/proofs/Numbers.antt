@@ -3,6 +3,7 @@ use Rattle.std.proofs.Common.{◌≡◌, ◌≢◌, ℕ, zero, suc, ◌+◌, ◌
 use Rattle.std.proofs.lemmas.Bool.{cases_Bool}
 use Rattle.std.proofs.lemmas.List.{length-set, get_or-set_same, get_or-set_other, length_push, set_past}
 use Rattle.log_laws.specs.declared.line.LogLine.{LogLine}
+use Rattle.cert_merge.specs.Growth.{IsSameRoom}
 use Rattle.merge_laws.specs.Stages.{Merged, done_of, emit, emit_all, emit_by, noted}
 
 -- a line gives its log one number more, and changes the rows' in nothing
@@ -51,3 +52,18 @@ done-other log other (line ∷ lines) s apart =
     done-other log other lines (emit log line s) apart
     ∙ (ap (λ own. length (get_or own other [])) step.own
     ∙ ap length (get_or-set_other s.own log other (get_or s.own log [] ++ step.number ∷ []) [] apart))
+
+-- a line changes no room
+pub room-one : (log : ℕ) (line : LogLine) (start s t : Merged) → t ≡ emit log line s → IsSameRoom start s → IsSameRoom start t
+room-one log line start s t is before =
+    let step = one-more log line s in
+    record {
+      own = ap (λ (v : Merged). length v.own) is ∙ (ap length step.own ∙ (length-set s.own log (get_or s.own log [] ++ step.number ∷ []) ∙ before.own));
+      row = ap (λ (v : Merged). length v.row) is ∙ (ap length step.row ∙ before.row);
+    }
+
+pub room-and : (s t u : Merged) → IsSameRoom s t → IsSameRoom t u → IsSameRoom s u
+room-and s t u first second = record { own = second.own ∙ first.own; row = second.row ∙ first.row }
+
+pub room-same : (s : Merged) → IsSameRoom s s
+room-same s = record { own = refl; row = refl }

@@ -32,6 +32,11 @@ pub record IsWithin (s : Merged) (p : Piece) : Type 0 where
   pub log : p.log < length s.own
   pub row : p.row < length s.row
 
+-- there is room for as many logs and rows as before
+pub record IsSameRoom (old new : Merged) : Type 0 where
+  pub own : length new.own ≡ length old.own
+  pub row : length new.row ≡ length old.row
+
 -- what is left of each log: its lines that are not done
 pub record AreLeft (logs : List (List LogLine)) (s : Merged) (rests : List (List LogLine)) : Type 0 where
   pub count : length rests ≡ length logs

@@ -4,7 +4,7 @@ ghost use Rattle.std.specs.List.{range_with_len};
 ghost use Rattle.log_laws.specs.declared.line.LogLine.{LogLine};
 ghost use Rattle.merge_laws.specs.Pieces.{emit_piece, emit_pieces, emit_rests};
 ghost use Rattle.merge_laws.specs.Stages.{emit_all};
-ghost use Rattle.cert_merge.specs.Growth.{AreLeft, IsGathered, IsWithin};
+ghost use Rattle.cert_merge.specs.Growth.{AreLeft, IsGathered, IsSameRoom, IsWithin};
 
 use crate::merged::Certificate;
 use crate::remainder::Remainder;
@@ -26,6 +26,7 @@ impl Certificate {
         requires { log < length self.old.own }
         ensures lines { OnOk result (self.new ≡ emit_all log (take count rest.old) self.old) }
         ensures rest { OnOk result (rest.new ≡ drop count rest.old) }
+        ensures room { OnOk result (IsSameRoom self.old self.new) }
     {
         for _ in 0..count {
             let Some(line) = rest.next() else {
@@ -42,6 +43,7 @@ impl Certificate {
         requires rests { length rests.old ≡ length self.old.own }
         ensures writes { (logs : List (List LogLine)) → AreLeft logs self.old rests.old → OnOk result (self.new ≡ emit_piece logs piece.now self.old) }
         ensures left { (logs : List (List LogLine)) → AreLeft logs self.old rests.old → OnOk result (AreLeft logs self.new rests.new) }
+        ensures room { OnOk result (IsSameRoom self.old self.new) }
     {
         let log = piece.log as usize;
         let count = (piece.last as usize + 1).saturating_sub(self.done(log));
@@ -56,6 +58,7 @@ impl Certificate {
         requires rests { length rests.old ≡ length self.old.own }
         ensures writes { (logs : List (List LogLine)) → AreLeft logs self.old rests.old → OnOk result (self.new ≡ emit_pieces logs pieces.now self.old) }
         ensures left { (logs : List (List LogLine)) → AreLeft logs self.old rests.old → OnOk result (AreLeft logs self.new rests.new) }
+        ensures room { OnOk result (IsSameRoom self.old self.new) }
     {
         for piece in pieces {
             self.write_piece(rests, piece)?;

@@ -55,7 +55,6 @@ impl Certificate {
     /// A Branch line on the next path for each list. The children cite the lines from a number on, one after another.
     pub(crate) fn write_level(
         &mut self,
-        alloc: Global,
         tag: Tag,
         step: &Step,
         first: u32,
@@ -63,13 +62,13 @@ impl Certificate {
     ) -> Result<(), NoMemory>
         requires apart { All AreApart lists.now }
         requires choices { step.now.choices ≤ 65536 }
-        requires written { first + length lists.now * step.now.choices ≤ length self.old.out + 1 }
+        requires numbers { first + length lists.now * step.now.choices ≤ MAX_NUMBER + 1 }
         ensures { (instance : Network) → IsStepOf instance step.now → OnOk result (self.new ≡ with_out self.old
             (emit_level instance tag step.now.path first lists.now self.old.out)) }
     {
         let mut next = first;
         for list in lists {
-            let line = branch_line(alloc, tag, step, next, list.as_slice())?;
+            let line = branch_line(self.alloc(), tag, step, next, list.as_slice())?;
             self.add(line)?;
             next += step.choices;
         }

@@ -5,8 +5,8 @@ ghost use Rattle.cert_lines.specs.WellFormed.{IsVerdict};
 ghost use Rattle.cert_lines.specs.acceptance.RootFaults.{verdict_tag};
 ghost use Rattle.merge_laws.specs.Certificates.{finished};
 ghost use Rattle.merge_laws.specs.Levels.{root_line};
-ghost use Rattle.cert_merge.specs.Conditions.{IsMergeable};
-ghost use Rattle.cert_merge.specs.MergedLines.{IsCertificate, IsMerged};
+ghost use Rattle.merge_laws.specs.Conditions.{IsMergeable};
+ghost use Rattle.merge_laws.specs.MergedLines.{IsCertificate, IsMerged};
 
 use crate::claim::verdict_tag;
 use crate::gathered::gathered;
@@ -48,7 +48,8 @@ fn finished(
         merged.add(root_line(alloc, tag))?;
         return Ok(merged.into_lines());
     }
-    merged.write_tree(alloc, plan, collected, tag, plan.steps(), &no_choices(alloc)?)?;
+    let lists = no_choices(alloc)?;
+    merged.write_tree(plan, collected, tag, plan.steps(), &lists)?;
     Ok(merged.into_lines())
 }
 

@@ -56,6 +56,11 @@ impl Certificate {
         Ok(merged)
     }
 
+    /// The allocator.
+    pub(crate) fn alloc(&self) -> Global {
+        self.alloc
+    }
+
     /// How many lines there are.
     pub(crate) fn len(&self) -> u32
         ensures count { result ≡ length self.now.out }

@@ -58,7 +58,6 @@ impl Certificate {
     /// A Count line for each prefix, by number.
     pub(crate) fn write_prefixes(
         &mut self,
-        alloc: Global,
         plan: &Plan,
         collected: &Collected,
         tag: Tag,
@@ -73,7 +72,7 @@ impl Certificate {
         for place in 0..plan.prefix_count() {
             let number = self.prefix_number(plan, collected, tag, place);
             let prefix = lists[place as usize].as_slice();
-            self.add(prefix_line(alloc, tag, prefix, number)?)?;
+            self.add(prefix_line(self.alloc(), tag, prefix, number)?)?;
         }
         Ok(())
     }

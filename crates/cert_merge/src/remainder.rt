@@ -1,6 +1,5 @@
 // What is left of a log.
-ghost use Rattle.std.specs.Prelude.{◌≡◌, ◌++◌, length};
-ghost use Rattle.std.specs.Option.{option_to_list};
+ghost use Rattle.std.specs.Prelude.{◌≡◌, [], ◌∷◌, length, MatchOption};
 
 use log_laws::LogLine;
 use std::collections::VecDeque;
@@ -33,7 +32,7 @@ impl Remainder {
 
     /// The next line. None comes exactly where none is left.
     pub(crate) fn next(&mut self) -> Option<LogLine>
-        ensures { self.old ≡ option_to_list result ++ self.new }
+        ensures { MatchOption result ((self.old ≡ []) × (self.new ≡ [])) (λ line. self.old ≡ line ∷ self.new) }
     {
         self.lines.pop_front()
     }

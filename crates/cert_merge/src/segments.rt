@@ -59,7 +59,9 @@ pub(crate) fn room_of(pieces: &[Piece]) -> usize
 {
     let mut room = 0;
     for piece in pieces {
-        room = room.max(piece.row as usize + 1);
+        if room <= piece.row as usize {
+            room = piece.row as usize + 1;
+        }
     }
     room
 }

@@ -62,7 +62,6 @@ impl Certificate {
     /// each of these lists.
     pub(crate) fn write_tree(
         &mut self,
-        alloc: Global,
         plan: &Plan,
         collected: &Collected,
         tag: Tag,
@@ -77,11 +76,11 @@ impl Certificate {
             (prefix_number plan.now.instance collected.now tag.code self.old) (step_paths steps.now) lists.now self.old.out)) }
     {
         let Some((step, rest)) = steps.split_first() else {
-            return self.write_prefixes(alloc, plan, collected, tag, lists);
+            return self.write_prefixes(plan, collected, tag, lists);
         };
-        let longer = longer(alloc, lists, step)?;
-        self.write_tree(alloc, plan, collected, tag, rest, &longer)?;
+        let longer = longer(self.alloc(), lists, step)?;
+        self.write_tree(plan, collected, tag, rest, &longer)?;
         let first = self.len() + 1 - longer.len() as u32;
-        self.write_level(alloc, tag, step, first, lists)
+        self.write_level(tag, step, first, lists)
     }
 }
