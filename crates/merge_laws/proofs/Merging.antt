@@ -45,7 +45,7 @@ use Rattle.merge_laws.specs.Fates.{IsFate, Stands}
 use Rattle.merge_laws.specs.GoodLogs.{AreByRow, AreGoodLogs, all_lines}
 use Rattle.merge_laws.specs.Laws.{AreGathered}
 use Rattle.merge_laws.specs.Levels.{branch_line, emit_level, emit_prefixes, emit_tree, all_longer, prefix_line, root_line}
-use Rattle.merge_laws.specs.MergedLines.{HasNoCite, IsCertificate, IsMerged, branch_total}
+use Rattle.merge_laws.specs.MergedLines.{HasNoCite, IsCertificate, IsMerged, IsOrdered, branch_total}
 use Rattle.merge_laws.specs.Refuted.{AreRefuted, prefix_number}
 use Rattle.merge_laws.specs.Stages.{Merged, lines_of, number_of}
 use Rattle.merge_laws.proofs.Staged.{IsStage}
@@ -122,7 +122,7 @@ rows-fit instance rows logs pieces room facts fit = All-from_members (λ (row : 
 
 -- ---- all that the merge is given
 
-module _ (instance : Instance) (split : ℕ) (logs : List LogState) (outcomes : List Placed) (word : ℕ) (verdict : Verdict) (lines : List Line) (valid : IsInstance instance) (given : IsMergeable instance split logs outcomes word verdict) (made : IsCertificate instance split logs outcomes verdict lines) where
+module _ (instance : Instance) (split : ℕ) (logs : List LogState) (outcomes : List Placed) (word : ℕ) (verdict : Verdict) (lines : List Line) (valid : IsInstance instance) (given : IsMergeable instance split logs outcomes word verdict) (made : IsOrdered instance split logs outcomes (verdict_tag instance verdict) lines) where
   abbrev t : Tag
   t = verdict_tag instance verdict
 
@@ -221,13 +221,21 @@ module _ (instance : Instance) (split : ℕ) (logs : List LogState) (outcomes : 
       let above : made.root < t.code = leb-false t.code made.root e in
       subst (IsEnded instance split logs t) (sym is) (by-tree some above (subst (λ l. IsNumber (length l)) is few))
 
-  by-code : (b : Bool) → eqb t.code 0 ≡ b → (ls : List Line) → ls ≡ cond b (root_line t ∷ []) (finished instance split outcomes t made.root whole) → IsNumber (length ls) → IsEnded instance split logs t ls
-  by-code true e ls is few = subst (IsEnded instance split logs t) (sym is) (root-alone instance split logs t ruled.own (eqb-true t.code 0 e))
-  by-code false e ls is few = by-root (let apart = eqb-false t.code 0 e in omega arith) (leb t.code made.root) refl ls is few
+  ordered-ended : 0 < t.code → IsNumber (length lines) → IsEnded instance split logs t lines
+  ordered-ended some few = by-root some (leb t.code made.root) refl lines made.is few
 
-  pub merged : IsNumber (length lines) → IsMerged instance split logs verdict lines
-  merged few =
-      let h = by-code (eqb t.code 0) refl lines made.is few in
+module _ (instance : Instance) (split : ℕ) (logs : List LogState) (outcomes : List Placed) (word : ℕ) (verdict : Verdict) (lines : List Line) (valid : IsInstance instance) (given : IsMergeable instance split logs outcomes word verdict) where
+  -- the verdict's tag is one of the instance
+  own-tag : IsTagFor instance (verdict_tag instance verdict)
+  own-tag = (ruled-tag instance split outcomes word given.ruled.root verdict valid given.outcomes_are.tags given.ruled.shown (root-is_tag instance given.ruled.root given.ruled.root_is) given.ruled.rule).own
+
+  ended : IsNumber (length lines) → IsCertificate instance split logs outcomes verdict lines → IsEnded instance split logs (verdict_tag instance verdict) lines
+  ended few (inl (zero_tag, is)) = subst (IsEnded instance split logs (verdict_tag instance verdict)) (sym is) (root-alone instance split logs (verdict_tag instance verdict) own-tag zero_tag)
+  ended few (inr (some, made)) = ordered-ended instance split logs outcomes word verdict lines valid given made some few
+
+  pub merged : IsCertificate instance split logs outcomes verdict lines → IsNumber (length lines) → IsMerged instance split logs verdict lines
+  merged made few =
+      let h = ended few made in
       record {
         formed = h.formed few;
         good = good-none instance lines h.good;
