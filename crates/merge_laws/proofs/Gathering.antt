@@ -18,7 +18,8 @@ use Rattle.merge_laws.specs.declared.piece.Piece.{Piece}
 use Rattle.merge_laws.specs.Certificates.{gathered}
 use Rattle.merge_laws.specs.Fates.{IsFate}
 use Rattle.merge_laws.specs.Pieces.{emit_pieces, emit_rest, emit_rests}
-use Rattle.merge_laws.specs.Stages.{IsStage, Merged, done_of, lines_of, number_of, start}
+use Rattle.merge_laws.specs.Stages.{Merged, done_of, lines_of, number_of, start}
+use Rattle.merge_laws.proofs.Staged.{IsStage}
 use Rattle.merge_laws.proofs.LogFacts.{AreLogFacts}
 use Rattle.merge_laws.proofs.SegmentOrder.{all-done, sorted-in-order}
 use Rattle.merge_laws.proofs.StageSteps.{IsDoneAfter, IsReady}

@@ -3,6 +3,7 @@ pub mod Growing
 pub mod Judged
 pub mod Beside
 pub mod WrittenLines
+pub mod Staged
 pub mod StageSteps
 pub mod Stretches
 pub mod LogFacts
@@ -13,3 +14,10 @@ pub mod TreeLines
 pub mod BottomLists
 pub mod Tree
 pub mod Trees
+pub mod Ruling
+pub mod NoPaths
+pub mod Roots
+pub mod BranchCounts
+pub mod LineCounts
+pub mod Finishing
+pub mod Merging

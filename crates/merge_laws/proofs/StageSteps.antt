@@ -20,8 +20,9 @@ use Rattle.log_laws.specs.GoodLines.{IsBranch, IsGoodLine, PassesBy}
 use Rattle.log_laws.proofs.Places.{get-take}
 use Rattle.merge_laws.specs.Fates.{IsFate}
 use Rattle.merge_laws.specs.GoodLogs.{IsBare}
-use Rattle.merge_laws.specs.Stages.{IsStage, Merged, done_of, emit, emit_branch, emit_by, land, left_out, lines_of, noted, number_of, own_of}
+use Rattle.merge_laws.specs.Stages.{Merged, done_of, emit, emit_branch, emit_by, land, left_out, lines_of, noted, number_of, own_of}
 use Rattle.merge_laws.specs.Written.{written}
+use Rattle.merge_laws.proofs.Staged.{IsStage}
 use Rattle.merge_laws.proofs.Beside.{same-some, zip-none}
 use Rattle.merge_laws.proofs.Growing.{fate-grows, formed-grows, good-grows, marked-grows, stands-last}
 use Rattle.merge_laws.proofs.WrittenLines.{HaveFates, left-out-dead, written-formed, written-good}

@@ -32,7 +32,8 @@ use Rattle.log_laws.specs.declared.line.LogLine.{LogLine}
 use Rattle.log_laws.specs.Contents.{KnownRow}
 use Rattle.log_laws.proofs.CodeOrder.{below-codes}
 use Rattle.merge_laws.specs.Fates.{AreMarked}
-use Rattle.merge_laws.specs.Stages.{IsStage, Merged, done_of, start}
+use Rattle.merge_laws.specs.Stages.{Merged, done_of, start}
+use Rattle.merge_laws.proofs.Staged.{IsStage}
 
 -- the level at which a tag looks
 mode-within : (instance : Instance) (t : Tag) → TagShape (levels_of instance) (triple_from t.code) → mode_level (triple_from t.code) ≤ levels_of instance

@@ -11,7 +11,8 @@ use Rattle.log_laws.specs.Contents.{KnownRow, content_of, known_row}
 use Rattle.log_laws.proofs.Places.{get-take}
 use Rattle.merge_laws.specs.declared.piece.Piece.{Piece}
 use Rattle.merge_laws.specs.Pieces.{emit_piece, emit_pieces, emit_rest, emit_rests, left_to}
-use Rattle.merge_laws.specs.Stages.{IsStage, Merged, done_of, emit, emit_all, lines_of}
+use Rattle.merge_laws.specs.Stages.{Merged, done_of, emit, emit_all, lines_of}
+use Rattle.merge_laws.proofs.Staged.{IsStage}
 use Rattle.merge_laws.proofs.StageSteps.{IsDoneAfter, IsReady, emit-after, line-step, row-step}
 
 -- ---- lists by place

@@ -63,7 +63,7 @@ numbered-at t (x ∷ xs) out n (suc k) d small h = subst (Stands out (says t (by
 
 -- ---- one more literal
 
-length-longer : (instance : Instance) (path : ℕ) (literals : List Literal) → length (longer instance path literals) ≡ count_at instance path
+pub length-longer : (instance : Instance) (path : ℕ) (literals : List Literal) → length (longer instance path literals) ≡ count_at instance path
 length-longer instance path literals = length-map (range_with_len 0 (count_at instance path)) (λ i. literals ++ literal path i ∷ []) ∙ length-range_with_len 0 (count_at instance path)
 
 longer-at : (instance : Instance) (path : ℕ) (literals : List Literal) (index : ℕ) → index < count_at instance path → get_or (longer instance path literals) index [] ≡ literals ++ literal path index ∷ []

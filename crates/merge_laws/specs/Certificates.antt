@@ -1,5 +1,5 @@
 -- The one certificate of logs and jobs.
-use Rattle.std.specs.Prelude.{ℕ, ◌==◌, nat_le, if◌then◌else◌, List, [], ◌∷◌, ◌++◌, length}
+use Rattle.std.specs.Prelude.{ℕ, nat_le, if◌then◌else◌, List, [], ◌∷◌, ◌++◌, length}
 use Rattle.std.specs.List.{range_with_len}
 use Rattle.fapp_model.specs.declared.instance.Instance.{Instance}
 use Rattle.fapp_model.specs.declared.tag.Tag.{Tag}
@@ -23,7 +23,7 @@ abbrev pub finished : Instance → ℕ → List Placed → Tag → ℕ → Merge
 finished instance split outcomes t arcs_code s = if nat_le t.code arcs_code then (s.out ++ root_line t ∷ [])
     else emit_tree instance t (prefix_number instance outcomes t.code s) (prefix_paths instance split) ([] ∷ []) s.out
 
--- the whole certificate at a tag above (0, 0, 0), and the one line at that tag
+-- the lines in their order, at a tag above (0, 0, 0)
 abbrev pub certificate : Instance → ℕ → List Line → ℕ → List (List LogLine) → List Piece → ℕ → List Placed → Tag → List Line
-certificate instance split arcs arcs_code logs pieces rows outcomes t = if t.code == 0 then (root_line t ∷ [])
-    else finished instance split outcomes t arcs_code (gathered arcs logs pieces rows)
+certificate instance split arcs arcs_code logs pieces rows outcomes t =
+    finished instance split outcomes t arcs_code (gathered arcs logs pieces rows)

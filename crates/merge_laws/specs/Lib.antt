@@ -8,3 +8,4 @@ pub mod Refuted
 pub mod Certificates
 pub mod Conditions
 pub mod MergedLines
+pub mod Laws

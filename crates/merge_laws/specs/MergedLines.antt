@@ -1,7 +1,8 @@
 -- What the merged lines are.
-use Rattle.std.specs.Prelude.{◌≡◌, ℕ, ◌+◌, ◌<◌, ◌≤◌, nat_lt, ◌&&◌, Bool, false, true, List, [], length, count_by, sum_by, All, Option, Some, None}
+use Rattle.std.specs.Prelude.{◌≡◌, ◌⊎◌, ℕ, ◌+◌, ◌<◌, ◌≤◌, Bool, false, true, List, [], ◌∷◌, length, count_by, sum_by, All, Option, Some, None}
 use Rattle.fapp_model.specs.declared.instance.Instance.{Instance}
 use Rattle.fapp_model.specs.search.LineBound.{choice_total, tree_size}
+use Rattle.fapp_model.specs.declared.tag.Tag.{Tag}
 use Rattle.cert_lines.specs.declared.answer.Line.{Line}
 use Rattle.cert_lines.specs.declared.answer.Rule.{Rule}
 use Rattle.cert_lines.specs.declared.answer.Rule.TheVariants.{Branch, Count}
@@ -18,10 +19,11 @@ use Rattle.fapp_plan.specs.Outcomes.{Placed}
 use Rattle.merge_laws.specs.declared.piece.Piece.{Piece}
 use Rattle.merge_laws.specs.Certificates.{certificate}
 use Rattle.merge_laws.specs.GoodLogs.{AreByRow, all_lines}
+use Rattle.merge_laws.specs.Levels.{root_line}
 
--- The lines in their order: the arc lines, the segments of the logs by row, the rests of the logs, and the plan's tree or
--- the arcs' root line, at the verdict's tag. At (0, 0, 0) the root line alone.
-pub record IsCertificate (instance : Instance) (split : ℕ) (logs : List LogState) (outcomes : List Placed) (verdict : Verdict) (lines : List Line) : Type 0 where
+-- The lines in their order: the arc lines, the segments of the logs by row, the rests of the logs, and at the tag the
+-- plan's tree or the arcs' root line.
+pub record IsOrdered (instance : Instance) (split : ℕ) (logs : List LogState) (outcomes : List Placed) (t : Tag) (lines : List Line) : Type 0 where
   pub arcs : List Line
   pub arcs_are : AreArcLines instance arcs
   pub root : ℕ
@@ -30,7 +32,17 @@ pub record IsCertificate (instance : Instance) (split : ℕ) (logs : List LogSta
   pub by_row : AreByRow logs pieces
   pub room : ℕ
   pub fits : All (λ p. p.row < room) pieces
-  pub is : lines ≡ certificate instance split arcs root (all_lines logs) pieces room outcomes (verdict_tag instance verdict)
+  pub is : lines ≡ certificate instance split arcs root (all_lines logs) pieces room outcomes t
+
+-- The lines for a tag: at (0, 0, 0) the root line alone, and above it the lines in their order.
+abbrev pub IsCertificateAt : Instance → ℕ → List LogState → List Placed → Tag → List Line → Type 0
+IsCertificateAt instance split logs outcomes t lines =
+    ((t.code ≡ 0) × (lines ≡ root_line t ∷ [])) ⊎ ((0 < t.code) × IsOrdered instance split logs outcomes t lines)
+
+-- The lines for a verdict are those for its tag.
+abbrev pub IsCertificate : Instance → ℕ → List LogState → List Placed → Verdict → List Line → Type 0
+IsCertificate instance split logs outcomes verdict lines =
+    IsCertificateAt instance split logs outcomes (verdict_tag instance verdict) lines
 
 abbrev pub is_branch_path : Option ℕ → Bool
 is_branch_path None = false

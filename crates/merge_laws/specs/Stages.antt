@@ -69,15 +69,3 @@ emit_all log (line ∷ lines) s = emit_all log lines (emit log line s)
 -- a row gets the number of a line of a log
 abbrev pub land : ℕ → ℕ → ℕ → Merged → Merged
 land row log place s = record { out = s.out; own = s.own; row = slice_set s.row row (number_of s log (Own place)) }
-
--- what is done has its fate: so many lines of each log, and the rows below a number
-pub record IsStage (instance : Instance) (rows : List KnownRow) (logs : List (List LogLine)) (pooled : ℕ) (s : Merged) : Type 0 where
-  pub good : AreGood instance s.out
-  pub formed : IsNumber (length s.out) → All (IsLine instance) s.out
-  pub marked : AreMarked instance s.out
-  pub logs_are : length s.own ≡ length logs
-  pub room : All (λ row. row.number < length s.row) rows
-  pub own : (log place : ℕ) (line : LogLine) → place < done_of s log → slice_get (lines_of logs log) place ≡ Some line →
-      IsFate instance s.out (content_of line) (number_of s log (Own place))
-  pub row : (row : KnownRow) → Contains rows row → row.number < pooled →
-      IsFate instance s.out row.content (number_of s 0 (Row row.number))
