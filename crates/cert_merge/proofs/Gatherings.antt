@@ -12,7 +12,6 @@ use Rattle.log_laws.specs.declared.line.LogLine.{LogLine}
 use Rattle.log_laws.specs.declared.line.Segment.{Segment}
 use Rattle.search_log.specs.LogStates.{LogState}
 use Rattle.merge_laws.specs.declared.piece.Piece.{Piece}
-use Rattle.merge_laws.specs.Certificates.{gathered}
 use Rattle.merge_laws.specs.GoodLogs.{AreByRow, all_lines, piece_of, pieces_from, pieces_of}
 use Rattle.merge_laws.specs.Pieces.{emit_pieces, emit_rests}
 use Rattle.merge_laws.specs.Stages.{Merged, done_of, lines_of, start}

@@ -1,5 +1,5 @@
 -- The steps of a plan: their paths differ, and the lists along them are the prefixes.
-use Rattle.std.proofs.Common.{◌≡◌, ◌≢◌, ℕ, ◌<◌, ◌≤◌, List, [], ◌∷◌, ◌++◌, length, map, take, get_or, All, AllPairs, IsTrue, refl, sym, ap, ◌∙◌, subst, arith}
+use Rattle.std.proofs.Common.{◌≡◌, ◌≢◌, ℕ, ◌<◌, List, [], ◌∷◌, ◌++◌, map, take, All, AllPairs, IsTrue, refl, sym, ap, ◌∙◌, subst, arith}
 use Rattle.std.proofs.lemmas.Bool.{lt-leb}
 use Rattle.std.proofs.lemmas.List.{get_or-take, length-take}
 use Rattle.std.proofs.lemmas.List.Elements.{All-cons, All-nil}
@@ -18,7 +18,7 @@ use Rattle.merge_laws.specs.Levels.{all_longer, emit_tree}
 use Rattle.merge_laws.specs.Refuted.{prefix_number}
 use Rattle.merge_laws.specs.Stages.{Merged}
 use Rattle.merge_laws.proofs.BottomLists.{bottom, bottom-all}
-use Rattle.cert_merge.specs.Growth.{AreStepsOf, AreWithSteps, IsStepOf, deepest, step_paths}
+use Rattle.cert_merge.specs.Growth.{AreWithSteps, IsStepOf, deepest, step_paths}
 
 order-differs : (instance : Instance) → AllPairs (λ p q. p ≢ q) (work_order instance)
 order-differs instance =

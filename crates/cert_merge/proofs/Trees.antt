@@ -1,5 +1,5 @@
 -- The lists of a tree, and how many lines it has.
-use Rattle.std.proofs.Common.{◌≡◌, ◌≢◌, ℕ, zero, suc, ◌+◌, ◌-◌, ◌*◌, ◌<◌, ◌≤◌, List, [], ◌∷◌, ◌++◌, length, map, get_or, All, AllPairs, zero-add, refl, sym, ap, ◌∙◌, subst, append_assoc, arith}
+use Rattle.std.proofs.Common.{◌≡◌, ◌≢◌, ℕ, ◌+◌, ◌-◌, ◌*◌, ◌<◌, ◌≤◌, List, [], ◌∷◌, ◌++◌, length, map, get_or, All, AllPairs, sym, ap, ◌∙◌, subst, append_assoc, arith}
 use Rattle.std.specs.List.{flat_map, range_with_len}
 use Rattle.std.proofs.lemmas.List.{get_or-map, get_or_append_left, length-append, length-map, length_push, map-append}
 use Rattle.std.proofs.lemmas.List.Elements.{All-append, All-head, All-map, All-tail}
@@ -10,7 +10,7 @@ use Rattle.fapp_model.specs.declared.tag.Tag.{Tag}
 use Rattle.fapp_model.specs.Assignments.{count_at}
 use Rattle.fapp_model.specs.search.Partials.{literal}
 use Rattle.cert_lines.specs.declared.answer.Line.{Line}
-use Rattle.merge_laws.specs.Levels.{all_longer, branch_line, emit_above, emit_level, emit_prefixes, emit_tree, longer, prefix_line}
+use Rattle.merge_laws.specs.Levels.{all_longer, branch_line, emit_level, emit_prefixes, emit_tree, longer, prefix_line}
 use Rattle.fapp_plan.specs.declared.steps.Step.{Step}
 use Rattle.merge_laws.specs.Stages.{Merged}
 use Rattle.cert_merge.specs.Growth.{AreApart, AreStepsOf, AreWithSteps, IsStepOf, deepest, step_paths, with_out}

@@ -1,4 +1,4 @@
-use Rattle.std.proofs.Common.{ℕ, ◌+◌, []}
+use Rattle.std.proofs.Common.{◌+◌, []}
 use Rattle.cert_merge.proofs.Growing.{mapped-more}
 use Rattle.cert_merge.proofs.levels.children_by.Goals as goal
 

@@ -1,4 +1,4 @@
-use Rattle.std.proofs.Common.{◌≡◌, ◌≤◌, ℕ, ◌+◌, ◌-◌, length, ◌∙◌, arith}
+use Rattle.std.proofs.Common.{◌+◌, ◌-◌, arith}
 use Rattle.fapp_model.specs.search.Jobs.{prefixes}
 use Rattle.merge_laws.specs.Refuted.{prefix_number}
 use Rattle.cert_merge.specs.Growth.{step_paths}
