@@ -3,7 +3,7 @@ use Rattle.std.proofs.Common.{◌≡◌, ℕ, zero, suc, inl, inr, ⊎_elim, ◌
 use Rattle.std.proofs.lemmas.Nat.{div_below, mod_below}
 use Rattle.fapp_model.specs.declared.instance.Instance.{Instance}
 use Rattle.fapp_model.specs.declared.literal.Literal.{Literal}
-use Rattle.std.proofs.lemmas.List.Elements.{All-drop}
+use Rattle.std.proofs.lemmas.List.Elements.{All-cons, All-drop, All-head, All-nil, All-tail}
 use Rattle.fapp_model.specs.declared.instance.Path.{Path}
 use Rattle.fapp_model.specs.Assignments.{count_at, no_path, path_at}
 use Rattle.fapp_model.specs.Choices.{choices}
@@ -36,6 +36,14 @@ count-few instance valid path l = few_choices (path_at instance path) (valid.pat
         (λ e. omega (arith, fixed_count path (inr e), h.few))
         u)
         h.polarization
+
+-- steps have few choices
+pub steps-few : (instance : Instance) → IsInstance instance → (paths : List ℕ) → All (λ path. path < length instance.paths) paths → All (λ (step : Step). step.choices ≤ 65536) (steps_along instance paths)
+steps-few instance valid [] h = All-nil (λ (step : Step). step.choices ≤ 65536)
+steps-few instance valid (path ∷ paths) h =
+    All-cons (λ (step : Step). step.choices ≤ 65536) _ (steps_along instance paths)
+    (count-few instance valid path (All-head (λ p. p < length instance.paths) path paths h))
+    (steps-few instance valid paths (All-tail (λ p. p < length instance.paths) path paths h))
 
 steps-suc : (instance : Instance) (paths : List ℕ) (n : ℕ) (d : Step) → n < length paths →
     get_or (steps_along instance paths) n d ≡ record { path = get_or paths n 0; choices = count_at instance (get_or paths n 0); ways = ways instance (drop (suc n) paths) }

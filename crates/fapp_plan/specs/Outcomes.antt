@@ -1,10 +1,12 @@
 -- What the jobs of a plan refute.
-use Rattle.std.specs.Prelude.{ℕ, ◌+◌, ◌*◌, max, min, List, [], ◌∷◌, length, map, slice_range, Option, Some, None}
+use Rattle.std.specs.Prelude.{ℕ, ◌+◌, ◌*◌, max, min, nat_le, if◌then◌else◌, List, [], ◌∷◌, length, map, slice_range, Option, Some, None}
 use Rattle.std.specs.List.{fold, range_with_len}
 use Rattle.fapp_model.specs.declared.instance.Instance.{Instance}
 use Rattle.fapp_model.specs.InstanceTags.{IsTagFor}
 use Rattle.fapp_model.specs.Levels.{levels_of}
 use Rattle.fapp_model.specs.search.Jobs.{prefixes}
+use Rattle.cert_lines.specs.acceptance.LineFaults.{first_of}
+use Rattle.log_laws.specs.declared.line.Ref.{Ref}
 use Rattle.search_log.specs.declared.job.Outcome.{Outcome}
 use Rattle.search_log.specs.declared.job.Outcome.TheVariants.{Refuted, Moot, Spent}
 
@@ -54,3 +56,17 @@ refuted_at instance outcomes place = greatest_of (map refuted_code (outcomes_at 
 unfoldable pub refuted_everywhere : Instance → ℕ → List Placed → ℕ
 refuted_everywhere instance split outcomes =
     least_of (map (refuted_at instance outcomes) (range_with_len 0 (length (prefixes instance split))))
+
+-- where an outcome is Refuted at a tag of at least so much: the place of its log, and what says so
+abbrev pub settling_line : ℕ → ℕ → Outcome → Option (ℕ × Ref)
+settling_line tag log (Refuted line found) = if nat_le tag found.code then Some (log, line) else None
+settling_line tag log (Moot seen) = None
+settling_line tag log Spent = None
+
+abbrev pub settling : ℕ → Placed → Option (ℕ × Ref)
+settling tag None = None
+settling tag (Some placed) = settling_line tag placed.0 placed.1
+
+-- the same of the first such outcome of a prefix, by its jobs' numbers
+unfoldable pub settled_by : Instance → List Placed → ℕ → ℕ → Option (ℕ × Ref)
+settled_by instance outcomes tag place = first_of (settling tag) (outcomes_at instance outcomes place)

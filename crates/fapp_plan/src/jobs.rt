@@ -1,5 +1,5 @@
 // The plan of jobs: each level on each prefix.
-ghost use Rattle.std.specs.Prelude.{◌≡◌, ◌<◌, ◌≤◌, [], length, slice_index_or, IfOk};
+ghost use Rattle.std.specs.Prelude.{◌≡◌, ◌<◌, ◌≤◌, [], length, slice_index_or, All, IfOk};
 ghost use Rattle.fapp_model.specs.Instances.{IsInstance};
 ghost use Rattle.fapp_model.specs.search.Jobs.{depth, job_count, job_level, job_prefix, prefixes};
 ghost use Rattle.fapp_plan.specs.Plans.{split_of};
@@ -64,7 +64,8 @@ impl<'a> Plan<'a> {
 
     /// The paths that the prefixes name, in the work order.
     pub fn steps(&self) -> &[Step]
-        ensures { result.now ≡ steps_along self.now.instance (prefix_paths self.now.instance self.now.split) }
+        ensures value { result.now ≡ steps_along self.now.instance (prefix_paths self.now.instance self.now.split) }
+        ensures few { All (λ step. step.choices ≤ 65536) result.now }
     {
         self.steps.as_slice()
     }

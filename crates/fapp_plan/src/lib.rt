@@ -10,7 +10,7 @@ mod verdict;
 
 pub use collected::Collected;
 pub use jobs::Plan;
-pub use laws::literals_by_path;
+pub use laws::{literals_by_path, one_verdict};
 pub use search_log::{Job, Outcome, Ref};
 pub use sorting::sorted_by_path;
 pub use steps::Step;

@@ -5,7 +5,8 @@ ghost use Rattle.fapp_model.specs.Levels.{levels_of};
 ghost use Rattle.fapp_model.specs.Tags.{triple_from};
 ghost use Rattle.fapp_model.specs.search.Jobs.{job_count, prefixes};
 ghost use Rattle.cert_lines.specs.WellFormed.{IsVerdict, is_shown};
-ghost use Rattle.fapp_plan.specs.Outcomes.{IsPlacedFor, greatest_of, refuted_at, refuted_code, refuted_everywhere};
+ghost use Rattle.cert_lines.specs.acceptance.LineFaults.{first_of};
+ghost use Rattle.fapp_plan.specs.Outcomes.{IsPlacedFor, greatest_of, outcomes_at, refuted_at, refuted_code, refuted_everywhere, settled_by, settling};
 ghost use Rattle.fapp_plan.specs.VerdictRule.{IsFirstOpen, IsVerdictOf, open_level, settled};
 
 use crate::collected::Collected;
@@ -13,7 +14,7 @@ use crate::jobs::Plan;
 use crate::sorting::sorted_by_path;
 use cert_lines::Verdict;
 use fapp_model::{Instance, NoMemory, Tag, Triple, levels, triple_of};
-use search_log::Outcome;
+use search_log::{Outcome, Ref};
 use std::alloc::Global;
 
 /// The greatest tag of the Refuted ones among some outcomes, or (0, 0, 0).
@@ -35,6 +36,30 @@ fn refuted_tag(outcome: &Option<(u32, Outcome)>) -> Tag
         Some((_, Outcome::Refuted { tag, .. })) => *tag,
         _ => Tag { code: 0 },
     }
+}
+
+/// What settles an outcome's prefix at a tag, where the outcome is Refuted at that tag or above.
+fn settling(outcome: &Option<(u32, Outcome)>, tag: Tag) -> Option<(u32, Ref)>
+    ensures { result ≡ settling tag.code outcome.now }
+{
+    match outcome {
+        Some((log, Outcome::Refuted { line, tag: found })) if found.code >= tag.code => Some((
+            *log, *line,
+        )),
+        _ => None,
+    }
+}
+
+/// The first of these.
+fn first_settling(outcomes: &[Option<(u32, Outcome)>], tag: Tag) -> Option<(u32, Ref)>
+    ensures { result ≡ first_of (settling tag.code) outcomes.now }
+{
+    for outcome in outcomes {
+        if let Some(found) = settling(outcome, tag) {
+            return Some(found);
+        }
+    }
+    None
 }
 
 /// The greater of two tags.
@@ -77,9 +102,29 @@ impl Collected {
         requires place { place < length (prefixes plan.now.instance plan.now.split) }
         ensures { result.code ≡ refuted_at plan.now.instance self.now place }
     {
+        greatest_tag(self.outcomes_at(plan, place))
+    }
+
+    /// What settles a prefix at a tag: the place of the log of the first of its outcomes, by number, that is Refuted at
+    /// that tag or above, and what says so. None comes exactly where no outcome of the prefix is.
+    #[tactic(auto, unfolding(crate::specs::Outcomes::settled_by))]
+    pub fn settled_by(&self, plan: &Plan, place: u32, tag: Tag) -> Option<(u32, Ref)>
+        requires planned { length self.now ≡ job_count plan.now.instance plan.now.split }
+        requires place { place < length (prefixes plan.now.instance plan.now.split) }
+        ensures { result ≡ settled_by plan.now.instance self.now tag.code place }
+    {
+        first_settling(self.outcomes_at(plan, place), tag)
+    }
+
+    /// The outcomes of a prefix's jobs.
+    fn outcomes_at(&self, plan: &Plan, place: u32) -> &[Option<(u32, Outcome)>]
+        requires planned { length self.now ≡ job_count plan.now.instance plan.now.split }
+        requires place { place < length (prefixes plan.now.instance plan.now.split) }
+        ensures { result.now ≡ outcomes_at plan.now.instance self.now place }
+    {
         let jobs = levels(plan.instance()) as usize + 1;
         let first = place as usize * jobs;
-        greatest_tag(&self.outcomes()[first..first + jobs])
+        &self.outcomes()[first..first + jobs]
     }
 
     /// The least of these over all prefixes.

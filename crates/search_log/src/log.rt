@@ -131,6 +131,20 @@ impl Log {
     {
         &self.segments
     }
+
+    /// The lines and the segments, in place.
+    pub fn into_parts(self) -> (Vec<LogLine>, Vec<Segment>)
+        ensures lines { result.0.items ≡ self.lines }
+        ensures segments { result.1.items ≡ self.segments }
+    {
+        let Log {
+            alloc: _,
+            lines,
+            segments,
+            best: _,
+        } = self;
+        (lines, segments)
+    }
 }
 
 /// How many lines stand up to the end of the last segment.

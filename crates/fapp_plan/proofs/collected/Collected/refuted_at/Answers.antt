@@ -3,4 +3,4 @@ use Rattle.fapp_plan.proofs.collected.Collected.refuted_at.Goals as goal
 
 pub returns : goal.returns
 unfolding refuted_at
-returns c = rw (c.outcomes.ensures, c.levels.ensures.levels, c.instance.ensures.value) at c.greatest_tag.ensures
+returns c = rw c.outcomes_at.ensures at c.greatest_tag.ensures

@@ -1,0 +1,113 @@
+-- The arc lines mark what is outside the arcs, and are a certificate's start.
+use Rattle.std.proofs.Common.{◌≡◌, ◌⊎◌, ℕ, ◌+◌, ◌-◌, ◌<◌, ◌≤◌, Bool, true, ◌&&◌, List, [], ◌∷◌, length, get_or, replicate, refl, ap, sym, subst, ◌∙◌, inl, inr, arith, None, Some, All, AllPairs, Contains, IsTrue, leb, eqb}
+use Rattle.std.specs.List.{slice_get}
+use Rattle.std.proofs.lemmas.Bool.{and_from, cases_lt, eq-eqb, le-leb}
+use Rattle.std.proofs.lemmas.List.{get_or-replicate, length-replicate, get_or_past}
+use Rattle.std.proofs.lemmas.List.Elements.{All-cons, All-contains, All-nil}
+use Rattle.fapp_model.specs.declared.instance.Instance.{Instance}
+use Rattle.fapp_model.specs.declared.literal.Literal.{Literal}
+use Rattle.fapp_model.specs.declared.tag.Tag.{Tag}
+use Rattle.fapp_model.specs.declared.triple.Triple.{Triple}
+use Rattle.fapp_model.specs.Instances.{IsInstance}
+use Rattle.fapp_model.specs.InstanceTags.{IsTagFor}
+use Rattle.fapp_model.specs.Levels.{levels_of}
+use Rattle.fapp_model.specs.Tags.{mode_level, triple_from}
+use Rattle.fapp_model.specs.Triples.{IsBelow}
+use Rattle.fapp_model.specs.search.Arcs.{OutsideArc}
+use Rattle.fapp_model.specs.search.Partials.{AreLiterals, IsLiteral}
+use Rattle.fapp_model.proofs.Anys.{any-member}
+use Rattle.fapp_model.proofs.InOrder.{pairs-cons, pairs-nil}
+use Rattle.fapp_model.proofs.Members.{All-from_members}
+use Rattle.fapp_model.proofs.TagParts.{TagShape, limited, plain, mode-limited, mode-plain, shape_of, tag_from_plain}
+use Rattle.cert_lines.specs.declared.answer.Line.{Line}
+use Rattle.cert_lines.specs.declared.answer.Rule.{Rule}
+use Rattle.cert_lines.specs.declared.answer.Rule.TheVariants.{Count}
+use Rattle.cert_lines.specs.WellFormed.{IsLine, IsRule}
+use Rattle.cert_lines.specs.acceptance.Contained.{is_same}
+use Rattle.cert_lines.specs.acceptance.Excluded.{is_marked, is_only}
+use Rattle.dead_laws.proofs.LowerLevels.{outside_lower}
+use Rattle.arc_levels.specs.ArcLines.{AreArcLines, IsLineOf}
+use Rattle.arc_levels.specs.Outside.{IsOutsideTag}
+use Rattle.log_laws.specs.declared.line.LogLine.{LogLine}
+use Rattle.log_laws.specs.Contents.{KnownRow}
+use Rattle.log_laws.proofs.CodeOrder.{below-codes}
+use Rattle.merge_laws.specs.Fates.{AreMarked}
+use Rattle.merge_laws.specs.Stages.{Merged, done_of, start}
+use Rattle.merge_laws.proofs.Staged.{IsStage}
+
+-- the level at which a tag looks
+mode-within : (instance : Instance) (t : Tag) → TagShape (levels_of instance) (triple_from t.code) → mode_level (triple_from t.code) ≤ levels_of instance
+mode-within instance t (limited some low high v s) = let e = mode-limited (triple_from t.code) some in omega arith
+mode-within instance t (plain none nothing high) = let e = mode-plain (triple_from t.code) none in omega arith
+
+-- a tag with a level alone that is above the one at which another looks is at least that one
+module _ (level : ℕ) (t high : Triple) (levels : ℕ) (shape : TagShape levels t) (none : high.v ≡ 0) (nothing : high.s ≡ 0) (above : mode_level t < high.k) where
+  not-below : IsBelow high t → ⊥
+  not-below below = by_shape shape below
+    where
+      by_shape : TagShape levels t → IsBelow high t → ⊥
+      by_shape (limited some low most v s) b = let e = mode-limited t some in elim b [
+        | inl less ↦ absurd (omega arith)
+        | inr (same, rest) ↦ absurd (omega arith)
+      ]
+      by_shape (plain v_none s_none most) b = let e = mode-plain t v_none in elim b [
+        | inl less ↦ absurd (omega arith)
+        | inr (same, inl less) ↦ absurd (omega arith)
+        | inr (same, inr (equal, less)) ↦ absurd (omega arith)
+      ]
+
+reaches : (t : Tag) (line : Line) → (IsBelow (triple_from line.tag.code) (triple_from t.code) → ⊥) → t.code ≤ line.tag.code
+reaches t line not = elim (cases_lt line.tag.code t.code) [ inl less ↦ absurd (not (below-codes line.tag.code t.code less)) | inr most ↦ most ]
+
+only-self : (a : Literal) (literals : List Literal) → literals ≡ a ∷ [] → is_only a literals ≡ true
+only-self a literals e = rw e (and_from (eqb a.path a.path) (eqb a.choice a.choice) (eq-eqb a.path a.path refl) (eq-eqb a.choice a.choice refl))
+
+module _ (instance : Instance) (arcs : List Line) (valid : IsInstance instance) (lined : AreArcLines instance arcs) where
+  marks : (t : Tag) (a : Literal) → IsTagFor instance t → IsLiteral instance a → OutsideArc instance (mode_level (triple_from t.code)) a → IsTrue (is_marked arcs t a)
+  marks t a own home outside =
+      let shape = shape_of instance (triple_from t.code) own in
+      let within = mode-within instance t shape in
+      let found = lined.each a home (outside_lower instance valid 0 (mode_level (triple_from t.code)) (omega arith) a outside) in
+      let line = found.0 in
+      let is = found.2 in
+      let above : mode_level (triple_from t.code) < (triple_from line.tag.code).k = (is.tag.levels.levels (mode_level (triple_from t.code)) within).0 outside in
+      any-member (λ line. is_only a line.lits && leb t.code line.tag.code) arcs line found.1
+      (and_from (is_only a line.lits) (leb t.code line.tag.code) (only-self a line.lits is.lits)
+      (le-leb t.code line.tag.code (reaches t line (not-below (mode_level (triple_from t.code)) (triple_from t.code) (triple_from line.tag.code) (levels_of instance) shape is.tag.limit is.tag.further above))))
+
+  one-literal : (a : Literal) → AllPairs (λ (x y : Literal). x.path < y.path) (a ∷ [])
+  one-literal a = pairs-cons (λ (x y : Literal). x.path < y.path) a [] (All-nil (λ (y : Literal). a.path < y.path)) (pairs-nil (λ (x y : Literal). x.path < y.path))
+
+  pub no-cites : IsRule instance (Count [])
+  no-cites = record { each = All-nil _; ascending = pairs-nil (λ (a b : ℕ). a < b); few = omega arith }
+
+  line-formed : (line : Line) → ((a : Literal) × IsLiteral instance a × IsLineOf instance a line) → IsLine instance line
+  line-formed line (a, home, is) = record {
+    tag = tag_from_plain (levels_of instance) (triple_from line.tag.code) is.tag.limit is.tag.further is.tag.levels.few;
+    lits = subst (λ (l : List Literal). AreLiterals instance l) (sym is.lits) (record { in_range = All-cons (IsLiteral instance) a [] home (All-nil (IsLiteral instance)); ascending = one-literal a });
+    rule = subst (λ (r : Rule). IsRule instance r) (sym is.rule) no-cites;
+  }
+
+  pub arcs-formed : All (IsLine instance) arcs
+  arcs-formed = All-from_members (IsLine instance) arcs (λ line m. line-formed line (All-contains (λ (line : Line). (a : Literal) × IsLiteral instance a × IsLineOf instance a line) arcs line lined.formed m))
+
+  module _ (rows : List KnownRow) (logs : List (List LogLine)) (room : ℕ) (fits : All (λ (row : KnownRow). row.number < room) rows) where
+    abbrev blank : List (List ℕ)
+    blank = replicate (length logs) []
+
+    none-done : (log : ℕ) → get_or blank log [] ≡ []
+    none-done log = elim (cases_lt log (length logs)) [
+      | inl inside ↦ get_or-replicate (length logs) log [] [] inside
+      | inr outside ↦ get_or_past blank log [] (let e : length blank ≡ length logs = length-replicate (length logs) [] in omega arith)
+    ]
+
+    pub start-stage : IsStage instance rows logs 0 (start arcs (length logs) room)
+    start-stage = record {
+      good = lined.good;
+      formed = λ few. arcs-formed;
+      marked = marks;
+      logs_are = length-replicate (length logs) [];
+      room = subst (λ n. All (λ (row : KnownRow). row.number < n) rows) (sym (length-replicate room 0)) fits;
+      own = λ log place line small at. absurd (let e = ap (λ (xs : List ℕ). length xs) (none-done log) in omega arith);
+      row = λ row m small. absurd (omega arith);
+    }

@@ -1,0 +1,41 @@
+-- What logs, outcomes and a verdict have to meet to be merged.
+use Rattle.std.specs.Prelude.{◌≡◌, ℕ, List, length, All, IsTrue, Option, Some, None}
+use Rattle.fapp_model.specs.declared.instance.Instance.{Instance}
+use Rattle.fapp_model.specs.Levels.{levels_of}
+use Rattle.fapp_model.specs.Tags.{triple_from}
+use Rattle.fapp_model.specs.search.Jobs.{job_count}
+use Rattle.cert_lines.specs.declared.answer.Verdict.{Verdict}
+use Rattle.cert_lines.specs.WellFormed.{is_shown}
+use Rattle.arc_levels.specs.Outside.{IsRootTag}
+use Rattle.log_laws.specs.Contents.{KnownRow}
+use Rattle.search_log.specs.LogStates.{LogState}
+use Rattle.fapp_plan.specs.Outcomes.{IsPlacedFor, Placed}
+use Rattle.fapp_plan.specs.VerdictRule.{IsVerdictOf}
+use Rattle.merge_laws.specs.GoodLogs.{AreGoodLogs, all_lines}
+use Rattle.merge_laws.specs.Refuted.{AreRefuted}
+
+abbrev pub IsPut : Placed → Type 0
+IsPut None = ⊥
+IsPut (Some placed) = Unit {0}
+
+-- each job has an outcome, and what a Refuted one names shows it
+pub record AreOutcomes (instance : Instance) (split : ℕ) (rows : List KnownRow) (logs : List LogState) (outcomes : List Placed) : Type 0 where
+  pub count : length outcomes ≡ job_count instance split
+  pub put : All IsPut outcomes
+  pub tags : All (IsPlacedFor instance) outcomes
+  pub refuted : AreRefuted instance split rows (all_lines logs) outcomes
+
+-- the verdict is the rule's, for the outcomes, a bound that may be shown and the arcs' root tag
+pub record IsRuled (instance : Instance) (split : ℕ) (outcomes : List Placed) (word : ℕ) (verdict : Verdict) : Type 0 where
+  pub shown : IsTrue (is_shown (levels_of instance) (triple_from word))
+  pub root : ℕ
+  pub root_is : IsRootTag instance (triple_from root)
+  pub rule : IsVerdictOf instance split outcomes word root verdict
+
+-- Logs that are good over the rows that they call home, each row home once and each Count line without references;
+-- outcomes of all jobs, which the logs and the rows show; and the verdict that follows.
+pub record IsMergeable (instance : Instance) (split : ℕ) (logs : List LogState) (outcomes : List Placed) (word : ℕ) (verdict : Verdict) : Type 0 where
+  pub rows : List KnownRow
+  pub logs_are : AreGoodLogs instance rows logs
+  pub outcomes_are : AreOutcomes instance split rows logs outcomes
+  pub ruled : IsRuled instance split outcomes word verdict

@@ -1,0 +1,71 @@
+-- How a certificate grows by the lines of logs, and the numbers that those lines and the rows get: 0 for what is left out.
+use Rattle.std.specs.Prelude.{◌≡◌, ℕ, ◌+◌, ◌<◌, ◌==◌, if◌then◌else◌, List, [], ◌∷◌, ◌++◌, length, slice_get, slice_index_or, slice_set, replicate, All, Contains, Option, Some, None}
+use Rattle.fapp_model.specs.declared.instance.Instance.{Instance}
+use Rattle.fapp_model.specs.Instances.{IsNumber}
+use Rattle.cert_lines.specs.declared.answer.Line.{Line}
+use Rattle.cert_lines.specs.WellFormed.{IsLine}
+use Rattle.accept_laws.specs.Lines.{AreGood}
+use Rattle.log_laws.specs.declared.line.LogLine.{LogLine}
+use Rattle.log_laws.specs.declared.line.Ref.{Ref}
+use Rattle.log_laws.specs.declared.line.Ref.TheVariants.{Own, Row}
+use Rattle.log_laws.specs.Contents.{KnownRow, content_of}
+use Rattle.merge_laws.specs.Fates.{AreMarked, IsFate}
+use Rattle.merge_laws.specs.Written.{written}
+
+-- a certificate so far; for each log the numbers of its lines that are done, and the numbers of the rows
+pub record Merged : Type 0 where
+  pub out : List Line
+  pub own : List (List ℕ)
+  pub row : List ℕ
+
+-- the arc lines, before any line of so many logs, with room for so many rows
+abbrev pub start : List Line → ℕ → ℕ → Merged
+start arcs logs rows = record { out = arcs; own = replicate logs []; row = replicate rows 0 }
+
+-- the numbers of a log's lines
+abbrev pub own_of : Merged → ℕ → List ℕ
+own_of s log = slice_index_or s.own log []
+
+-- how many lines of a log are done
+abbrev pub done_of : Merged → ℕ → ℕ
+done_of s log = length (own_of s log)
+
+-- the number of what a line of a log cites
+abbrev pub number_of : Merged → ℕ → Ref → ℕ
+number_of s log (Own n) = slice_index_or (own_of s log) n 0
+number_of s log (Row r) = slice_index_or s.row r 0
+
+-- the lines of a log
+abbrev pub lines_of : List (List LogLine) → ℕ → List LogLine
+lines_of logs log = slice_index_or logs log []
+
+-- the next line of a log gets a number
+abbrev pub noted : List (List ℕ) → ℕ → ℕ → List (List ℕ)
+noted own log n = slice_set own log (slice_index_or own log [] ++ n ∷ [])
+
+abbrev pub left_out : ℕ → Merged → Merged
+left_out log s = record { out = s.out; own = noted s.own log 0; row = s.row }
+
+abbrev pub emit_branch : ℕ → LogLine → ℕ → Merged → Merged
+emit_branch log line path s = record {
+  out = s.out ++ written (number_of s log) path line ∷ [];
+  own = noted s.own log (length s.out + 1);
+  row = s.row;
+}
+
+abbrev pub emit_by : ℕ → LogLine → Merged → Option ℕ → Merged
+emit_by log line s None = left_out log s
+emit_by log line s (Some path) = if line.tag.code == 0 then left_out log s else emit_branch log line path s
+
+-- the next line of a log is written, or left out: a Count line and one of the tag (0, 0, 0)
+abbrev pub emit : ℕ → LogLine → Merged → Merged
+emit log line s = emit_by log line s line.path
+
+-- the next lines of a log are
+abbrev pub emit_all : ℕ → List LogLine → Merged → Merged
+emit_all log [] s = s
+emit_all log (line ∷ lines) s = emit_all log lines (emit log line s)
+
+-- a row gets the number of a line of a log
+abbrev pub land : ℕ → ℕ → ℕ → Merged → Merged
+land row log place s = record { out = s.out; own = s.own; row = slice_set s.row row (number_of s log (Own place)) }
