@@ -5,3 +5,4 @@ pub mod Exploring
 pub mod Fronts
 pub mod Closing
 mod Serving
+mod Comparing

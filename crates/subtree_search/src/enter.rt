@@ -41,7 +41,7 @@ pub fn enter<B: Bound, H: Shared>(
         (world fuel.new.amount (B.state bound.new) (H.state shared.new) log) result }
 {
     let seen = bound.now();
-    if seen.code <= level_tag(level).code {
+    if seen <= level_tag(level) {
         return Entry::Decided(Found::Moot { seen });
     }
     let target = lesser(seen, level_tag(level + 1));

@@ -8,6 +8,9 @@ use fapp_model::NoMemory;
 use nogood::Published;
 use search_log::{Log, Shared};
 
+/// As many literals as a row has at most.
+const ROW_LITERALS: usize = 8;
+
 /// Offers the last line of the log, which stands at that place, where it says something and is as short as a row. Where
 /// it gets a row, it ends a segment.
 pub fn publish<H: Shared>(place: u32, shared: &mut H, log: &mut Log) -> Result<(), NoMemory>
@@ -21,7 +24,7 @@ pub fn publish<H: Shared>(place: u32, shared: &mut H, log: &mut Log) -> Result<(
     if last.tag.code == 0 {
         return Ok(());
     }
-    if last.lits.len() > 8 {
+    if last.lits.len() > ROW_LITERALS {
         return Ok(());
     }
     match shared.offer(last.lits.as_slice(), last.tag) {
