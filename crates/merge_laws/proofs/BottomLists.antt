@@ -5,7 +5,7 @@ use Rattle.fapp_model.specs.declared.instance.Instance.{Instance}
 use Rattle.fapp_model.specs.declared.literal.Literal.{Literal}
 use Rattle.fapp_model.specs.Assignments.{count_at}
 use Rattle.fapp_model.specs.search.Partials.{literal}
-use Rattle.fapp_model.specs.search.Prefixes.{choice_lists, one_more}
+use Rattle.fapp_model.specs.search.Prefixes.{choice_lists}
 use Rattle.merge_laws.specs.Levels.{all_longer, longer}
 
 flat-append : {X Y : Type 0} (f : X → List Y) (xs ys : List X) → flat_map f (xs ++ ys) ≡ flat_map f xs ++ flat_map f ys

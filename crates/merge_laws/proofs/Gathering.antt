@@ -1,7 +1,7 @@
 -- The arc lines, the segments and the rests of logs, as a whole: all is good, and whatever is cited has its fate.
-use Rattle.std.proofs.Common.{◌≡◌, ◌≢◌, ◌⊎◌, ℕ, ◌+◌, ◌<◌, ◌≤◌, Bool, List, [], ◌∷◌, length, drop, take, ap, sym, subst, inl, inr, ⊎_elim, arith, Option, Some, All, Contains, eqb}
+use Rattle.std.proofs.Common.{◌≡◌, ℕ, ◌<◌, ◌≤◌, List, [], ◌∷◌, length, drop, take, sym, subst, ⊎_elim, arith, Some, All, Contains, eqb}
 use Rattle.std.specs.List.{range_with_len, slice_get}
-use Rattle.std.proofs.lemmas.Bool.{cases_Bool, cases_lt, eqb-true, eqb-false}
+use Rattle.std.proofs.lemmas.Bool.{cases_Bool, eqb-true, eqb-false}
 use Rattle.std.proofs.lemmas.List.{length-drop}
 use Rattle.std.proofs.lemmas.List.Elements.{All-head, All-tail}
 use Rattle.fapp_model.specs.declared.instance.Instance.{Instance}
@@ -9,11 +9,10 @@ use Rattle.fapp_model.specs.Instances.{IsInstance}
 use Rattle.fapp_model.proofs.Members.{All-from_members, front_or_behind, from-range, in-range, no_member}
 use Rattle.cert_lines.specs.declared.answer.Line.{Line}
 use Rattle.arc_levels.specs.ArcLines.{AreArcLines}
-use Rattle.log_laws.specs.declared.line.ChoiceRef.{ChoiceRef}
 use Rattle.log_laws.specs.declared.line.LogLine.{LogLine}
 use Rattle.log_laws.specs.declared.line.Ref.{Ref}
 use Rattle.log_laws.specs.declared.line.Ref.TheVariants.{Own, Row}
-use Rattle.log_laws.specs.Contents.{Cites, Content, KnownRow, content_of, known_row}
+use Rattle.log_laws.specs.Contents.{Cites, Content, KnownRow, known_row}
 use Rattle.merge_laws.specs.declared.piece.Piece.{Piece}
 use Rattle.merge_laws.specs.Certificates.{gathered}
 use Rattle.merge_laws.specs.Fates.{IsFate}
@@ -24,7 +23,7 @@ use Rattle.merge_laws.proofs.LogFacts.{AreLogFacts}
 use Rattle.merge_laws.proofs.SegmentOrder.{all-done, sorted-in-order}
 use Rattle.merge_laws.proofs.StageSteps.{IsDoneAfter, IsReady}
 use Rattle.merge_laws.proofs.Starting.{start-stage}
-use Rattle.merge_laws.proofs.Stretches.{emit_all-after, past, log-inside, pieces-stage, pooled_at_end, rest-stage, rests-stage}
+use Rattle.merge_laws.proofs.Stretches.{emit_all-after, past, log-inside, pieces-stage, pooled_at_end, rests-stage}
 
 -- ---- after the rests every line is done
 

@@ -1,5 +1,5 @@
 -- What is dead is judged dead, where each literal that stands outside is excluded.
-use Rattle.std.proofs.Common.{◌≡◌, ◌⊎◌, ℕ, ◌<◌, Bool, true, false, ◌&&◌, ◌||◌, not, List, length, subst, inl, inr, Option, Some, None, is_none, refl, IsTrue, Contains}
+use Rattle.std.proofs.Common.{◌≡◌, ◌⊎◌, ℕ, ◌<◌, Bool, true, false, ◌||◌, not, List, length, subst, inl, inr, Option, Some, None, is_none, refl, IsTrue}
 use Rattle.std.specs.List.{list_any, range_with_len}
 use Rattle.std.proofs.lemmas.Bool.{and_from, or_left, or_right, both_ways, not_from_false, cases_Bool}
 use Rattle.fapp_model.specs.declared.instance.Instance.{Instance}
@@ -20,7 +20,7 @@ use Rattle.dead_laws.proofs.DeadLower.{IsPairAtMost-trans}
 use Rattle.dead_laws.proofs.Growing.{pair-grows}
 use Rattle.dead_laws.proofs.Picks.{at-names}
 use Rattle.std.proofs.lemmas.List.Elements.{All-contains, All-contains_itself}
-use Rattle.cert_lines.specs.acceptance.Judged.{is_pair_at_most, remains, least_pair, or_no_pair, has_clash, is_stuck, is_over, judged_dead}
+use Rattle.cert_lines.specs.acceptance.Judged.{is_pair_at_most, least_pair, or_no_pair, has_clash, is_stuck, is_over, judged_dead}
 use Rattle.accept_laws.proofs.PairTests.{at_most-pairs}
 use Rattle.accept_laws.proofs.LeastFolds.{IsLeastOf}
 use Rattle.accept_laws.proofs.Judging.{stays, adds, least, stays-remains, open-path, left-open}

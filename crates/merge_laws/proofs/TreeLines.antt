@@ -1,5 +1,5 @@
 -- The lines of the plan's tree, one by one.
-use Rattle.std.proofs.Common.{◌≡◌, ◌⊎◌, ℕ, zero, suc, ◌+◌, ◌<◌, ◌≤◌, Bool, true, false, ◌&&◌, ◌||◌, not, List, [], ◌∷◌, length, count_by, refl, sym, subst, inl, inr, arith, None, All, Contains, eqb, leb}
+use Rattle.std.proofs.Common.{◌≡◌, ℕ, zero, suc, ◌<◌, ◌≤◌, true, false, ◌||◌, not, List, [], ◌∷◌, length, count_by, refl, sym, subst, inl, inr, arith, None, Contains, eqb, leb}
 use Rattle.std.specs.List.{list_any, list_all, range_with_len}
 use Rattle.std.proofs.lemmas.Bool.{and_from, or_left, or_right, eq-eqb, ne_eqb, le-leb, not_from_false}
 use Rattle.std.proofs.lemmas.List.Elements.{All-contains}
