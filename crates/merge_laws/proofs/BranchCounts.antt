@@ -4,7 +4,7 @@ use Rattle.std.specs.List.{range_with_len, slice_get}
 use Rattle.std.proofs.lemmas.Bool.{eqb-false}
 use Rattle.std.proofs.lemmas.List.{length_push, length-replicate, length-set}
 use Rattle.std.proofs.lemmas.List.Sums.{count_by_more_no, count_by_more_yes, sum_by-cons, sum_by-take-le}
-use Rattle.std.proofs.lemmas.Option.{get_or_from_slice_get}
+use Rattle.std.proofs.lemmas.Option.{get_or_from_slice_get, slice_get_within}
 use Rattle.std.proofs.lemmas.List.Elements.{All-push}
 use Rattle.fapp_model.proofs.Members.{at_front, behind, from-range}
 use Rattle.cert_lines.specs.declared.answer.Line.{Line}
@@ -19,7 +19,7 @@ use Rattle.merge_laws.specs.Pieces.{emit_piece, emit_pieces, emit_rest, emit_res
 use Rattle.merge_laws.specs.Stages.{Merged, done_of, emit, emit_all, emit_branch, emit_by, left_out, lines_of, noted, number_of, start}
 use Rattle.merge_laws.specs.Written.{written}
 use Rattle.merge_laws.proofs.StageSteps.{emit-after}
-use Rattle.merge_laws.proofs.Stretches.{from-dropped, past}
+use Rattle.merge_laws.proofs.Stretches.{from-dropped}
 
 abbrev pub branches : List LogLine → ℕ
 branches lines = count_by (λ line. is_branch_path line.path) lines
@@ -34,7 +34,7 @@ next-counted : (lines : List LogLine) (k : ℕ) (line : LogLine) → slice_get l
 next-counted lines k line e b is = by_path b (ap (λ (l : LogLine). is_branch_path l.path) (get_or_from_slice_get lines k line line e) ∙ is)
   where
     inside : k < length lines
-    inside = past lines k line e
+    inside = slice_get_within lines k line e
 
     by_path : (b : Bool) → is_branch_path (get_or lines k line).path ≡ b → branches (take (k + 1) lines) ≡ branches (take k lines) + cond b 1 0
     by_path true is = count_by_more_yes (λ (l : LogLine). is_branch_path l.path) lines k line inside is

@@ -4,6 +4,7 @@ use Rattle.std.specs.List.{range_with_len, slice_get}
 use Rattle.std.proofs.lemmas.Bool.{cases_Bool, eqb-true, eqb-false}
 use Rattle.std.proofs.lemmas.List.{length-drop}
 use Rattle.std.proofs.lemmas.List.Elements.{All-head, All-tail}
+use Rattle.std.proofs.lemmas.Option.{slice_get_within}
 use Rattle.fapp_model.specs.declared.instance.Instance.{Instance}
 use Rattle.fapp_model.specs.Instances.{IsInstance}
 use Rattle.fapp_model.proofs.Members.{All-from_members, front_or_behind, from-range, in-range, no_member}
@@ -23,7 +24,7 @@ use Rattle.merge_laws.proofs.LogFacts.{AreLogFacts}
 use Rattle.merge_laws.proofs.SegmentOrder.{all-done, sorted-in-order}
 use Rattle.merge_laws.proofs.StageSteps.{IsDoneAfter, IsReady}
 use Rattle.merge_laws.proofs.Starting.{start-stage}
-use Rattle.merge_laws.proofs.Stretches.{emit_all-after, past, log-inside, pieces-stage, pooled_at_end, rests-stage}
+use Rattle.merge_laws.proofs.Stretches.{emit_all-after, log-inside, pieces-stage, pooled_at_end, rests-stage}
 
 -- ---- after the rests every line is done
 
@@ -94,6 +95,6 @@ module _ (instance : Instance) (rows : List KnownRow) (logs : List (List LogLine
   cited-fate log (Own n) content (line, at, is) =
       let inside = log-inside logs log n line at in
       let done = rests-done logs (range_with_len 0 (length logs)) segmented all-inside log (in-range (length logs) log inside) in
-      let small = past (lines_of logs log) n line at in
+      let small = slice_get_within (lines_of logs log) n line at in
       subst (λ c. IsFate instance whole.out c (number_of whole log (Own n))) (sym is) (whole-stage.own log n line (omega arith) at)
   cited-fate log (Row r) content m = whole-stage.row (known_row r content) m (all-done instance rows logs pieces facts (known_row r content) m)
