@@ -28,6 +28,7 @@ use Rattle.dead_laws.proofs.DeadLower.{dead_lower}
 use Rattle.dead_laws.proofs.DeadMore.{dead-more}
 use Rattle.accept_laws.proofs.CodeOrder.{codes-at_most}
 use Rattle.accept_laws.proofs.Having.{formed-partial, has_all-each}
+use Rattle.accept_laws.proofs.Judging.{judged-where-excluded}
 use Rattle.accept_laws.proofs.Options.{both-none}
 use Rattle.log_laws.specs.declared.line.ChoiceRef.{ChoiceRef}
 use Rattle.log_laws.specs.declared.line.LogLine.{LogLine}
@@ -38,7 +39,6 @@ use Rattle.merge_laws.specs.Fates.{AreMarked, IsFate}
 use Rattle.merge_laws.specs.Written.{child_at, written, written_child}
 use Rattle.merge_laws.proofs.Beside.{above-least, with-literal, zip-both}
 use Rattle.merge_laws.proofs.Clean.{all-from, clean-cite, first_of-clean, passes-none}
-use Rattle.merge_laws.proofs.Judged.{judged-where-excluded}
 
 -- what is dead is judged dead, from lines that mark the choices outside the arcs, whatever is cited
 pub marked-judged : (instance : Instance) (out : List Line) (t : Tag) (cites : List ℕ) (literals : List Literal) → AreMarked instance out → IsTagFor instance t → IsPartial instance literals → 0 < t.code → Dead instance (triple_from t.code) literals → is_dead instance out t cites literals ≡ true
