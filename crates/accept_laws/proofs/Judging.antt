@@ -10,7 +10,7 @@ use Rattle.fapp_model.specs.search.Clashes.{clashes, clashes_with}
 use Rattle.fapp_model.specs.search.Dead as Dead
 use Rattle.fapp_model.specs.search.Dead.{DeadBy, IsLeastAdded, Remains, clash, outside_literal, no_choice_left, over_limit}
 use Rattle.fapp_model.specs.search.Pairs.{Pair, IsPairAtMost, limit_of}
-use Rattle.fapp_model.specs.search.Partials.{literal, names, IsPartial}
+use Rattle.fapp_model.specs.search.Partials.{literal, names, IsLiteral, IsPartial}
 use Rattle.fapp_model.specs.Tags.{has_limit, least_tag, mode_level}
 use Rattle.fapp_model.specs.search.Weights.{added_pair, pair_with}
 use Rattle.fapp_model.proofs.Anys.{any-member, none-member, passing}
@@ -19,7 +19,7 @@ use Rattle.dead_laws.proofs.DeadImplied.{small-paths}
 use Rattle.dead_laws.proofs.DeadLower.{IsPairAtMost-trans}
 use Rattle.dead_laws.proofs.Growing.{pair-grows}
 use Rattle.dead_laws.proofs.Picks.{at-names}
-use Rattle.std.proofs.lemmas.List.Elements.{All-contains_itself}
+use Rattle.std.proofs.lemmas.List.Elements.{All-contains, All-contains_itself}
 use Rattle.cert_lines.specs.acceptance.Judged.{is_pair_at_most, remains, least_pair, or_no_pair, has_clash, is_stuck, is_over, judged_dead}
 use Rattle.accept_laws.proofs.PairTests.{pairs-at_most, at_most-pairs}
 use Rattle.accept_laws.proofs.LeastFolds.{IsLeastOf, fold-least}
@@ -127,33 +127,44 @@ module _ (excluded : Literal → Bool) (instance : Instance) (t : Triple) (liter
       by_clash (inl e) = clash-dead e
       by_clash (inr e) = by_excluded (subst (λ b. (b || (list_any excluded literals || (list_any (is_stuck excluded instance (mode_level t) literals) (range_with_len 0 (length instance.paths)) || is_over excluded instance t literals))) ≡ true) e h)
 
--- The other way: what is dead by the cases at a tag above the least is judged so.
-module _ (excluded : Literal → Bool) (instance : Instance) (t : Triple) (literals : List Literal) (partial : IsPartial instance literals) where
-  abbrev pub any_stuck : Bool
-  any_stuck = list_any (is_stuck excluded instance (mode_level t) literals) (range_with_len 0 (length instance.paths))
+-- The other way: what is dead by the cases at a tag above the least is judged so, where each literal that stands outside
+-- is excluded.
+module _ (outside : Literal → Type 0) (excluded : Literal → Bool) (instance : Instance) (t : Triple) (literals : List Literal) (partial : IsPartial instance literals)
+    (covers : (a : Literal) → IsLiteral instance a → outside a → IsTrue (excluded a)) where
+  abbrev pub stuck : Bool
+  stuck = list_any (is_stuck excluded instance (mode_level t) literals) (range_with_len 0 (length instance.paths))
 
   abbrev pub parts : Bool
-  parts = has_clash instance (mode_level t) literals || (list_any excluded literals || (any_stuck || is_over excluded instance t literals))
+  parts = has_clash instance (mode_level t) literals || (list_any excluded literals || (stuck || is_over excluded instance t literals))
 
-  no-pair : (path : ℕ) → ((index : ℕ) → index < count_at instance path → IsTrue (excluded (literal path index)) ⊎ IsTrue (clashes_with instance (mode_level t) literals (literal path index))) →
+  at-home : (path index : ℕ) → path < length instance.paths → index < count_at instance path → IsLiteral instance (literal path index)
+  at-home path index small below = record { path = small; choice = below }
+
+  -- what remains where more is excluded remained before
+  remains-before : (path index : ℕ) → path < length instance.paths → index < count_at instance path →
+      Remains (λ a. IsTrue (excluded a)) instance (mode_level t) literals (literal path index) → Remains outside instance (mode_level t) literals (literal path index)
+  remains-before path index small below r = record { kept = λ out. r.kept (covers (literal path index) (at-home path index small below) out); free = r.free }
+
+  no-pair : (path : ℕ) → path < length instance.paths → ((index : ℕ) → index < count_at instance path → outside (literal path index) ⊎ IsTrue (clashes_with instance (mode_level t) literals (literal path index))) →
       (o : Option Pair) → IsLeastOf (stays excluded instance (mode_level t) literals path) (adds excluded instance (mode_level t) literals path) (range_with_len 0 (count_at instance path)) o → is_none o ≡ true
-  no-pair path each None h = refl
-  no-pair path each (Some p) h =
+  no-pair path small each None h = refl
+  no-pair path small each (Some p) h =
+      let below = from-range (count_at instance path) h.item h.member in
       let r = stays-remains excluded instance (mode_level t) literals (literal path h.item) h.passes in
-      absurd (elim (each h.item (from-range (count_at instance path) h.item h.member)) [
-        | inl out ↦ r.kept out
+      absurd (elim (each h.item below) [
+        | inl out ↦ r.kept (covers (literal path h.item) (at-home path h.item small below) out)
         | inr bad ↦ both_ways (clashes_with instance (mode_level t) literals (literal path h.item)) r.free bad
       ])
 
   stuck-from : (path : ℕ) → path < length instance.paths → names literals path ≡ false →
-      ((index : ℕ) → index < count_at instance path → IsTrue (excluded (literal path index)) ⊎ IsTrue (clashes_with instance (mode_level t) literals (literal path index))) → any_stuck ≡ true
+      ((index : ℕ) → index < count_at instance path → outside (literal path index) ⊎ IsTrue (clashes_with instance (mode_level t) literals (literal path index))) → stuck ≡ true
   stuck-from path small free each =
       any-member (is_stuck excluded instance (mode_level t) literals) (range_with_len 0 (length instance.paths)) path (in-range (length instance.paths) path small)
       (and_from (not (names literals path)) (is_none (least_pair excluded instance (mode_level t) literals path)) (not_from_false (names literals path) free)
-      (no-pair path each (least_pair excluded instance (mode_level t) literals path) (least excluded instance (mode_level t) literals path)))
+      (no-pair path small each (least_pair excluded instance (mode_level t) literals path) (least excluded instance (mode_level t) literals path)))
 
-  over-from : any_stuck ≡ false → IsTrue (has_limit t) → (fewest : ℕ → Pair) →
-      ((path : ℕ) → path < length instance.paths → names literals path ≡ false → IsLeastAdded (λ a. IsTrue (excluded a)) instance (mode_level t) literals path (fewest path)) →
+  over-from : stuck ≡ false → IsTrue (has_limit t) → (fewest : ℕ → Pair) →
+      ((path : ℕ) → path < length instance.paths → names literals path ≡ false → IsLeastAdded outside instance (mode_level t) literals path (fewest path)) →
       IsPairAtMost (limit_of t) (pair_with instance (mode_level t) literals fewest) → is_over excluded instance t literals ≡ true
   over-from loose some fewest each most =
       let own : ℕ → Pair = λ path. or_no_pair (least_pair excluded instance (mode_level t) literals path) in
@@ -161,31 +172,34 @@ module _ (excluded : Literal → Bool) (instance : Instance) (t : Triple) (liter
       (λ a c free. absurd (both_ways (names literals a.path) free (at-names literals a c)))
       (λ path small free.
       let found = open-path excluded instance (mode_level t) literals path (left-open excluded instance t literals loose path small free) in
-      subst (IsPairAtMost (fewest path)) found.reached ((each path small free).least found.index found.in_range found.remains)) in
+      subst (IsPairAtMost (fewest path)) found.reached ((each path small free).least found.index found.in_range (remains-before path found.index small found.in_range found.remains))) in
       and_from (has_limit t) (is_pair_at_most (limit_of t) (pair_with instance (mode_level t) literals own)) some
       (at_most-pairs (limit_of t) (pair_with instance (mode_level t) literals own)
       (IsPairAtMost-trans (limit_of t) (pair_with instance (mode_level t) literals fewest) (pair_with instance (mode_level t) literals own) most grown))
 
   from-clash : has_clash instance (mode_level t) literals ≡ true → parts ≡ true
-  from-clash h = or_left (has_clash instance (mode_level t) literals) (list_any excluded literals || (any_stuck || is_over excluded instance t literals)) h
+  from-clash h = or_left (has_clash instance (mode_level t) literals) (list_any excluded literals || (stuck || is_over excluded instance t literals)) h
 
   from-excluded : list_any excluded literals ≡ true → parts ≡ true
-  from-excluded h = or_right (has_clash instance (mode_level t) literals) (list_any excluded literals || (any_stuck || is_over excluded instance t literals)) (or_left (list_any excluded literals) (any_stuck || is_over excluded instance t literals) h)
+  from-excluded h = or_right (has_clash instance (mode_level t) literals) (list_any excluded literals || (stuck || is_over excluded instance t literals)) (or_left (list_any excluded literals) (stuck || is_over excluded instance t literals) h)
 
-  from-rest : (any_stuck || is_over excluded instance t literals) ≡ true → parts ≡ true
-  from-rest h = or_right (has_clash instance (mode_level t) literals) (list_any excluded literals || (any_stuck || is_over excluded instance t literals)) (or_right (list_any excluded literals) (any_stuck || is_over excluded instance t literals) h)
+  from-rest : (stuck || is_over excluded instance t literals) ≡ true → parts ≡ true
+  from-rest h = or_right (has_clash instance (mode_level t) literals) (list_any excluded literals || (stuck || is_over excluded instance t literals)) (or_right (list_any excluded literals) (stuck || is_over excluded instance t literals) h)
 
-  dead-parts : (t ≡ least_tag → ⊥) → DeadBy (λ a. IsTrue (excluded a)) instance t literals → parts ≡ true
+  dead-parts : (t ≡ least_tag → ⊥) → DeadBy outside instance t literals → parts ≡ true
   dead-parts above (Dead.least e) = absurd (above e)
   dead-parts above (clash a b first second bad) = from-clash (any-member (clashes_with instance (mode_level t) literals) literals a first (any-member (clashes instance (mode_level t) a) literals b second bad))
-  dead-parts above (outside_literal a member out) = from-excluded (any-member excluded literals a member out)
-  dead-parts above (no_choice_left path small free each) = from-rest (or_left any_stuck (is_over excluded instance t literals) (stuck-from path small free each))
-  dead-parts above (over_limit some fewest each most) = from-rest (by_stuck (cases_Bool any_stuck))
+  dead-parts above (outside_literal a member out) = from-excluded (any-member excluded literals a member (covers a (All-contains (IsLiteral instance) literals a partial.in_range member) out))
+  dead-parts above (no_choice_left path small free each) = from-rest (or_left stuck (is_over excluded instance t literals) (stuck-from path small free each))
+  dead-parts above (over_limit some fewest each most) = from-rest (by_stuck (cases_Bool stuck))
     where
-      by_stuck : (any_stuck ≡ true) ⊎ (any_stuck ≡ false) → (any_stuck || is_over excluded instance t literals) ≡ true
-      by_stuck (inl e) = or_left any_stuck (is_over excluded instance t literals) e
-      by_stuck (inr e) = or_right any_stuck (is_over excluded instance t literals) (over-from e some fewest each most)
+      by_stuck : (stuck ≡ true) ⊎ (stuck ≡ false) → (stuck || is_over excluded instance t literals) ≡ true
+      by_stuck (inl e) = or_left stuck (is_over excluded instance t literals) e
+      by_stuck (inr e) = or_right stuck (is_over excluded instance t literals) (over-from e some fewest each most)
 
-  pub dead-judged : (t ≡ least_tag → ⊥) → DeadBy (λ a. IsTrue (excluded a)) instance t literals → judged_dead excluded instance t literals ≡ true
+  pub judged-where-excluded : (t ≡ least_tag → ⊥) → DeadBy outside instance t literals → judged_dead excluded instance t literals ≡ true
   unfolding judged_dead
-  dead-judged above dead = dead-parts above dead
+  judged-where-excluded above dead = dead-parts above dead
+
+pub dead-judged : (excluded : Literal → Bool) (instance : Instance) (t : Triple) (literals : List Literal) → IsPartial instance literals → (t ≡ least_tag → ⊥) → DeadBy (λ a. IsTrue (excluded a)) instance t literals → judged_dead excluded instance t literals ≡ true
+dead-judged excluded instance t literals partial above dead = judged-where-excluded (λ a. IsTrue (excluded a)) excluded instance t literals partial (λ a home out. out) above dead

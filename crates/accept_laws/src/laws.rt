@@ -1,5 +1,6 @@
 ghost use Rattle.accept_laws.specs.Answers.{AcceptanceIsProof, AcceptsByParts};
 ghost use Rattle.accept_laws.specs.Lines.{DeadIsJudged, GoodLinesAreImplied, JudgedIsDead};
+ghost use Rattle.accept_laws.specs.ShownPlans.{FeasiblePlansAreWellShown, NoPlanHasNoFault};
 
 /// Literals that are judged dead are dead by one of the cases, with the excluded choices outside.
 pub fn judged_is_dead()
@@ -28,4 +29,14 @@ pub fn accepts_by_parts()
 /// lower bound, and a shown plan is feasible and costs the shown triple.
 pub fn acceptance_is_proof()
     ensures { AcceptanceIsProof }
+{}
+
+/// A feasible plan has a text and no fault as it is shown, where the verdict states its cost.
+pub fn feasible_plans_are_well_shown()
+    ensures { FeasiblePlansAreWellShown }
+{}
+
+/// No plan at all has no fault where the verdict shows none.
+pub fn no_plan_has_no_fault()
+    ensures { NoPlanHasNoFault }
 {}

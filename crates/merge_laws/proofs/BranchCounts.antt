@@ -1,10 +1,10 @@
 -- A certificate grows by one line for each Branch line of the logs at most, each of a tag above (0, 0, 0).
-use Rattle.std.proofs.Common.{◌≡◌, ◌⊎◌, ℕ, zero, suc, ◌+◌, ◌-◌, ◌<◌, ◌≤◌, Bool, true, false, List, [], ◌∷◌, ◌++◌, length, count_by, map, sum_by, take, drop, get_or, replicate, refl, ap, sym, subst, ◌∙◌, inl, inr, arith, Option, None, Some, All, Contains, eqb, cond}
+use Rattle.std.proofs.Common.{◌≡◌, ℕ, zero, suc, ◌+◌, ◌-◌, ◌<◌, ◌≤◌, Bool, true, false, List, [], ◌∷◌, ◌++◌, length, count_by, take, drop, get_or, replicate, refl, ap, subst, ◌∙◌, arith, Option, None, Some, All, Contains, eqb, cond}
 use Rattle.std.specs.List.{range_with_len, slice_get}
-use Rattle.std.proofs.lemmas.Bool.{cases_lt, eqb-false}
+use Rattle.std.proofs.lemmas.Bool.{eqb-false}
 use Rattle.std.proofs.lemmas.List.{length_push, length-replicate, length-set}
 use Rattle.std.proofs.lemmas.List.Sums.{count_by_more_no, count_by_more_yes, sum_by-cons, sum_by-take-le}
-use Rattle.std.proofs.lemmas.Option.{get_or_from_slice_get}
+use Rattle.std.proofs.lemmas.Option.{get_or_from_slice_get, slice_get_within}
 use Rattle.std.proofs.lemmas.List.Elements.{All-push}
 use Rattle.fapp_model.proofs.Members.{at_front, behind, from-range}
 use Rattle.cert_lines.specs.declared.answer.Line.{Line}
@@ -16,10 +16,10 @@ use Rattle.merge_laws.specs.Certificates.{gathered}
 use Rattle.merge_laws.specs.GoodLogs.{all_lines}
 use Rattle.merge_laws.specs.MergedLines.{branch_total, is_branch_path}
 use Rattle.merge_laws.specs.Pieces.{emit_piece, emit_pieces, emit_rest, emit_rests, left_to}
-use Rattle.merge_laws.specs.Stages.{Merged, done_of, emit, emit_all, emit_branch, emit_by, land, left_out, lines_of, noted, number_of, start}
+use Rattle.merge_laws.specs.Stages.{Merged, done_of, emit, emit_all, emit_branch, emit_by, left_out, lines_of, noted, number_of, start}
 use Rattle.merge_laws.specs.Written.{written}
 use Rattle.merge_laws.proofs.StageSteps.{emit-after}
-use Rattle.merge_laws.proofs.Stretches.{emit_all-after, from-dropped, past}
+use Rattle.merge_laws.proofs.Stretches.{from-dropped}
 
 abbrev pub branches : List LogLine → ℕ
 branches lines = count_by (λ line. is_branch_path line.path) lines
@@ -34,7 +34,7 @@ next-counted : (lines : List LogLine) (k : ℕ) (line : LogLine) → slice_get l
 next-counted lines k line e b is = by_path b (ap (λ (l : LogLine). is_branch_path l.path) (get_or_from_slice_get lines k line line e) ∙ is)
   where
     inside : k < length lines
-    inside = past lines k line e
+    inside = slice_get_within lines k line e
 
     by_path : (b : Bool) → is_branch_path (get_or lines k line).path ≡ b → branches (take (k + 1) lines) ≡ branches (take k lines) + cond b 1 0
     by_path true is = count_by_more_yes (λ (l : LogLine). is_branch_path l.path) lines k line inside is
@@ -105,7 +105,7 @@ module _ (logs : List (List LogLine)) (begun : ℕ) where
   piece-bounded : (s : Merged) (p : Piece) → p.log < length logs → IsBounded logs begun s → IsBounded logs begun (emit_piece logs p s)
   piece-bounded s p inside h =
       let r = run-bounded (left_to logs s p.log (p.last + 1)) s p.log inside h
-          (λ k line g. from-dropped (lines_of logs p.log) (done_of s p.log) k line (get-take (drop (done_of s p.log) (lines_of logs p.log)) (p.last + 1 - done_of s p.log) k line g).1) in
+      (λ k line g. from-dropped (lines_of logs p.log) (done_of s p.log) k line (get-take (drop (done_of s p.log) (lines_of logs p.log)) (p.last + 1 - done_of s p.log) k line g).1) in
       record { logs_are = r.logs_are; few = r.few; above = r.above }
 
   pieces-bounded : (pieces : List Piece) (s : Merged) → ((p : Piece) → Contains pieces p → p.log < length logs) → IsBounded logs begun s → IsBounded logs begun (emit_pieces logs pieces s)

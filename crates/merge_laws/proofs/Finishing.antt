@@ -1,34 +1,31 @@
 -- The end of a certificate: the arcs' root line, or the tree that the verdict's rule gives.
-use Rattle.std.proofs.Common.{◌≡◌, ◌≢◌, ◌⊎◌, ℕ, zero, suc, ◌+◌, ◌-◌, ◌<◌, ◌≤◌, Bool, true, false, List, [], ◌∷◌, ◌++◌, length, get_or, refl, ap, sym, subst, ◌∙◌, inl, inr, ⊎_elim, arith, Option, None, Some, All, AllPairs, Contains, IsTrue, take}
-use Rattle.std.proofs.lemmas.Bool.{cases_lt, eq-eqb}
+use Rattle.std.proofs.Common.{◌≡◌, ◌≢◌, ℕ, suc, ◌+◌, ◌<◌, ◌≤◌, List, [], ◌∷◌, length, get_or, refl, ap, sym, subst, inl, inr, arith, None, Some, All, AllPairs, Contains, IsTrue, take}
+use Rattle.std.proofs.lemmas.Bool.{cases_lt}
 use Rattle.std.proofs.lemmas.List.{get_or-take, length-take}
 use Rattle.std.proofs.lemmas.List.Elements.{All-contains, All-nil}
 use Rattle.fapp_model.specs.declared.instance.Instance.{Instance}
 use Rattle.fapp_model.specs.declared.literal.Literal.{Literal}
 use Rattle.fapp_model.specs.declared.tag.Tag.{Tag}
 use Rattle.fapp_model.specs.declared.triple.Triple.{Triple}
-use Rattle.fapp_model.specs.Assignments.{count_at}
-use Rattle.fapp_model.specs.Instances.{IsInstance, IsNumber}
+use Rattle.fapp_model.specs.Instances.{IsInstance}
 use Rattle.fapp_model.specs.InstanceTags.{IsTagFor}
 use Rattle.fapp_model.specs.Levels.{levels_of}
 use Rattle.fapp_model.specs.Tags.{least_tag, mode_level, triple_from}
 use Rattle.fapp_model.specs.Triples.{IsAtMost, IsBelow}
-use Rattle.fapp_model.specs.search.Arcs.{OutsideArc}
 use Rattle.fapp_model.specs.search.Dead.{Dead, no_choice_left}
 use Rattle.fapp_model.specs.search.Jobs.{depth, job_count, prefixes}
-use Rattle.fapp_model.specs.search.Partials.{AreLiterals, HasAll, IsLiteral, IsPartial, literal}
+use Rattle.fapp_model.specs.search.Partials.{AreLiterals, HasAll, IsLiteral, IsPartial}
 use Rattle.fapp_model.specs.search.WorkOrder.{comes_before, degree, work_order}
 use Rattle.fapp_model.proofs.InOrder.{pairs-nil, pairs-weaker}
-use Rattle.fapp_model.proofs.Members.{All-from_members, no_member}
+use Rattle.fapp_model.proofs.Members.{All-from_members}
 use Rattle.fapp_model.proofs.TagParts.{TagShape, limited, plain, mode-limited, mode-plain, shape_of}
 use Rattle.fapp_model.proofs.WorkOrders.{first-asym, order-is}
 use Rattle.cert_lines.specs.declared.answer.Line.{Line}
 use Rattle.cert_lines.specs.declared.answer.Verdict.{Verdict}
-use Rattle.cert_lines.specs.WellFormed.{IsLine, is_shown}
+use Rattle.cert_lines.specs.WellFormed.{is_shown}
 use Rattle.cert_lines.specs.acceptance.RootFaults.{verdict_tag}
 use Rattle.cert_lines.specs.acceptance.LineFaults.{line_fault}
 use Rattle.accept_laws.proofs.CodeOrder.{codes-at_most}
-use Rattle.arc_levels.specs.ArcLines.{AreArcLines}
 use Rattle.arc_levels.specs.Outside.{HasNoChoice, IsRootTag}
 use Rattle.log_laws.specs.declared.line.LogLine.{LogLine}
 use Rattle.log_laws.specs.declared.line.Ref.{Ref}
@@ -38,7 +35,6 @@ use Rattle.fapp_plan.specs.Outcomes.{IsPlacedFor, Placed, outcomes_at, settled_b
 use Rattle.fapp_plan.specs.Steps.{prefix_paths}
 use Rattle.fapp_plan.specs.VerdictRule.{IsVerdictOf, lower_code}
 use Rattle.fapp_plan.proofs.Rules.{prefix-partial, some-prefix}
-use Rattle.merge_laws.specs.declared.piece.Piece.{Piece}
 use Rattle.merge_laws.specs.Fates.{AreMarked, IsFate}
 use Rattle.merge_laws.specs.Laws.{IsSettledAt}
 use Rattle.merge_laws.specs.Levels.{root_line}
@@ -138,9 +134,10 @@ module _ (instance : Instance) (split : ℕ) (outcomes : List Placed) (rows : Li
 
   settled-from : (lists : List (List Literal)) (place : ℕ) → ((k : ℕ) → k < length lists → IsSettled instance t own some s.out (get_or lists k []) (number (place + k))) → AreSettled instance t own some s.out number place lists
   settled-from [] place h = tt
-  settled-from (literals ∷ lists) place h =
-      (subst (λ n. IsSettled instance t own some s.out literals (number n)) (let e : place + 0 ≡ place = omega arith in e) (h 0 (omega arith)),
-      settled-from lists (place + 1) (λ k l. subst (λ n. IsSettled instance t own some s.out (get_or lists k []) (number n)) (let e : place + suc k ≡ place + 1 + k = omega arith in e) (h (suc k) (omega arith))))
+  settled-from (literals ∷ lists) place h = (
+    subst (λ n. IsSettled instance t own some s.out literals (number n)) (let e : place + 0 ≡ place = omega arith in e) (h 0 (omega arith)),
+    settled-from lists (place + 1) (λ k l. subst (λ n. IsSettled instance t own some s.out (get_or lists k []) (number n)) (let e : place + suc k ≡ place + 1 + k = omega arith in e) (h (suc k) (omega arith))),
+  )
 
   pub prefixes-settled : AreSettled instance t own some s.out number 0 (prefixes instance split)
   prefixes-settled = settled-from (prefixes instance split) 0 (λ k l. subst (λ n. IsSettled instance t own some s.out (get_or (prefixes instance split) k []) (number n)) (let e : k ≡ 0 + k = omega arith in e) (place-settled k l))

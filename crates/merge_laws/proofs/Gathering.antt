@@ -1,19 +1,19 @@
 -- The arc lines, the segments and the rests of logs, as a whole: all is good, and whatever is cited has its fate.
-use Rattle.std.proofs.Common.{◌≡◌, ◌≢◌, ◌⊎◌, ℕ, ◌+◌, ◌<◌, ◌≤◌, Bool, List, [], ◌∷◌, length, drop, take, ap, sym, subst, inl, inr, ⊎_elim, arith, Option, Some, All, Contains, eqb}
+use Rattle.std.proofs.Common.{◌≡◌, ℕ, ◌<◌, ◌≤◌, List, [], ◌∷◌, length, drop, take, sym, subst, ⊎_elim, arith, Some, All, Contains, eqb}
 use Rattle.std.specs.List.{range_with_len, slice_get}
-use Rattle.std.proofs.lemmas.Bool.{cases_Bool, cases_lt, eqb-true, eqb-false}
+use Rattle.std.proofs.lemmas.Bool.{cases_Bool, eqb-true, eqb-false}
 use Rattle.std.proofs.lemmas.List.{length-drop}
 use Rattle.std.proofs.lemmas.List.Elements.{All-head, All-tail}
+use Rattle.std.proofs.lemmas.Option.{slice_get_within}
 use Rattle.fapp_model.specs.declared.instance.Instance.{Instance}
 use Rattle.fapp_model.specs.Instances.{IsInstance}
 use Rattle.fapp_model.proofs.Members.{All-from_members, front_or_behind, from-range, in-range, no_member}
 use Rattle.cert_lines.specs.declared.answer.Line.{Line}
 use Rattle.arc_levels.specs.ArcLines.{AreArcLines}
-use Rattle.log_laws.specs.declared.line.ChoiceRef.{ChoiceRef}
 use Rattle.log_laws.specs.declared.line.LogLine.{LogLine}
 use Rattle.log_laws.specs.declared.line.Ref.{Ref}
 use Rattle.log_laws.specs.declared.line.Ref.TheVariants.{Own, Row}
-use Rattle.log_laws.specs.Contents.{Cites, Content, KnownRow, content_of, known_row}
+use Rattle.log_laws.specs.Contents.{Cites, Content, KnownRow, known_row}
 use Rattle.merge_laws.specs.declared.piece.Piece.{Piece}
 use Rattle.merge_laws.specs.Certificates.{gathered}
 use Rattle.merge_laws.specs.Fates.{IsFate}
@@ -24,7 +24,7 @@ use Rattle.merge_laws.proofs.LogFacts.{AreLogFacts}
 use Rattle.merge_laws.proofs.SegmentOrder.{all-done, sorted-in-order}
 use Rattle.merge_laws.proofs.StageSteps.{IsDoneAfter, IsReady}
 use Rattle.merge_laws.proofs.Starting.{start-stage}
-use Rattle.merge_laws.proofs.Stretches.{emit_all-after, past, log-inside, pieces-stage, pooled_at_end, rest-stage, rests-stage}
+use Rattle.merge_laws.proofs.Stretches.{emit_all-after, log-inside, pieces-stage, pooled_at_end, rests-stage}
 
 -- ---- after the rests every line is done
 
@@ -95,6 +95,6 @@ module _ (instance : Instance) (rows : List KnownRow) (logs : List (List LogLine
   cited-fate log (Own n) content (line, at, is) =
       let inside = log-inside logs log n line at in
       let done = rests-done logs (range_with_len 0 (length logs)) segmented all-inside log (in-range (length logs) log inside) in
-      let small = past (lines_of logs log) n line at in
+      let small = slice_get_within (lines_of logs log) n line at in
       subst (λ c. IsFate instance whole.out c (number_of whole log (Own n))) (sym is) (whole-stage.own log n line (omega arith) at)
   cited-fate log (Row r) content m = whole-stage.row (known_row r content) m (all-done instance rows logs pieces facts (known_row r content) m)

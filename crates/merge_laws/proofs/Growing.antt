@@ -1,5 +1,5 @@
 -- What stays as a certificate grows.
-use Rattle.std.proofs.Common.{◌≡◌, ◌⊎◌, ℕ, ◌+◌, ◌-◌, ◌<◌, ◌≤◌, ◌||◌, List, [], ◌∷◌, ◌++◌, length, take, refl, ap, subst, ◌∙◌, inl, inr, arith, Option, None, Some, All}
+use Rattle.std.proofs.Common.{◌≡◌, ◌⊎◌, ℕ, ◌+◌, ◌-◌, ◌<◌, ◌≤◌, List, [], ◌∷◌, ◌++◌, length, take, refl, ap, subst, ◌∙◌, inl, inr, arith, Option, None, All}
 use Rattle.std.specs.Option.{option_map}
 use Rattle.std.proofs.lemmas.Bool.{or_left, cases_lt}
 use Rattle.std.proofs.lemmas.List.{length-append, length_push, get_or_append_left, get_or_push, take-append-le, take_all}
@@ -10,7 +10,7 @@ use Rattle.fapp_model.specs.Instances.{IsNumber}
 use Rattle.cert_lines.specs.declared.answer.Line.{Line}
 use Rattle.cert_lines.specs.WellFormed.{IsLine}
 use Rattle.cert_lines.specs.acceptance.Excluded.{is_marked, line_at, no_line}
-use Rattle.cert_lines.specs.acceptance.LineFaults.{IsGood, line_fault, rejected_at}
+use Rattle.cert_lines.specs.acceptance.LineFaults.{line_fault, rejected_at}
 use Rattle.accept_laws.specs.Lines.{AreGood}
 use Rattle.accept_laws.proofs.Options.{mapped-none}
 use Rattle.log_laws.specs.Contents.{Content}

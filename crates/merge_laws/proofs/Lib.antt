@@ -1,6 +1,5 @@
 pub mod Clean
 pub mod Growing
-pub mod Judged
 pub mod Beside
 pub mod WrittenLines
 pub mod Staged

@@ -1,5 +1,5 @@
 -- How many lines the arcs and the tree have.
-use Rattle.std.proofs.Common.{◌≡◌, ◌≢◌, ◌⊎◌, ℕ, zero, suc, ◌+◌, ◌*◌, ◌<◌, ◌≤◌, List, [], ◌∷◌, ◌++◌, length, map, flat_map, sum_by, take, get_or, refl, ap, sym, subst, ◌∙◌, inl, inr, ⊎_elim, arith, All, AllPairs, Contains}
+use Rattle.std.proofs.Common.{◌≡◌, ◌≢◌, ℕ, suc, ◌+◌, ◌*◌, ◌<◌, ◌≤◌, List, [], ◌∷◌, ◌++◌, length, map, flat_map, sum_by, get_or, refl, ap, sym, subst, ◌∙◌, ⊎_elim, arith, AllPairs, Contains}
 use Rattle.std.specs.List.{range_with_len}
 use Rattle.std.proofs.lemmas.List.{get_or_default, length-append, length-map}
 use Rattle.std.proofs.lemmas.List.Concat.{length-flat_map}
@@ -10,7 +10,7 @@ use Rattle.fapp_model.specs.declared.instance.Instance.{Instance}
 use Rattle.fapp_model.specs.declared.instance.Path.{Path}
 use Rattle.fapp_model.specs.declared.literal.Literal.{Literal}
 use Rattle.fapp_model.specs.declared.tag.Tag.{Tag}
-use Rattle.fapp_model.specs.Assignments.{count_at, no_path, path_at}
+use Rattle.fapp_model.specs.Assignments.{count_at, no_path}
 use Rattle.fapp_model.specs.Choices.{choices}
 use Rattle.fapp_model.specs.search.LineBound.{choice_total}
 use Rattle.fapp_model.specs.search.Partials.{IsLiteral, literal}
@@ -20,7 +20,7 @@ use Rattle.fapp_model.proofs.Members.{at_front, behind, from-map, front_or_behin
 use Rattle.tries_laws.proofs.Lists.{length-lists_along}
 use Rattle.cert_lines.specs.declared.answer.Line.{Line}
 use Rattle.arc_levels.specs.ArcLines.{AreArcLines, IsLineOf}
-use Rattle.merge_laws.specs.Levels.{all_longer, emit_level, emit_tree, longer}
+use Rattle.merge_laws.specs.Levels.{all_longer, emit_tree, longer}
 use Rattle.merge_laws.proofs.Tree.{length-longer}
 use Rattle.merge_laws.proofs.Trees.{length-level, length-prefixes}
 
@@ -55,7 +55,7 @@ few-distinct {X} (x ∷ xs) ys apart inside =
     let s = standing ys x (inside x (at_front x xs)) in
     let Apart : X → X → Type 0 = λ a b. a ≢ b in
     let rest = few-distinct xs (s.before ++ s.after) (pairs-tail (λ a b. a ≢ b) x xs apart)
-        (λ y m. without s.before s.after x y (All-contains (λ b. x ≢ b) xs y (pairs-head (λ a b. a ≢ b) x xs apart) m) (subst (λ zs. Contains zs y) s.is (inside y (behind x xs y m)))) in
+    (λ y m. without s.before s.after x y (All-contains (λ b. x ≢ b) xs y (pairs-head (λ a b. a ≢ b) x xs apart) m) (subst (λ zs. Contains zs y) s.is (inside y (behind x xs y m)))) in
     let e = ap length s.is in
     omega (arith, rest, e, length-append s.before s.after, length-append s.before (x ∷ s.after))
 

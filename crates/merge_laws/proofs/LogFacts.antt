@@ -1,13 +1,12 @@
 -- What good logs say of each line by its log and place, and of their segments by row.
-use Rattle.std.proofs.Common.{◌≡◌, ◌≢◌, ◌⊎◌, ℕ, zero, suc, ◌+◌, ◌<◌, ◌≤◌, List, [], ◌∷◌, ◌++◌, length, map, take, get_or, refl, ap, sym, subst, ◌∙◌, inl, inr, arith, ⊎_elim, Option, None, Some, All, AllPairs, Contains}
+use Rattle.std.proofs.Common.{◌≡◌, ℕ, zero, suc, ◌+◌, ◌<◌, ◌≤◌, List, [], ◌∷◌, length, map, take, get_or, refl, ap, sym, subst, arith, ⊎_elim, Some, All, AllPairs, Contains}
 use Rattle.std.specs.List.{slice_get}
-use Rattle.std.specs.List.Sorted.{IsPermutation}
 use Rattle.std.proofs.lemmas.Bool.{cases_order}
-use Rattle.std.proofs.lemmas.List.Elements.{All-contains, Contains-append_cases, Contains-get_or}
+use Rattle.std.proofs.lemmas.List.Elements.{All-contains, Contains-append_cases}
 use Rattle.std.proofs.lemmas.List.Sorted.{Contains-permutation, IsPermutation-sym}
-use Rattle.std.proofs.lemmas.Option.{slice_get-get_or}
+use Rattle.std.proofs.lemmas.Option.{get_or_from_slice_get, slice_get_within}
 use Rattle.fapp_model.specs.declared.instance.Instance.{Instance}
-use Rattle.fapp_model.proofs.Members.{All-from_members, at_front, behind, from-map, front_or_behind, no_member}
+use Rattle.fapp_model.proofs.Members.{at_front, behind, from-map, no_member}
 use Rattle.fapp_tables.proofs.RankLaws.{rising_ranks}
 use Rattle.log_laws.specs.declared.line.ChoiceRef.{ChoiceRef}
 use Rattle.log_laws.specs.declared.line.LogLine.{LogLine}
@@ -115,15 +114,10 @@ module _ (instance : Instance) (rows : List KnownRow) (logs : List LogState) (pi
   bare-at log n line e =
       let r = log-at logs log n line e in
       All-contains IsBare r.state.lines line (All-contains (λ (log : LogState). All IsBare log.lines) logs r.state h.bare r.member)
-      (there r.state.lines n line (subst (λ lines. slice_get lines n ≡ Some line) r.lines e))
+      (member r.state.lines n line (subst (λ lines. slice_get lines n ≡ Some line) r.lines e))
     where
-      there : (lines : List LogLine) (n : ℕ) (line : LogLine) → slice_get lines n ≡ Some line → Contains lines line
-      there [] n line e = absurd (cc)
-      there (x ∷ lines) zero line e = subst (Contains (x ∷ lines)) (first x line e) (at_front x lines)
-        where
-          first : (x y : LogLine) → Some x ≡ Some y → x ≡ y
-          first x y e = cc
-      there (x ∷ lines) (suc n) line e = behind x lines line (there lines n line e)
+      member : (lines : List LogLine) (n : ℕ) (line : LogLine) → slice_get lines n ≡ Some line → Contains lines line
+      member lines n line e = (n, slice_get_within lines n line e, get_or_from_slice_get lines n line line e)
 
   cited-at : (log n : ℕ) (line : LogLine) (ref : ChoiceRef) (r : ℕ) → slice_get (lines_of (all_lines logs) log) n ≡ Some line → Contains line.refs ref → ref.line ≡ Row r → (row : KnownRow) × Contains rows row × (row.number ≡ r)
   cited-at log n line ref r at m e =

@@ -1,6 +1,6 @@
 -- The merged lines are well formed, good, rooted and few.
-use Rattle.std.proofs.Common.{◌≡◌, ◌≢◌, ◌⊎◌, ℕ, ◌+◌, ◌*◌, ◌<◌, ◌≤◌, Bool, true, false, List, [], ◌∷◌, ◌++◌, length, get_or, refl, ap, sym, subst, ◌∙◌, inl, inr, ⊎_elim, arith, Option, None, Some, All, Contains, eqb, leb, cond}
-use Rattle.std.proofs.lemmas.Bool.{cases_lt, eq-eqb, eqb-true, eqb-false, leb-true, leb-false}
+use Rattle.std.proofs.Common.{◌≡◌, ℕ, ◌+◌, ◌*◌, ◌<◌, ◌≤◌, Bool, true, false, List, [], ◌∷◌, ◌++◌, length, refl, ap, sym, subst, inl, inr, arith, None, All, leb, cond}
+use Rattle.std.proofs.lemmas.Bool.{cases_lt, eq-eqb, leb-true, leb-false}
 use Rattle.std.proofs.lemmas.List.{length_push}
 use Rattle.std.proofs.lemmas.List.Elements.{All-contains, All-cons, All-nil, All-push}
 use Rattle.fapp_model.specs.declared.instance.Instance.{Instance}
@@ -9,8 +9,6 @@ use Rattle.fapp_model.specs.declared.tag.Tag.{Tag}
 use Rattle.fapp_model.specs.Assignments.{count_at}
 use Rattle.fapp_model.specs.Instances.{IsInstance, IsNumber}
 use Rattle.fapp_model.specs.InstanceTags.{IsTagFor}
-use Rattle.fapp_model.specs.Tags.{triple_from}
-use Rattle.fapp_model.specs.search.Jobs.{job_count, prefixes}
 use Rattle.fapp_model.specs.search.Partials.{IsLiteral}
 use Rattle.fapp_model.specs.search.LineBound.{choice_total, tree_size}
 use Rattle.fapp_model.specs.search.Prefixes.{lists_along}
@@ -18,35 +16,32 @@ use Rattle.fapp_model.proofs.InOrder.{pairs-nil}
 use Rattle.fapp_model.proofs.Members.{All-from_members}
 use Rattle.cert_lines.specs.declared.answer.Answer.{Answer}
 use Rattle.cert_lines.specs.declared.answer.Line.{Line}
-use Rattle.cert_lines.specs.declared.answer.Rule.TheVariants.{Count}
 use Rattle.cert_lines.specs.declared.answer.Verdict.{Verdict}
 use Rattle.cert_lines.specs.WellFormed.{IsLine}
-use Rattle.cert_lines.specs.acceptance.LineFaults.{line_fault, lines_fault}
+use Rattle.cert_lines.specs.acceptance.LineFaults.{line_fault}
 use Rattle.cert_lines.specs.acceptance.Accepts.{answer_fault}
 use Rattle.cert_lines.specs.acceptance.PlanFaults.{plan_fault}
-use Rattle.cert_lines.specs.acceptance.RootFaults.{root_fault, verdict_tag}
+use Rattle.cert_lines.specs.acceptance.RootFaults.{verdict_tag}
 use Rattle.accept_laws.specs.Lines.{AreGood}
 use Rattle.accept_laws.proofs.GoodLines.{clean-lines, good-none}
 use Rattle.accept_laws.proofs.Accepting.{parts-accepted}
 use Rattle.arc_levels.specs.ArcLines.{AreArcLines, IsLineOf}
-use Rattle.arc_levels.specs.Outside.{IsRootTag}
 use Rattle.log_laws.specs.declared.line.LogLine.{LogLine}
 use Rattle.log_laws.specs.declared.line.Ref.{Ref}
 use Rattle.log_laws.specs.Contents.{Cites, Content, KnownRow}
 use Rattle.search_log.specs.LogStates.{LogState}
 use Rattle.fapp_plan.specs.Outcomes.{Placed}
 use Rattle.fapp_plan.specs.Steps.{prefix_paths}
-use Rattle.fapp_plan.specs.VerdictRule.{lower_code}
 use Rattle.fapp_plan.proofs.Depths.{prefix_paths-in}
 use Rattle.merge_laws.specs.declared.piece.Piece.{Piece}
-use Rattle.merge_laws.specs.Certificates.{certificate, finished, gathered}
+use Rattle.merge_laws.specs.Certificates.{gathered}
 use Rattle.merge_laws.specs.Conditions.{IsMergeable}
 use Rattle.merge_laws.specs.Fates.{IsFate, Stands}
 use Rattle.merge_laws.specs.GoodLogs.{AreByRow, AreGoodLogs, all_lines}
 use Rattle.merge_laws.specs.Laws.{AreGathered}
 use Rattle.merge_laws.specs.Levels.{branch_line, emit_level, emit_prefixes, emit_tree, all_longer, prefix_line, root_line}
 use Rattle.merge_laws.specs.MergedLines.{HasNoCite, IsCertificate, IsMerged, IsOrdered, branch_total}
-use Rattle.merge_laws.specs.Refuted.{AreRefuted, prefix_number}
+use Rattle.merge_laws.specs.Refuted.{prefix_number}
 use Rattle.merge_laws.specs.Stages.{Merged, lines_of, number_of}
 use Rattle.merge_laws.proofs.Staged.{IsStage}
 use Rattle.merge_laws.proofs.BottomLists.{bottom, bottom-all}

@@ -1,21 +1,18 @@
 -- Without paths nothing above (0, 0, 0) is implied, since the empty plan costs nothing.
-use Rattle.std.proofs.Common.{◌≡◌, ◌⊎◌, ℕ, zero, suc, ◌-◌, ◌<◌, ◌≤◌, Bool, true, not, List, [], ◌∷◌, length, count_by, get_or, refl, sym, subst, ◌∙◌, inl, inr, arith, All, Contains, IsTrue, slice_index}
+use Rattle.std.proofs.Common.{◌≡◌, ℕ, ◌-◌, ◌<◌, true, not, List, [], ◌∷◌, length, count_by, refl, sym, subst, inl, inr, arith, All, Contains, slice_index}
 use Rattle.std.specs.List.{list_all}
 use Rattle.std.proofs.lemmas.Bool.{ltb-true}
 use Rattle.std.proofs.lemmas.List.Elements.{All-contains, All-head}
 use Rattle.fapp_model.specs.declared.instance.Instance.{Instance}
 use Rattle.fapp_model.specs.declared.literal.Literal.{Literal}
 use Rattle.fapp_model.specs.declared.record.Record.{Record}
-use Rattle.fapp_model.specs.declared.triple.Triple.{Triple}
-use Rattle.fapp_model.specs.Assignments.{IsAssignment, breaks, count_at, meets, violates}
+use Rattle.fapp_model.specs.Assignments.{breaks, meets, violates}
 use Rattle.fapp_model.specs.Costs.{violations}
 use Rattle.fapp_model.specs.Instances.{IsInstance, IsRecord}
 use Rattle.fapp_model.specs.Least.{IsFeasible}
 use Rattle.fapp_model.specs.Levels.{levels_of}
 use Rattle.fapp_model.specs.Tags.{IsTagOf, mode_level, triple_from}
-use Rattle.fapp_model.specs.Triples.{IsBelow}
 use Rattle.fapp_model.specs.search.Implied.{Implied}
-use Rattle.fapp_model.specs.search.Modes.{IsWithin}
 use Rattle.fapp_model.specs.search.Partials.{HasAll}
 use Rattle.fapp_model.proofs.Members.{All-from_members, no_member}
 use Rattle.cert_lines.specs.declared.answer.Line.{Line}

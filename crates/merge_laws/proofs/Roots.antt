@@ -1,5 +1,5 @@
 -- A line without literals of at least the claimed tag is root enough.
-use Rattle.std.proofs.Common.{◌≡◌, ◌⊎◌, ℕ, ◌-◌, ◌<◌, ◌≤◌, Bool, true, false, List, [], ◌∷◌, length, fold, get_or, refl, ap, sym, subst, ◌∙◌, inl, inr, ⊎_elim, arith, Option, None, Some, Contains, eqb, ltb, leb, cond}
+use Rattle.std.proofs.Common.{◌≡◌, ℕ, ◌-◌, ◌≤◌, Bool, true, false, List, [], ◌∷◌, length, fold, refl, ap, sym, subst, ⊎_elim, arith, Option, None, Some, Contains, ltb, leb, cond}
 use Rattle.std.proofs.lemmas.Bool.{eq-eqb, le-leb, ltb-false, ltb-true}
 use Rattle.std.proofs.lemmas.List.Elements.{Contains-get_or}
 use Rattle.fapp_model.specs.declared.instance.Instance.{Instance}

@@ -1,8 +1,7 @@
 -- What the verdict's rule gives: a tag of the instance, and where it is above the arcs' root tag, something that settles
 -- each prefix at it.
-use Rattle.std.proofs.Common.{◌≡◌, ◌≢◌, ◌⊎◌, ℕ, zero, suc, ◌+◌, ◌-◌, ◌*◌, ◌/◌, ◌<◌, ◌≤◌, max, Bool, true, false, List, [], ◌∷◌, length, map, take, drop, get_or, refl, ap, sym, subst, ◌∙◌, inl, inr, ⊎_elim, arith, Option, None, Some, All, AllPairs, Contains, IsTrue, leb, cond}
+use Rattle.std.proofs.Common.{◌≡◌, ◌⊎◌, ℕ, zero, suc, ◌+◌, ◌-◌, ◌*◌, ◌<◌, ◌≤◌, max, Bool, true, false, List, [], ◌∷◌, length, map, take, drop, get_or, refl, ap, sym, subst, ◌∙◌, inl, inr, ⊎_elim, arith, None, Some, All, Contains, IsTrue, leb}
 use Rattle.std.specs.List.{fold}
-use Rattle.std.specs.Option.{option_or}
 use Rattle.std.proofs.lemmas.Bool.{cases_lt, le-leb, leb-true}
 use Rattle.std.proofs.lemmas.List.{get_or-take, get_or-drop, get_or_default, length-take, length-drop}
 use Rattle.std.proofs.lemmas.Nat.{div-mul-add}
@@ -12,7 +11,7 @@ use Rattle.fapp_model.specs.declared.triple.Triple.{Triple}
 use Rattle.fapp_model.specs.Instances.{IsInstance}
 use Rattle.fapp_model.specs.InstanceTags.{IsTagFor}
 use Rattle.fapp_model.specs.Levels.{levels_of}
-use Rattle.fapp_model.specs.Tags.{IsTagOf, code_of, is_tag, top_tag, triple_from}
+use Rattle.fapp_model.specs.Tags.{IsTagOf, code_of, top_tag, triple_from}
 use Rattle.fapp_model.specs.search.Jobs.{job_count, job_prefix, prefixes}
 use Rattle.fapp_model.proofs.LevelNumbers.{levels-few}
 use Rattle.fapp_model.proofs.Members.{at_front, behind}
@@ -23,11 +22,10 @@ use Rattle.cert_lines.specs.WellFormed.{is_shown}
 use Rattle.cert_lines.specs.acceptance.LineFaults.{first_of}
 use Rattle.cert_lines.specs.acceptance.RootFaults.{tag_for, verdict_tag}
 use Rattle.accept_laws.proofs.Accepting.{tag_for-code, tag_for-triple}
-use Rattle.arc_levels.specs.Outside.{HasNoChoice, IsRootTag}
+use Rattle.arc_levels.specs.Outside.{IsRootTag}
 use Rattle.log_laws.specs.declared.line.Ref.{Ref}
-use Rattle.search_log.specs.declared.job.Outcome.{Outcome}
 use Rattle.search_log.specs.declared.job.Outcome.TheVariants.{Refuted, Moot, Spent}
-use Rattle.fapp_plan.specs.Outcomes.{IsPlacedFor, Placed, outcomes_at, refuted_at, refuted_code, refuted_everywhere, settled_by, settling}
+use Rattle.fapp_plan.specs.Outcomes.{IsPlacedFor, Placed, outcomes_at, refuted_at, refuted_code, refuted_everywhere, settling}
 use Rattle.fapp_plan.specs.VerdictRule.{IsVerdictOf, lower_code, top_code}
 use Rattle.fapp_plan.proofs.Refuted.{least-low}
 use Rattle.fapp_plan.proofs.Rules.{code-again, lower-is_code, shown-is_tag, some-prefix}

@@ -1,14 +1,12 @@
 -- Segments sorted by row may follow one another, and after them every row is done.
-use Rattle.std.proofs.Common.{◌≡◌, ◌⊎◌, ℕ, ◌+◌, ◌<◌, ◌≤◌, List, [], ◌∷◌, refl, ap, sym, subst, ◌∙◌, inl, inr, arith, Option, Some, All, AllPairs, Contains}
+use Rattle.std.proofs.Common.{◌≡◌, ◌⊎◌, ℕ, ◌+◌, ◌<◌, ◌≤◌, List, [], ◌∷◌, ap, sym, subst, ◌∙◌, inl, inr, arith, Some, AllPairs, Contains}
 use Rattle.std.specs.List.{slice_get}
 use Rattle.std.proofs.lemmas.Bool.{cases_lt}
 use Rattle.std.proofs.lemmas.List.Elements.{All-contains}
 use Rattle.fapp_model.specs.declared.instance.Instance.{Instance}
 use Rattle.fapp_model.proofs.InOrder.{pairs-head, pairs-tail}
 use Rattle.fapp_model.proofs.Members.{at_front, behind, front_or_behind, no_member}
-use Rattle.log_laws.specs.declared.line.ChoiceRef.{ChoiceRef}
 use Rattle.log_laws.specs.declared.line.LogLine.{LogLine}
-use Rattle.log_laws.specs.declared.line.Ref.TheVariants.{Row}
 use Rattle.log_laws.specs.Contents.{KnownRow, content_of, known_row}
 use Rattle.merge_laws.specs.declared.piece.Piece.{Piece}
 use Rattle.merge_laws.specs.Stages.{lines_of}
@@ -43,11 +41,11 @@ module _ (instance : Instance) (rows : List KnownRow) (logs : List (List LogLine
         elim (cases_lt r pooled) [
           | inl below ↦ below
           | inr above ↦
-            let h = come.home found.0 found.1 (omega arith) in
-            absurd (elim (first found.0 h) [
-              | inl same ↦ (let row_is = ap (λ (x : KnownRow). x.number) h.is in let q = ap (λ (x : Piece). x.row) same in omega arith)
-              | inr more ↦ omega arith
-            ])
+              let h = come.home found.0 found.1 (omega arith) in
+              absurd (elim (first found.0 h) [
+                | inl same ↦ (let row_is = ap (λ (x : KnownRow). x.number) h.is in let q = ap (λ (x : Piece). x.row) same in omega arith)
+                | inr more ↦ omega arith
+              ])
         ]
 
     follows : MayFollow instance rows logs pooled p

@@ -16,7 +16,7 @@ use Rattle.log_laws.specs.declared.line.LogLine.{LogLine}
 use Rattle.log_laws.specs.declared.line.Ref.{Ref}
 use Rattle.log_laws.specs.declared.line.Ref.TheVariants.{Own, Row}
 use Rattle.log_laws.specs.Contents.{Cites, Content, KnownRow, content_of, known_row}
-use Rattle.log_laws.specs.GoodLines.{IsBranch, IsGoodLine, PassesBy}
+use Rattle.log_laws.specs.GoodLines.{IsGoodLine, PassesBy}
 use Rattle.log_laws.proofs.Places.{get-take}
 use Rattle.merge_laws.specs.Fates.{IsFate}
 use Rattle.merge_laws.specs.GoodLogs.{IsBare}

@@ -1,6 +1,5 @@
 -- The arc lines mark what is outside the arcs, and are a certificate's start.
-use Rattle.std.proofs.Common.{◌≡◌, ◌⊎◌, ℕ, ◌+◌, ◌-◌, ◌<◌, ◌≤◌, Bool, true, ◌&&◌, List, [], ◌∷◌, length, get_or, replicate, refl, ap, sym, subst, ◌∙◌, inl, inr, arith, None, Some, All, AllPairs, Contains, IsTrue, leb, eqb}
-use Rattle.std.specs.List.{slice_get}
+use Rattle.std.proofs.Common.{◌≡◌, ℕ, ◌<◌, ◌≤◌, true, ◌&&◌, List, [], ◌∷◌, length, get_or, replicate, refl, ap, sym, subst, inl, inr, arith, All, AllPairs, IsTrue, leb, eqb}
 use Rattle.std.proofs.lemmas.Bool.{and_from, cases_lt, eq-eqb, le-leb}
 use Rattle.std.proofs.lemmas.List.{get_or-replicate, length-replicate, get_or_past}
 use Rattle.std.proofs.lemmas.List.Elements.{All-cons, All-contains, All-nil}
@@ -23,16 +22,13 @@ use Rattle.cert_lines.specs.declared.answer.Line.{Line}
 use Rattle.cert_lines.specs.declared.answer.Rule.{Rule}
 use Rattle.cert_lines.specs.declared.answer.Rule.TheVariants.{Count}
 use Rattle.cert_lines.specs.WellFormed.{IsLine, IsRule}
-use Rattle.cert_lines.specs.acceptance.Contained.{is_same}
 use Rattle.cert_lines.specs.acceptance.Excluded.{is_marked, is_only}
 use Rattle.dead_laws.proofs.LowerLevels.{outside_lower}
 use Rattle.arc_levels.specs.ArcLines.{AreArcLines, IsLineOf}
-use Rattle.arc_levels.specs.Outside.{IsOutsideTag}
 use Rattle.log_laws.specs.declared.line.LogLine.{LogLine}
 use Rattle.log_laws.specs.Contents.{KnownRow}
 use Rattle.log_laws.proofs.CodeOrder.{below-codes}
-use Rattle.merge_laws.specs.Fates.{AreMarked}
-use Rattle.merge_laws.specs.Stages.{Merged, done_of, start}
+use Rattle.merge_laws.specs.Stages.{start}
 use Rattle.merge_laws.proofs.Staged.{IsStage}
 
 -- the level at which a tag looks

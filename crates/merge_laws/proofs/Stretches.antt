@@ -1,8 +1,8 @@
 -- Lines of a log one after another, segments one after another, and the rests of logs.
-use Rattle.std.proofs.Common.{◌≡◌, ◌≢◌, ◌⊎◌, ℕ, zero, suc, ◌+◌, ◌-◌, ◌<◌, ◌≤◌, List, [], ◌∷◌, length, take, drop, get_or, refl, ap, sym, subst, ◌∙◌, inl, inr, arith, Option, Some, Contains, eqb}
+use Rattle.std.proofs.Common.{◌≡◌, ℕ, zero, suc, ◌+◌, ◌-◌, ◌<◌, ◌≤◌, List, [], ◌∷◌, length, take, drop, refl, subst, ◌∙◌, arith, Some, Contains}
 use Rattle.std.specs.List.{slice_get}
-use Rattle.std.proofs.lemmas.Bool.{cases_Bool, cases_lt, eqb-true, eqb-false}
 use Rattle.std.proofs.lemmas.List.{length-take, length-drop}
+use Rattle.std.proofs.lemmas.Option.{slice_get_within}
 use Rattle.fapp_model.specs.declared.instance.Instance.{Instance}
 use Rattle.fapp_model.specs.Instances.{IsInstance}
 use Rattle.fapp_model.proofs.Members.{at_front, behind}
@@ -16,12 +16,6 @@ use Rattle.merge_laws.proofs.Staged.{IsStage}
 use Rattle.merge_laws.proofs.StageSteps.{IsDoneAfter, IsReady, emit-after, line-step, row-step}
 
 -- ---- lists by place
-
--- past the end nothing stands
-pub past : {X : Type 0} (xs : List X) (n : ℕ) (x : X) → slice_get xs n ≡ Some x → n < length xs
-past [] n x e = absurd (cc)
-past (y ∷ xs) zero x e = omega arith
-past (y ∷ xs) (suc n) x e = let h = past xs n x e in omega arith
 
 pub from-dropped : {X : Type 0} (xs : List X) (n k : ℕ) (x : X) → slice_get (drop n xs) k ≡ Some x → slice_get xs (n + k) ≡ Some x
 from-dropped xs zero k x e = subst (λ m. slice_get xs m ≡ Some x) (let h : k ≡ 0 + k = omega arith in h) e
@@ -133,7 +127,7 @@ module _ (instance : Instance) (rows : List KnownRow) (logs : List (List LogLine
       done : p.last < done_of (stretched p s) p.log
       done =
           let e = (emit_all-after (left_to logs s p.log (p.last + 1)) s p.log (let l = stage.logs_are in let i = inside in omega arith)).here in
-          let small = past (lines_of logs p.log) p.last may.line may.stands in
+          let small = slice_get_within (lines_of logs p.log) p.last may.line may.stands in
           omega (arith, length-take (p.last + 1 - done_of s p.log) (drop (done_of s p.log) (lines_of logs p.log)), length-drop (done_of s p.log) (lines_of logs p.log))
 
   pub pieces-stage : (pieces : List Piece) (pooled : ℕ) (s : Merged) → IsStage instance rows logs pooled s → AreInOrder instance rows logs pooled pieces →

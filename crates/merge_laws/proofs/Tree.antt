@@ -1,18 +1,18 @@
 -- The plan's tree from its longest lists to the empty one: each line is good, and the last ones are those of the lists.
-use Rattle.std.proofs.Common.{◌≡◌, ◌≢◌, ◌⊎◌, ℕ, zero, suc, ◌+◌, ◌-◌, ◌<◌, ◌≤◌, Bool, true, false, List, [], ◌∷◌, ◌++◌, length, map, flat_map, get_or, refl, ap, sym, subst, ◌∙◌, inl, inr, arith, None, All, AllPairs, Contains, eqb}
-use Rattle.std.specs.List.{list_any, range_with_len}
-use Rattle.std.proofs.lemmas.List.{length-append, length_push, length-map, get_or-map}
+use Rattle.std.proofs.Common.{◌≡◌, ℕ, zero, suc, ◌+◌, ◌<◌, ◌≤◌, false, List, [], ◌∷◌, ◌++◌, length, get_or, refl, ap, subst, ◌∙◌, inl, inr, arith, None, Contains, eqb}
+use Rattle.std.specs.List.{range_with_len}
+use Rattle.std.proofs.lemmas.List.{length_push, length-map, get_or-map}
 use Rattle.std.proofs.lemmas.List.FromFn.{length-range_with_len, get_or-range_with_len}
-use Rattle.std.proofs.lemmas.List.Elements.{All-contains, All-head, All-tail, All-nil, Contains-append_cases}
+use Rattle.std.proofs.lemmas.List.Elements.{All-contains, All-nil, Contains-append_cases}
 use Rattle.fapp_model.specs.declared.instance.Instance.{Instance}
 use Rattle.fapp_model.specs.declared.literal.Literal.{Literal}
 use Rattle.fapp_model.specs.declared.tag.Tag.{Tag}
 use Rattle.fapp_model.specs.Assignments.{count_at}
 use Rattle.fapp_model.specs.Instances.{IsInstance, IsNumber}
 use Rattle.fapp_model.specs.InstanceTags.{IsTagFor}
-use Rattle.fapp_model.specs.search.Partials.{AreLiterals, HasAll, IsPartial, literal, names}
+use Rattle.fapp_model.specs.search.Partials.{HasAll, IsPartial, literal, names}
 use Rattle.fapp_model.proofs.Anys.{none-member, no-member}
-use Rattle.fapp_model.proofs.InOrder.{pairs-map, pairs-nil, pairs-weaker, rising}
+use Rattle.fapp_model.proofs.InOrder.{pairs-map, pairs-nil, rising}
 use Rattle.fapp_model.proofs.Members.{All-from_members, at_front, behind, from-map, from-range, front_or_behind, in-map, in-range, no_member}
 use Rattle.cert_lines.specs.declared.answer.Child.{Child}
 use Rattle.cert_lines.specs.declared.answer.Line.{Line}
@@ -25,8 +25,7 @@ use Rattle.fapp_plan.proofs.Rules.{by_path-literals}
 use Rattle.accept_laws.proofs.Having.{formed-partial}
 use Rattle.log_laws.specs.Contents.{Content}
 use Rattle.merge_laws.specs.Fates.{AreMarked, IsFate, Stands}
-use Rattle.merge_laws.specs.Levels.{all_longer, branch_line, children_from, cites_of, emit_above, emit_level, emit_prefixes, emit_tree, longer, prefix_line}
-use Rattle.merge_laws.proofs.BottomLists.{bottom}
+use Rattle.merge_laws.specs.Levels.{all_longer, branch_line, children_from, cites_of, emit_level, emit_prefixes, longer, prefix_line}
 use Rattle.merge_laws.proofs.Growing.{AreFormed, fate-grows, formed-grows, good-grows, marked-grows, stands-grows, stands-last}
 use Rattle.merge_laws.proofs.TreeLines.{Serves, prefix-good, says, whole-branch-good}
 
@@ -108,12 +107,15 @@ module _ (instance : Instance) (t : Tag) (own : IsTagFor instance t) (some : 0 <
     branch-formed literals next out partial front few = record {
       tag = own;
       lits = by_path-literals instance literals partial;
-      rule = (small, record {
-        each = All-from_members (IsChild instance path) (children_from instance path next) (λ child m.
-            let found = from-map (λ index. record { choice = index; cite = next + index }) (range_with_len 0 (count_at instance path)) child m in
-            subst (IsChild instance path) found.2 (formed found.0 (from-range (count_at instance path) found.0 found.1)));
-        ascending = pairs-map (λ (a b : Child). a.choice < b.choice) (λ index. record { choice = index; cite = next + index }) (range_with_len 0 (count_at instance path)) (rising 0 (count_at instance path));
-      });
+      rule = (
+        small,
+        record {
+          each = All-from_members (IsChild instance path) (children_from instance path next) (λ child m.
+              let found = from-map (λ index. record { choice = index; cite = next + index }) (range_with_len 0 (count_at instance path)) child m in
+              subst (IsChild instance path) found.2 (formed found.0 (from-range (count_at instance path) found.0 found.1)));
+          ascending = pairs-map (λ (a b : Child). a.choice < b.choice) (λ index. record { choice = index; cite = next + index }) (range_with_len 0 (count_at instance path)) (rising 0 (count_at instance path));
+        },
+      );
     }
       where
         formed : (index : ℕ) → index < count_at instance path → IsChild instance path (record { choice = index; cite = next + index })

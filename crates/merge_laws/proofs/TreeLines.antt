@@ -1,5 +1,5 @@
 -- The lines of the plan's tree, one by one.
-use Rattle.std.proofs.Common.{◌≡◌, ◌⊎◌, ℕ, zero, suc, ◌+◌, ◌<◌, ◌≤◌, Bool, true, false, ◌&&◌, ◌||◌, not, List, [], ◌∷◌, length, count_by, refl, sym, subst, inl, inr, arith, None, All, Contains, eqb, leb}
+use Rattle.std.proofs.Common.{◌≡◌, ℕ, zero, suc, ◌<◌, ◌≤◌, true, false, ◌||◌, not, List, [], ◌∷◌, length, count_by, refl, sym, subst, inl, inr, arith, None, Contains, eqb, leb}
 use Rattle.std.specs.List.{list_any, list_all, range_with_len}
 use Rattle.std.proofs.lemmas.Bool.{and_from, or_left, or_right, eq-eqb, ne_eqb, le-leb, not_from_false}
 use Rattle.std.proofs.lemmas.List.Elements.{All-contains}
@@ -24,13 +24,13 @@ use Rattle.cert_lines.specs.acceptance.LineFaults.{first_of, cause_unless, child
 use Rattle.dead_laws.proofs.DeadLower.{dead_lower}
 use Rattle.dead_laws.proofs.DeadMore.{dead-more}
 use Rattle.accept_laws.proofs.CodeOrder.{codes-at_most}
+use Rattle.accept_laws.proofs.Judging.{judged-where-excluded}
 use Rattle.accept_laws.proofs.Options.{both-none}
 use Rattle.log_laws.specs.Contents.{Content}
 use Rattle.merge_laws.specs.Fates.{AreMarked, IsFate, Stands}
 use Rattle.merge_laws.specs.Levels.{cites_of}
 use Rattle.merge_laws.proofs.Beside.{above-least}
 use Rattle.merge_laws.proofs.Clean.{all-from, clean-cite, first_of-clean, has-from, has_all-from, passes-none}
-use Rattle.merge_laws.proofs.Judged.{judged-where-excluded}
 use Rattle.merge_laws.proofs.WrittenLines.{marked-judged}
 
 -- what a line at a tag says

@@ -1,8 +1,8 @@
 -- The whole tree, and its root.
-use Rattle.std.proofs.Common.{◌≡◌, ◌≢◌, ◌⊎◌, ℕ, ◌+◌, ◌-◌, ◌*◌, ◌<◌, ◌≤◌, Bool, true, false, ◌||◌, List, [], ◌∷◌, ◌++◌, length, get_or, refl, ap, sym, subst, ◌∙◌, inl, inr, arith, All, AllPairs, Contains, eqb}
-use Rattle.std.specs.List.{list_any, range_with_len}
+use Rattle.std.proofs.Common.{◌≡◌, ◌≢◌, ℕ, ◌+◌, ◌-◌, ◌<◌, Bool, false, ◌||◌, List, [], ◌∷◌, ◌++◌, length, get_or, refl, sym, subst, ◌∙◌, inl, inr, arith, All, AllPairs, Contains, eqb}
+use Rattle.std.specs.List.{range_with_len}
 use Rattle.std.proofs.lemmas.Bool.{eq-eqb, ne_eqb, true≢false}
-use Rattle.std.proofs.lemmas.List.{length-append, length_push}
+use Rattle.std.proofs.lemmas.List.{length_push}
 use Rattle.std.proofs.lemmas.List.Elements.{All-contains, All-head, All-tail, All-nil, All-push, Contains-get_or}
 use Rattle.std.proofs.lemmas.List.Folds.{list_any-append}
 use Rattle.std.proofs.lemmas.List.Quantifiers.{all_pairs_push}
@@ -13,17 +13,16 @@ use Rattle.fapp_model.specs.Assignments.{count_at}
 use Rattle.fapp_model.specs.Instances.{IsInstance}
 use Rattle.fapp_model.specs.InstanceTags.{IsTagFor}
 use Rattle.fapp_model.specs.search.Partials.{IsLiteral, IsPartial, literal, names}
-use Rattle.fapp_model.specs.search.Prefixes.{lists_along}
 use Rattle.fapp_model.proofs.Anys.{none-member}
 use Rattle.fapp_model.proofs.InOrder.{pairs-head, pairs-nil, pairs-tail}
 use Rattle.fapp_model.proofs.Members.{at_front, behind, from-flat_map, from-map, from-range, front_or_behind, no_member}
 use Rattle.cert_lines.specs.declared.answer.Line.{Line}
 use Rattle.accept_laws.specs.Lines.{AreGood}
 use Rattle.merge_laws.specs.Fates.{AreMarked, Stands}
-use Rattle.merge_laws.specs.Levels.{all_longer, emit_above, emit_level, emit_prefixes, emit_tree, longer, prefix_line, branch_line}
+use Rattle.merge_laws.specs.Levels.{all_longer, emit_level, emit_prefixes, emit_tree, longer, prefix_line, branch_line}
 use Rattle.merge_laws.proofs.BottomLists.{bottom}
 use Rattle.merge_laws.proofs.Growing.{AreFormed}
-use Rattle.merge_laws.proofs.Tree.{AreFree, AreNumbered, ArePartial, AreSettled, IsLevel, bottomed, level-good}
+use Rattle.merge_laws.proofs.Tree.{AreSettled, IsLevel, bottomed, level-good}
 use Rattle.merge_laws.proofs.TreeLines.{says}
 
 -- ---- how many lines
@@ -91,7 +90,7 @@ module _ (instance : Instance) (t : Tag) (own : IsTagFor instance t) (some : 0 <
       let others : (p : ℕ) → Contains paths p → path ≢ p = λ p m. All-contains (λ q. path ≢ q) paths p (pairs-head (λ p q. p ≢ q) path paths apart) m in
       let below = tree paths (all_longer instance path lists) out in
       let level = tree-good paths (all_longer instance path lists) out (All-tail (λ p. p < length instance.paths) path paths small) (pairs-tail (λ p q. p ≢ q) path paths apart)
-          (longer-open instance path paths lists here others open_now) good formed marked settled in
+      (longer-open instance path paths lists here others open_now) good formed marked settled in
       subst (λ n. IsLevel instance (tree (path ∷ paths) lists out) t n lists) (let e = length-level instance t path lists (length below + 1 - length (all_longer instance path lists)) below in omega arith)
       (level-good instance t own some path here lists (length below + 1 - length (all_longer instance path lists)) below (λ l m. ((open_now l m).0, (open_now l m).1 path (at_front path paths))) level)
 

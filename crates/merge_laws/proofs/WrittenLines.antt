@@ -1,8 +1,8 @@
 -- A good line of a log is good and well formed as the certificate has it.
-use Rattle.std.proofs.Common.{◌≡◌, ◌⊎◌, ℕ, ◌<◌, ◌≤◌, Bool, true, false, ◌||◌, not, List, [], ◌∷◌, length, flat_map, refl, ap, sym, subst, ◌∙◌, inl, inr, arith, None, Some, All, AllPairs, Contains, IsTrue, eqb, cond}
+use Rattle.std.proofs.Common.{◌≡◌, ℕ, ◌<◌, ◌≤◌, Bool, true, false, not, List, [], ◌∷◌, length, flat_map, refl, ap, sym, subst, ◌∙◌, inl, inr, arith, None, AllPairs, Contains, eqb, cond}
 use Rattle.std.specs.List.{AllZip, list_any, list_all, range_with_len}
 use Rattle.std.proofs.lemmas.Bool.{or_left, or_right, eqb-true, eqb-false, eq-eqb, ne_eqb, not_from_false, true≢false}
-use Rattle.std.proofs.lemmas.List.Elements.{All-contains, All-nil, All-cons}
+use Rattle.std.proofs.lemmas.List.Elements.{All-contains, All-nil}
 use Rattle.fapp_model.specs.declared.instance.Instance.{Instance}
 use Rattle.fapp_model.specs.declared.literal.Literal.{Literal}
 use Rattle.fapp_model.specs.declared.tag.Tag.{Tag}
@@ -20,7 +20,6 @@ use Rattle.fapp_model.proofs.Members.{All-from_members, at_front, from-flat_map,
 use Rattle.cert_lines.specs.declared.answer.Child.{Child}
 use Rattle.cert_lines.specs.declared.answer.Line.{Line}
 use Rattle.cert_lines.specs.declared.reject.RejectCause.TheVariants.{NotDead, WrongPath}
-use Rattle.cert_lines.specs.WellFormed as wanted
 use Rattle.cert_lines.specs.WellFormed.{IsChild, IsLine}
 use Rattle.cert_lines.specs.acceptance.Contained.{has_all}
 use Rattle.cert_lines.specs.acceptance.Excluded.{is_cited, is_excluded, is_marked}
@@ -29,17 +28,17 @@ use Rattle.dead_laws.proofs.DeadLower.{dead_lower}
 use Rattle.dead_laws.proofs.DeadMore.{dead-more}
 use Rattle.accept_laws.proofs.CodeOrder.{codes-at_most}
 use Rattle.accept_laws.proofs.Having.{formed-partial, has_all-each}
+use Rattle.accept_laws.proofs.Judging.{judged-where-excluded}
 use Rattle.accept_laws.proofs.Options.{both-none}
 use Rattle.log_laws.specs.declared.line.ChoiceRef.{ChoiceRef}
 use Rattle.log_laws.specs.declared.line.LogLine.{LogLine}
 use Rattle.log_laws.specs.declared.line.Ref.{Ref}
 use Rattle.log_laws.specs.Contents.{Cites, Content, KnownRow}
 use Rattle.log_laws.specs.GoodLines.{AreChildren, IsBranch, IsChildOf, IsCount, IsOutside, is_ruled_out}
-use Rattle.merge_laws.specs.Fates.{AreMarked, IsFate, IsLeftOut, Stands}
+use Rattle.merge_laws.specs.Fates.{AreMarked, IsFate}
 use Rattle.merge_laws.specs.Written.{child_at, written, written_child}
 use Rattle.merge_laws.proofs.Beside.{above-least, with-literal, zip-both}
-use Rattle.merge_laws.proofs.Clean.{all-from, clean-cite, first_of-clean, has_all-from, passes-none}
-use Rattle.merge_laws.proofs.Judged.{judged-where-excluded}
+use Rattle.merge_laws.proofs.Clean.{all-from, clean-cite, first_of-clean, passes-none}
 
 -- what is dead is judged dead, from lines that mark the choices outside the arcs, whatever is cited
 pub marked-judged : (instance : Instance) (out : List Line) (t : Tag) (cites : List ℕ) (literals : List Literal) → AreMarked instance out → IsTagFor instance t → IsPartial instance literals → 0 < t.code → Dead instance (triple_from t.code) literals → is_dead instance out t cites literals ≡ true
@@ -139,8 +138,8 @@ module _ (instance : Instance) (rows : List KnownRow) (earlier : List LogLine) (
       elim c.fate [
         | inl left ↦ absurd (let e = left.none in omega arith)
         | inr stands ↦ clean-cite out line.tag (has_all (literal path ref.choice ∷ line.lits)) (number ref.line) stands.low stands.high
-          (subst (λ lits. has_all (literal path ref.choice ∷ line.lits) lits ≡ true) (sym stands.lits_are) c.within)
-          (let e = stands.tag_is in let r = c.reaches in omega arith)
+            (subst (λ lits. has_all (literal path ref.choice ∷ line.lits) lits ≡ true) (sym stands.lits_are) c.within)
+            (let e = stands.tag_is in let r = c.reaches in omega arith)
       ]
 
   -- which reference a written child is of
@@ -172,18 +171,18 @@ module _ (instance : Instance) (rows : List KnownRow) (earlier : List LogLine) (
       let below = small-choice ref m in
       elim c.fate [
         | inl left ↦ judged ref.choice below
-          (dead-more instance (triple_from line.tag.code) c.content.lits (literal path ref.choice ∷ line.lits) valid left.partial (whole ref.choice below) (has_all-each (literal path ref.choice ∷ line.lits) c.content.lits c.within)
-          (dead_lower instance (triple_from c.content.tag) (triple_from line.tag.code) c.content.lits valid left.tag_of own (codes-at_most line.tag.code c.content.tag c.reaches) left.dead))
+            (dead-more instance (triple_from line.tag.code) c.content.lits (literal path ref.choice ∷ line.lits) valid left.partial (whole ref.choice below) (has_all-each (literal path ref.choice ∷ line.lits) c.content.lits c.within)
+            (dead_lower instance (triple_from c.content.tag) (triple_from line.tag.code) c.content.lits valid left.tag_of own (codes-at_most line.tag.code c.content.tag c.reaches) left.dead))
         | inr stands ↦ or_left (list_any (λ z. eqb z.choice ref.choice) children) (is_dead instance out line.tag [] (literal path ref.choice ∷ line.lits))
-          (any-member (λ z. eqb z.choice ref.choice) children (record { choice = ref.choice; cite = number ref.line })
-          (in-flat_map (written_child number) line.refs ref (record { choice = ref.choice; cite = number ref.line }) m (child-there ref.choice (number ref.line) stands.low))
-          (eq-eqb ref.choice ref.choice refl))
+            (any-member (λ z. eqb z.choice ref.choice) children (record { choice = ref.choice; cite = number ref.line })
+            (in-flat_map (written_child number) line.refs ref (record { choice = ref.choice; cite = number ref.line }) m (child-there ref.choice (number ref.line) stands.low))
+            (eq-eqb ref.choice ref.choice refl))
       ]
 
   index-settled : (index : ℕ) → index < count_at instance path → is_settled instance out line.tag line.lits path children index ≡ true
   index-settled index below = elim (branch.settled index below) [
     | inl listed ↦ (let found = passing (λ (r : ChoiceRef). eqb r.choice index) line.refs listed in
-      subst (λ i. is_settled instance out line.tag line.lits path children i ≡ true) (eqb-true found.item.choice index found.passes) (by-child found.item found.member))
+        subst (λ i. is_settled instance out line.tag line.lits path children i ≡ true) (eqb-true found.item.choice index found.passes) (by-child found.item found.member))
     | inr dead ↦ judged index below dead
   ]
 

@@ -1,5 +1,5 @@
 -- What logs, outcomes and a verdict have to meet to be merged.
-use Rattle.std.specs.Prelude.{◌≡◌, ℕ, List, length, All, IsTrue, Option, Some, None}
+use Rattle.std.specs.Prelude.{◌≡◌, ℕ, List, length, All, IsTrue, Some, None}
 use Rattle.fapp_model.specs.declared.instance.Instance.{Instance}
 use Rattle.fapp_model.specs.Levels.{levels_of}
 use Rattle.fapp_model.specs.Tags.{triple_from}

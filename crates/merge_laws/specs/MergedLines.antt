@@ -10,7 +10,6 @@ use Rattle.cert_lines.specs.declared.answer.Verdict.{Verdict}
 use Rattle.cert_lines.specs.WellFormed.{IsLine}
 use Rattle.cert_lines.specs.acceptance.LineFaults.{lines_fault}
 use Rattle.cert_lines.specs.acceptance.RootFaults.{root_fault, verdict_tag}
-use Rattle.log_laws.specs.declared.line.LogLine.{LogLine}
 use Rattle.search_log.specs.LogStates.{LogState}
 use Rattle.arc_levels.specs.ArcLines.{AreArcLines}
 use Rattle.arc_levels.specs.Outside.{IsRootTag}

@@ -1,15 +1,9 @@
 -- How a certificate grows by the lines of logs, and the numbers that those lines and the rows get: 0 for what is left out.
-use Rattle.std.specs.Prelude.{◌≡◌, ℕ, ◌+◌, ◌<◌, ◌==◌, if◌then◌else◌, List, [], ◌∷◌, ◌++◌, length, slice_get, slice_index_or, slice_set, replicate, All, Contains, Option, Some, None}
-use Rattle.fapp_model.specs.declared.instance.Instance.{Instance}
-use Rattle.fapp_model.specs.Instances.{IsNumber}
+use Rattle.std.specs.Prelude.{ℕ, ◌+◌, ◌==◌, if◌then◌else◌, List, [], ◌∷◌, ◌++◌, length, slice_index_or, slice_set, replicate, Option, Some, None}
 use Rattle.cert_lines.specs.declared.answer.Line.{Line}
-use Rattle.cert_lines.specs.WellFormed.{IsLine}
-use Rattle.accept_laws.specs.Lines.{AreGood}
 use Rattle.log_laws.specs.declared.line.LogLine.{LogLine}
 use Rattle.log_laws.specs.declared.line.Ref.{Ref}
 use Rattle.log_laws.specs.declared.line.Ref.TheVariants.{Own, Row}
-use Rattle.log_laws.specs.Contents.{KnownRow, content_of}
-use Rattle.merge_laws.specs.Fates.{AreMarked, IsFate}
 use Rattle.merge_laws.specs.Written.{written}
 
 -- a certificate so far; for each log the numbers of its lines that are done, and the numbers of the rows
