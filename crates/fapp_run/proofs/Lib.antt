@@ -6,3 +6,4 @@ pub mod AnswerSizes
 pub mod RunEnds
 pub mod Joining
 pub mod Shown
+pub mod Solved

@@ -14,8 +14,8 @@ mod words;
 pub use answer_writer::Status;
 pub use judgement::{MAX_CHECK_INPUT, judge};
 pub use laws::{a_check_has_one_status, an_input_has_one_status, what_is_accepted_is_right};
-pub use solving::solve_answer;
 pub use outcome::{MAX_INPUT, Outcome, answer};
+pub use solving::solve_answer;
 pub use top::run;
 
 #[cfg(test)]
