@@ -1,0 +1,5 @@
+pub mod BreakLaws
+pub mod WordLaws
+pub mod CellLaws
+pub mod NeighbourLaws
+pub mod TableLaws
