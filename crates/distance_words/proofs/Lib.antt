@@ -3,3 +3,4 @@ pub mod WordLaws
 pub mod CellLaws
 pub mod NeighbourLaws
 pub mod TableLaws
+pub mod LinkLaws

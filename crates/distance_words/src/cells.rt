@@ -1,4 +1,4 @@
-ghost use Rattle.std.specs.Prelude.{◌≡◌, ◌↔◌, [], false, IfOk, IsTrue};
+ghost use Rattle.std.specs.Prelude.{◌≡◌, ◌↔◌, [], false, length, IfOk, IsTrue};
 ghost use Rattle.distance_words.specs.Cells.{Extends, word_in};
 
 use fapp_model::NoMemory;
@@ -54,6 +54,13 @@ impl Cells {
         ensures { result.now ≡ self.now }
     {
         self.cells.as_slice()
+    }
+
+    /// How many cells there are.
+    pub fn len(&self) -> usize
+        ensures { result ≡ length self.now }
+    {
+        self.cells.len()
     }
 
     /// Takes all cells away.

@@ -1,8 +1,10 @@
 ghost use Rattle.std.specs.Prelude.{◌≡◌, ◌<◌, ◌≤◌, length};
-ghost use Rattle.distance_words.specs.Cells.{AreWhole, cell_at, start_of};
+ghost use Rattle.distance_words.specs.Cells.{AreWhole, cell_at, start_of, word_in};
+ghost use Rattle.fapp_model.specs.Records.{distance, same_polarization};
 
 use crate::breaks::NO_REACH;
 use crate::cells::Cell;
+use fapp_model::Choice;
 
 /// The last place, at a place or before it, whose cell doesn't start above a distance.
 fn back_from(cells: &[Cell], from: usize, distance: u64) -> usize
@@ -36,7 +38,7 @@ fn on_from(cells: &[Cell], from: usize, distance: u64) -> usize
 
 /// The place of the cell that has the words of a distance. It is looked for from another place on, and found at once where
 /// that one is near.
-pub fn place_of(cells: &[Cell], from: usize, distance: u64) -> usize
+fn place_of(cells: &[Cell], from: usize, distance: u64) -> usize
     requires whole { AreWhole cells.now }
     requires distance { distance < NO_REACH }
     requires from { from < length cells.now }
@@ -46,4 +48,36 @@ pub fn place_of(cells: &[Cell], from: usize, distance: u64) -> usize
 {
     let place = back_from(cells, from, distance);
     on_from(cells, place, distance)
+}
+
+/// How far the frequencies of two choices are apart.
+fn distance(first: Choice, second: Choice) -> u64
+    ensures distance { result ≡ distance first second }
+    ensures within { result < NO_REACH }
+{
+    u64::from(first.freq.abs_diff(second.freq))
+}
+
+/// The place of the cell that has the words of two choices, looked for from another place on.
+pub fn place_for(cells: &[Cell], from: usize, first: Choice, second: Choice) -> usize
+    requires whole { AreWhole cells.now }
+    requires from { from < length cells.now }
+    ensures inside { result < length cells.now }
+    ensures start { start_of cells.now result ≤ distance first second }
+    ensures reach { distance first second < (cell_at cells.now result).reach }
+{
+    place_of(cells, from, distance(first, second))
+}
+
+/// The word of two choices, by the place of its cell.
+pub fn word_for(cells: &[Cell], place: usize, first: Choice, second: Choice) -> u64
+    requires { place < length cells.now }
+    ensures { result ≡ word_in (cell_at cells.now place) (same_polarization first second) }
+{
+    let cell = &cells[place];
+    if first.pol == second.pol {
+        cell.same
+    } else {
+        cell.other
+    }
 }

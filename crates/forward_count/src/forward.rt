@@ -22,6 +22,7 @@ use crate::start::{blank_rows, start};
 use crate::step::Step;
 use arc_levels::ArcTable;
 use count_laws::{HARD, Row, Totals};
+use distance_words::WordTable;
 use fapp_model::{Literal, NoMemory, S_SPAN, Tag, Triple, level_of, levels, triple_of};
 use fapp_tables::Tables;
 use nogood::Partial;
@@ -35,6 +36,7 @@ pub struct Forward<'a> {
     tables: &'a Tables<'a>,
     arcs: &'a ArcTable<'a>,
     level: u32,
+    words: WordTable<'a>,
     pushed: Vec<Literal>,
     partial: Partial,
     rows: Vec<Row>,
@@ -44,13 +46,14 @@ pub struct Forward<'a> {
 impl<'a> Model for Forward<'a> {
     ghost use Rattle.std.specs.Prelude.{◌≡◌, vec_capacity};
     ghost use Rattle.count_laws.specs.ForwardStates.{ForwardState};
+    ghost use Rattle.distance_words.specs.Tables.{words_at};
     ghost use Rattle.forward_count.specs.Forwards.{IsForward};
 
     ghost Value = { ForwardState };
 
     ghost view = { λ f. record { instance = f.tables.now; level = f.level; pushed = f.pushed.items } };
 
-    ghost invariant = { λ f. (f.arcs.now ≡ f.tables.now) × IsForward f.tables.now f.level f.pushed.items f.partial f.rows.items f.totals (vec_capacity f.pushed) };
+    ghost invariant = { λ f. ((f.arcs.now ≡ f.tables.now) × (f.words ≡ words_at f.tables.now f.level)) × IsForward f.tables.now f.level f.pushed.items f.partial f.rows.items f.totals (vec_capacity f.pushed) };
 }
 
 impl<'a> Forward<'a> {
@@ -67,6 +70,7 @@ impl<'a> Forward<'a> {
         let instance = tables.instance();
         let level = levels(instance);
         let paths = instance.paths.len();
+        let words = WordTable::new(alloc, tables, level)?;
         let mut rows = blank_rows(alloc, instance)?;
         let partial = Partial::new(alloc, paths as u32)?;
         let pushed = Vec::with_capacity(alloc, paths)?;
@@ -75,6 +79,7 @@ impl<'a> Forward<'a> {
             tables,
             arcs,
             level,
+            words,
             pushed,
             partial,
             rows,
@@ -132,10 +137,12 @@ impl<'a> Forward<'a> {
         ensures { self.new ≡ at_level self.old level }
     {
         let instance = self.tables.instance();
+        self.words.keep_level(level);
         clear_slots(&mut self.partial, instance.paths.len());
         let totals = start(instance, self.arcs, level, self.rows.as_mut_slice());
         self.totals = count_all(
             self.tables,
+            &self.words,
             level,
             self.pushed.as_slice(),
             self.rows.as_mut_slice(),
@@ -156,6 +163,7 @@ impl<'a> Forward<'a> {
         let step = Step::new(self.tables, self.level, false, literal);
         self.totals = count_step(
             &step,
+            &self.words,
             self.rows.as_mut_slice(),
             &mut self.partial,
             self.totals,
@@ -306,6 +314,7 @@ impl<'a> Forward<'a> {
         let step = Step::new(self.tables, self.level, true, literal);
         self.totals = count_step(
             &step,
+            &self.words,
             self.rows.as_mut_slice(),
             &mut self.partial,
             self.totals,
