@@ -1,7 +1,8 @@
 -- What a link tells of the words of two literals.
-use Rattle.std.proofs.Common.{◌≡◌, ◌≢◌, ℕ, ◌+◌, ◌^◌, ◌<◌, ◌≤◌, List, [], ◌∷◌, length, refl, sym, ap, subst, ◌∙◌, arith}
+use Rattle.std.proofs.Common.{◌≡◌, ◌≢◌, ℕ, ◌+◌, ◌^◌, ◌<◌, ◌≤◌, [], ◌∷◌, length, refl, sym, ap, subst, inl, inr, ◌∙◌, arith}
 use Rattle.fapp_model.specs.declared.choice.Choice.{Choice}
 use Rattle.fapp_model.specs.declared.instance.Instance.{Instance}
+use Rattle.fapp_model.specs.declared.level.TheConstants.{MAX_LEVELS}
 use Rattle.fapp_model.specs.declared.literal.Literal.{Literal}
 use Rattle.fapp_model.specs.Instances.{IsInstance}
 use Rattle.fapp_model.specs.Records.{distance, same_polarization}
@@ -13,10 +14,9 @@ use Rattle.count_laws.specs.Counts.{pair_word}
 use Rattle.count_laws.proofs.Bounds.{sum_small}
 use Rattle.count_laws.proofs.Clash.{flag_most}
 use Rattle.distance_words.specs.declared.breaks.TheConstants.{NO_REACH}
-use Rattle.distance_words.specs.declared.cells.Cell.{Cell}
 use Rattle.distance_words.specs.declared.fill.Link.{Link}
 use Rattle.distance_words.specs.Cells.{cell_at, start_of, word_in}
-use Rattle.distance_words.specs.Links.{IsLink}
+use Rattle.distance_words.specs.Links.{IsFound, IsLink}
 use Rattle.distance_words.specs.Words.{choices_word}
 use Rattle.distance_words.proofs.WordLaws.{word_is, words_apart}
 
@@ -42,21 +42,23 @@ one_distinct : (b : Literal) → AreDistinct (b ∷ [])
 one_distinct b = λ i j d less inside. absurd (omega (arith, less, inside))
 
 -- a word of two literals is small
-pub pair_small : (instance : Instance) → IsInstance instance → (level : ℕ) → level ≤ 11 → (a b : Literal) → pair_word instance level a b ≤ 2 ^ 49
+pub pair_small : (instance : Instance) → IsInstance instance → (level : ℕ) → level ≤ MAX_LEVELS → (a b : Literal) → pair_word instance level a b ≤ 2 ^ 49
 pair_small instance valid level low a b =
     let sum = sum_small instance valid level low (b ∷ []) (one_distinct b) a in
     let one : 0 + both_between instance (coded_part level) a b < 2 ^ 47 = sum in
     omega (arith, one, flag_most (clashes instance level a b))
 
--- the same of choices and cells that are told by equations
-pub word_by_cell : (instance : Instance) (level : ℕ) (a b : Literal) → a.path ≢ b.path → (link : Link) → IsLink instance level a.path b.path link →
-    (cells : List Cell) (place : ℕ) (x y : Choice) (n : ℕ) → cells ≡ link.cells → x ≡ choice_of instance a → y ≡ choice_of instance b →
-    place < length cells → start_of cells place ≤ distance x y → distance x y < (cell_at cells place).reach → n ≡ word_in (cell_at cells place) (same_polarization x y) →
-    n ≡ pair_word instance level b a
-word_by_cell instance level a b apart link is cells place x y n ec ex ey inside from below e =
-    let At : List Cell → Choice → Choice → Type 0 = λ ks p q. (place < length ks) × ((start_of ks place ≤ distance p q) × ((distance p q < (cell_at ks place).reach) × (n ≡ word_in (cell_at ks place) (same_polarization p q)))) in
-    let all = subst (λ ks. At ks (choice_of instance a) (choice_of instance b)) ec (subst (λ p. At cells p (choice_of instance b)) ex (subst (λ q. At cells x q) ey (inside, (from, (below, e))))) in
-    all.1.1.1 ∙ cell_word instance level a b apart link is place all.0 all.1.0 all.1.1.0
+-- the word that was found for choices that are told by equations
+pub word_found : (instance : Instance) (level : ℕ) (a b : Literal) → a.path ≢ b.path → (link : Link) → IsLink instance level a.path b.path link →
+    (place : ℕ) (x y : Choice) (n : ℕ) → x ≡ choice_of instance a → y ≡ choice_of instance b →
+    place < length link.cells → IsFound link place (distance x y) (same_polarization x y) n → n ≡ pair_word instance level b a
+word_found instance level a b apart link is place x y n ex ey inside found =
+    by_case (subst (λ p. IsFound link place (distance p (choice_of instance b)) (same_polarization p (choice_of instance b)) n) ex
+    (subst (λ q. IsFound link place (distance x q) (same_polarization x q) n) ey found))
+  where
+    by_case : IsFound link place (distance (choice_of instance a) (choice_of instance b)) (same_polarization (choice_of instance a) (choice_of instance b)) n → n ≡ pair_word instance level b a
+    by_case (inl none) = none.1.1 ∙ sym (far_word instance level a b apart link is none.0 none.1.0)
+    by_case (inr some) = some.1.1 ∙ cell_word instance level a b apart link is place inside some.0 some.1.0
 
 pub word_by_choices : (instance i : Instance) (level : ℕ) (a b : Literal) (x y : Choice) (n : ℕ) → i ≡ instance → x ≡ choice_of instance a → y ≡ choice_of instance b →
     n ≡ choices_word i level a.path b.path x y → n ≡ pair_word instance level b a

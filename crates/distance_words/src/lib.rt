@@ -13,5 +13,4 @@ pub use breaks::NO_REACH;
 pub use cells::{Cell, Cells};
 pub use fill::Link;
 pub use pair::Pair;
-pub use places::{place_for, word_for};
 pub use table::WordTable;

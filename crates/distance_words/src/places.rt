@@ -1,9 +1,11 @@
 ghost use Rattle.std.specs.Prelude.{◌≡◌, ◌<◌, ◌≤◌, length};
 ghost use Rattle.distance_words.specs.Cells.{AreWhole, cell_at, start_of, word_in};
+ghost use Rattle.distance_words.specs.Links.{IsFound};
 ghost use Rattle.fapp_model.specs.Records.{distance, same_polarization};
 
 use crate::breaks::NO_REACH;
 use crate::cells::Cell;
+use crate::fill::Link;
 use fapp_model::Choice;
 
 /// The last place, at a place or before it, whose cell doesn't start above a distance.
@@ -58,19 +60,8 @@ fn distance(first: Choice, second: Choice) -> u64
     u64::from(first.freq.abs_diff(second.freq))
 }
 
-/// The place of the cell that has the words of two choices, looked for from another place on.
-pub fn place_for(cells: &[Cell], from: usize, first: Choice, second: Choice) -> usize
-    requires whole { AreWhole cells.now }
-    requires from { from < length cells.now }
-    ensures inside { result < length cells.now }
-    ensures start { start_of cells.now result ≤ distance first second }
-    ensures reach { distance first second < (cell_at cells.now result).reach }
-{
-    place_of(cells, from, distance(first, second))
-}
-
 /// The word of two choices, by the place of its cell.
-pub fn word_for(cells: &[Cell], place: usize, first: Choice, second: Choice) -> u64
+fn word_for(cells: &[Cell], place: usize, first: Choice, second: Choice) -> u64
     requires { place < length cells.now }
     ensures { result ≡ word_in (cell_at cells.now place) (same_polarization first second) }
 {
@@ -79,5 +70,24 @@ pub fn word_for(cells: &[Cell], place: usize, first: Choice, second: Choice) -> 
         cell.same
     } else {
         cell.other
+    }
+}
+
+impl Link {
+    /// What two choices count in each other's words, where each distance has a cell. The cell is looked for from a place on, and
+    /// its own place is left there.
+    pub fn word(&self, place: &mut usize, first: Choice, second: Choice) -> u64
+        requires whole { AreWhole self.now.cells }
+        requires place { place.old < length self.now.cells }
+        ensures inside { place.new < length self.now.cells }
+        ensures word { IsFound self.now place.new (distance first second) (same_polarization first second) result }
+    {
+        let distance = distance(first, second);
+        if distance >= self.far {
+            return 0;
+        }
+        let cells = self.cells.as_slice();
+        *place = place_of(cells, *place, distance);
+        word_for(cells, *place, first, second)
     }
 }

@@ -57,8 +57,9 @@ impl<'a> Model for Forward<'a> {
 }
 
 impl<'a> Forward<'a> {
-    /// Starts with no literal, counting at the instance's highest level. It takes 8 bytes a choice and 40 a path; no other call
-    /// takes memory.
+    /// Starts with no literal, counting at the instance's highest level. It takes 8 bytes a choice, 64 a path and, seen from
+    /// each of two neighbouring paths, at most 32 cells of 24 bytes (12 for one record) and 40 bytes more; no other call takes
+    /// memory.
     pub fn new(
         alloc: Global,
         tables: &'a Tables<'a>,
@@ -131,11 +132,15 @@ impl<'a> Forward<'a> {
         self.partial.get(path).is_some()
     }
 
-    /// Counts at a level from now on. It costs a turn over all choices, and as much as to push each literal again.
+    /// Counts at a level from now on. It costs nothing where that level is kept already; else a turn over all choices, the
+    /// words of neighbours by their distances, and as much as to push each literal again.
     pub fn keep_level(&mut self, level: u32)
         requires { level ≤ levels_of self.old.instance }
         ensures { self.new ≡ at_level self.old level }
     {
+        if level == self.level {
+            return;
+        }
         let instance = self.tables.instance();
         self.words.keep_level(level);
         clear_slots(&mut self.partial, instance.paths.len());
@@ -152,7 +157,8 @@ impl<'a> Forward<'a> {
         self.level = level;
     }
 
-    /// Adds a literal. It costs as much as the pairs of the choice and all choices of the neighbouring paths.
+    /// Adds a literal. It costs a look at each choice of the neighbouring paths, and a few cells of each of these paths; where
+    /// their cells would be too many, the records between the two paths for each choice.
     pub fn push(&mut self, path: u16, choice: u16)
         requires path { path < length self.old.instance.paths }
         requires choice { choice < count_at self.old.instance path }
@@ -199,7 +205,8 @@ impl<'a> Forward<'a> {
     }
 
     /// What a choice adds against the literals at the level that is kept, whether it remains or not: violations one level
-    /// below it times `S_SPAN`, and their sum further below.
+    /// below it times `S_SPAN`, and their sum further below. Below level 0 there is none: there it is violations at level 0
+    /// itself.
     pub fn sum_at(&self, path: u16, choice: u16) -> u64
         requires path { path < length self.now.instance.paths }
         requires choice { choice < count_at self.now.instance path }
@@ -264,7 +271,7 @@ impl<'a> Forward<'a> {
         }
     }
 
-    /// The sum that a limit is compared with, at the level that is kept.
+    /// The sum that a limit is compared with, at the level that is kept, by pairs as `sum_at` has them.
     pub fn sum(&self) -> u64
         requires { IsCalm self.now.instance self.now.level self.now.pushed }
         ensures { IsBound self.now.instance self.now.level self.now.pushed result }
@@ -273,8 +280,8 @@ impl<'a> Forward<'a> {
     }
 
     /// The sum that a limit is compared with at a level: the pairs of the records between the literals, and the least that
-    /// each further path adds, as violations one level below it times `S_SPAN` and their sum further below. It costs what
-    /// `is_calm` does.
+    /// each further path adds, as violations one level below it times `S_SPAN` and their sum further below, at level 0 as
+    /// `sum_at` has them. It costs what `is_calm` does.
     pub fn bound(&self, level: u32) -> u64
         requires level { level ≤ levels_of self.now.instance }
         requires calm { IsCalm self.now.instance level self.now.pushed }
@@ -293,6 +300,7 @@ impl<'a> Forward<'a> {
         requires { IsTagFor self.now.instance tag }
         ensures { IsTrue result ↔ Dead self.now.instance (triple_from tag.code) self.now.pushed }
     {
+        // The proof opens the fields' invariant here.
         let _ = &self.tables;
         if tag.code == 0 {
             return true;

@@ -8,7 +8,7 @@ ghost use Rattle.fapp_tables.specs.Indexes.{records_of};
 
 use crate::step::Step;
 use count_laws::{NO_WORD, Row};
-use distance_words::{Link, place_for, word_for};
+use distance_words::Link;
 
 /// A word with a pair's taken away, or added.
 pub fn moved(taking: bool, word: u64, pair: u64) -> u64
@@ -49,13 +49,11 @@ fn move_by_cells(step: &Step, row: &mut Row, link: &Link, other: u16)
     requires can { CanMoveRow step.now.taking step.now.tables.now step.now.level step.now.literal other row.old.words }
     ensures { row.new ≡ row_by (words_with step.now.taking step.now.tables.now step.now.level step.now.literal other row.old.words) }
 {
-    let cells = link.cells.as_slice();
     let mut least = NO_WORD;
     let mut place = 0;
     for index in 0..step.count(other) {
         let second = step.choice_at(other, index);
-        place = place_for(cells, place, step.choice, second);
-        let pair = word_for(cells, place, step.choice, second);
+        let pair = link.word(&mut place, step.choice, second);
         let word = moved(step.taking, row.words.get(index as usize), pair);
         row.words.set(index as usize, word);
         least = least.min(word);

@@ -1,7 +1,7 @@
 use Rattle.std.proofs.Common.{◌≡◌, ◌^◌, ◌+◌, ◌<◌, ◌≤◌, ◌∙◌, ℕ, List, ap, length, set, subst, sym, take, arith}
 use Rattle.fapp_model.specs.search.Partials.{literal}
 use Rattle.distance_words.specs.declared.cells.Cell.{Cell}
-use Rattle.distance_words.proofs.LinkLaws.{pair_small, word_by_cell}
+use Rattle.distance_words.proofs.LinkLaws.{pair_small, word_found}
 use Rattle.count_laws.specs.Counts.{pair_word}
 use Rattle.count_laws.specs.Moves.{CanMove, moved, words_with}
 use Rattle.count_laws.specs.Words.{least_of, word_at}
@@ -15,10 +15,8 @@ loop-index-init c = record { inside = c.requires.some; mapped = mapped_none _ _;
 pub moved-word-requires-clause-can : goal.moved-word-requires-clause-can
 moved-word-requires-clause-can c =
     let step = c.args.step.now in
-    let found = c.place_for-place.ensures in
-    let word_is = word_by_cell step.tables.now step.level step.literal (literal c.args.other c.loop-index.index) c.requires.apart c.args.link.now c.requires.link
-        c.as_slice-cells.result.now c.place_for-place.result step.choice c.choice_at-second.result c.word_for-pair.result
-        c.as_slice-cells.ensures step.chosen c.choice_at-second.ensures found.inside found.start found.reach c.word_for-pair.ensures in
+    let word_is = word_found step.tables.now step.level step.literal (literal c.args.other c.loop-index.index) c.requires.apart c.args.link.now c.requires.link
+        c.word-pair.new.place step.choice c.choice_at-second.result c.word-pair.result step.chosen c.choice_at-second.ensures c.word-pair.ensures.inside c.word-pair.ensures.word in
     let index = c.loop-index.index in
     let inside : index < length c.args.row.now.words = omega (arith, c.count-index-end.ensures.count, c.requires.count, c.loop-index-test.true) in
     subst (λ (n : ℕ). CanMove step.taking c.get.result n) (sym word_is)
@@ -28,30 +26,26 @@ moved-word-requires-clause-can c =
 pub moved-word-requires-clause-small : goal.moved-word-requires-clause-small
 moved-word-requires-clause-small c =
     let step = c.args.step.now in
-    let found = c.place_for-place.ensures in
-    let word_is = word_by_cell step.tables.now step.level step.literal (literal c.args.other c.loop-index.index) c.requires.apart c.args.link.now c.requires.link
-        c.as_slice-cells.result.now c.place_for-place.result step.choice c.choice_at-second.result c.word_for-pair.result
-        c.as_slice-cells.ensures step.chosen c.choice_at-second.ensures found.inside found.start found.reach c.word_for-pair.ensures in
+    let word_is = word_found step.tables.now step.level step.literal (literal c.args.other c.loop-index.index) c.requires.apart c.args.link.now c.requires.link
+        c.word-pair.new.place step.choice c.choice_at-second.result c.word-pair.result step.chosen c.choice_at-second.ensures c.word-pair.ensures.inside c.word-pair.ensures.word in
     let small = pair_small step.tables.now c.requires.instance step.level step.low (literal c.args.other c.loop-index.index) step.literal in
     omega (arith, small, word_is)
 
 pub loop-index-preserved : goal.loop-index-preserved
 loop-index-preserved c =
     let step = c.args.step.now in
-    let found = c.place_for-place.ensures in
-    let word_is = word_by_cell step.tables.now step.level step.literal (literal c.args.other c.loop-index.index) c.requires.apart c.args.link.now c.requires.link
-        c.as_slice-cells.result.now c.place_for-place.result step.choice c.choice_at-second.result c.word_for-pair.result
-        c.as_slice-cells.ensures step.chosen c.choice_at-second.ensures found.inside found.start found.reach c.word_for-pair.ensures in
+    let word_is = word_found step.tables.now step.level step.literal (literal c.args.other c.loop-index.index) c.requires.apart c.args.link.now c.requires.link
+        c.word-pair.new.place step.choice c.choice_at-second.result c.word-pair.result step.chosen c.choice_at-second.ensures c.word-pair.ensures.inside c.word-pair.ensures.word in
     let f = λ (k : ℕ) (word : ℕ). moved c.args.step.now.taking word (pair_word step.tables.now step.level (literal c.args.other k) step.literal) in
     let old = c.args.row.now.words in
     let index = c.loop-index.index in
     let words = c.loop-index.row.words in
     let inside : index < length words = omega (arith, c.loop-index.invariant.mapped.count, c.count-index-end.ensures.count, c.requires.count, c.loop-index-test.true) in
     let word = c.moved-word.result in
-    let is : word ≡ f index (word_at words index) = c.moved-word.ensures ∙ (ap (λ w. moved c.args.step.now.taking w c.word_for-pair.result) c.get.ensures ∙ ap (moved c.args.step.now.taking (word_at words index)) word_is) in
+    let is : word ≡ f index (word_at words index) = c.moved-word.ensures ∙ (ap (λ w. moved c.args.step.now.taking w c.word-pair.result) c.get.ensures ∙ ap (moved c.args.step.now.taking (word_at words index)) word_is) in
     let same : c.set.new.self ≡ set words index word = c.set.ensures in
     record {
-      inside = subst (λ (cells : List Cell). c.place_for-place.result < length cells) c.as_slice-cells.ensures c.place_for-place.ensures.inside;
+      inside = c.word-pair.ensures.inside;
       mapped = subst (λ (ws : List ℕ). IsMapped f old ws (index + 1)) (sym same) (mapped_more f old words index word c.loop-index.invariant.mapped inside is);
       least = subst (λ (ws : List ℕ). c.min-least.result ≡ least_of (take (index + 1) ws)) (sym same) (least_write words index word c.loop-index.least _ inside c.loop-index.invariant.least c.min-least.ensures);
     }
