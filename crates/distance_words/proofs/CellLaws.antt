@@ -50,14 +50,14 @@ module _ (old : List Cell) (cell : Cell) where
     pushed_cells : AreCells instance level path other (old ++ cell ∷ [])
     pushed_cells place inside = elim (cases_lt place (length old)) [
       | inl before ↦
-        let same : (k : ℕ) → k < length old → cell_at old k ≡ cell_at (old ++ cell ∷ []) k = λ k below. sym (get_or_append_left old (cell ∷ []) no_cell k below) in
-        subst (λ (c : Cell). IsCell instance level path other (start_of (old ++ cell ∷ []) place) c) (same place before)
-        (subst (λ (n : ℕ). IsCell instance level path other n (cell_at old place)) (start_same old (old ++ cell ∷ []) place (λ k below. same k (omega arith))) (are place before))
+          let same : (k : ℕ) → k < length old → cell_at old k ≡ cell_at (old ++ cell ∷ []) k = λ k below. sym (get_or_append_left old (cell ∷ []) no_cell k below) in
+          subst (λ (c : Cell). IsCell instance level path other (start_of (old ++ cell ∷ []) place) c) (same place before)
+          (subst (λ (n : ℕ). IsCell instance level path other n (cell_at old place)) (start_same old (old ++ cell ∷ []) place (λ k below. same k (omega arith))) (are place before))
       | inr past ↦
-        let here : place ≡ length old = omega (arith, length_push old cell) in
-        subst (λ (k : ℕ). IsCell instance level path other (start_of (old ++ cell ∷ []) k) (cell_at (old ++ cell ∷ []) k)) (sym here)
-        (subst (λ (c : Cell). IsCell instance level path other (start_of (old ++ cell ∷ []) (length old)) c) (sym (get_or_push old cell no_cell (length old) refl))
-        (subst (λ (n : ℕ). IsCell instance level path other n cell) (start_same old (old ++ cell ∷ []) (length old) (λ k below. sym (get_or_append_left old (cell ∷ []) no_cell k below))) is))
+          let here : place ≡ length old = omega (arith, length_push old cell) in
+          subst (λ (k : ℕ). IsCell instance level path other (start_of (old ++ cell ∷ []) k) (cell_at (old ++ cell ∷ []) k)) (sym here)
+          (subst (λ (c : Cell). IsCell instance level path other (start_of (old ++ cell ∷ []) (length old)) c) (sym (get_or_push old cell no_cell (length old) refl))
+          (subst (λ (n : ℕ). IsCell instance level path other n cell) (start_same old (old ++ cell ∷ []) (length old) (λ k below. sym (get_or_append_left old (cell ∷ []) no_cell k below))) is))
     ]
 
     -- the last cell, reaching further
@@ -73,13 +73,13 @@ module _ (old : List Cell) (cell : Cell) where
         let same : (k : ℕ) → k < length old - 1 → cell_at old k ≡ cell_at new k = λ k below. sym (get_or-set_other old (length old - 1) k cell no_cell (λ e. absurd (omega arith))) in
         elim (cases_lt place (length old - 1)) [
           | inl before ↦
-            subst (λ (c : Cell). IsCell instance level path other (start_of new place) c) (same place before)
-            (subst (λ (n : ℕ). IsCell instance level path other n (cell_at old place)) (start_same old new place (λ k below. same k (omega arith))) (are place (omega arith)))
+              subst (λ (c : Cell). IsCell instance level path other (start_of new place) c) (same place before)
+              (subst (λ (n : ℕ). IsCell instance level path other n (cell_at old place)) (start_same old new place (λ k below. same k (omega arith))) (are place (omega arith)))
           | inr past ↦
-            let here : place ≡ length old - 1 = omega (arith, length-set old (length old - 1) cell) in
-            subst (λ (k : ℕ). IsCell instance level path other (start_of new k) (cell_at new k)) (sym here)
-            (subst (λ (c : Cell). IsCell instance level path other (start_of new (length old - 1)) c) (sym (last_set some))
-            (subst (λ (n : ℕ). IsCell instance level path other n cell) (start_same old new (length old - 1) same) (longer some like)))
+              let here : place ≡ length old - 1 = omega (arith, length-set old (length old - 1) cell) in
+              subst (λ (k : ℕ). IsCell instance level path other (start_of new k) (cell_at new k)) (sym here)
+              (subst (λ (c : Cell). IsCell instance level path other (start_of new (length old - 1)) c) (sym (last_set some))
+              (subst (λ (n : ℕ). IsCell instance level path other n cell) (start_same old new (length old - 1) same) (longer some like)))
         ]
 
     pub extends_cells : (new : List Cell) → Extends old cell new → AreCells instance level path other new

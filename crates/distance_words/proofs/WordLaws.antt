@@ -83,7 +83,7 @@ module _ (measure : Record → Choice → Choice → ℕ) (keeps : (r : Record) 
       sym (over_positions measure path other apart a b instance)
       ∙ (sum_by-same-members (λ k. turned measure path a b (record_at instance k)) (λ k. turned measure path x y (record_at instance k)) (records_of instance path other)
       (λ k d below. let r = record_at instance (get_or (records_of instance path other) k d) in
-          turned_is path r a b ∙ (keeps r a b x y (all k d below) ∙ sym (turned_is path r x y)))
+      turned_is path r a b ∙ (keeps r a b x y (all k d below) ∙ sym (turned_is path r x y)))
       ∙ over_positions measure path other apart x y instance)
 
 module _ (instance : Instance) (level path other : ℕ) (apart : path ≢ other) where

@@ -142,11 +142,7 @@ impl<'a> Model for WordTable<'a> {
 
 impl<'a> WordTable<'a> {
     /// The words of a level. No other call takes memory.
-    pub fn new(
-        alloc: Global,
-        tables: &'a Tables<'a>,
-        level: u32,
-    ) -> Result<WordTable<'a>, NoMemory>
+    pub fn new(alloc: Global, tables: &'a Tables<'a>, level: u32) -> Result<WordTable<'a>, NoMemory>
         requires instance { IsInstance tables.now }
         requires level { level ≤ MAX_LEVELS }
         ensures { IfOk result (λ words. words ≡ words_at tables.now level) }

@@ -22,13 +22,7 @@ struct Change {
 }
 
 /// Changes the row of a neighbour by what a literal counts there.
-fn move_at(
-    step: &Step,
-    other: u16,
-    positions: &[u32],
-    link: &Link,
-    rows: &mut [Row],
-) -> Change
+fn move_at(step: &Step, other: u16, positions: &[u32], link: &Link, rows: &mut [Row]) -> Change
     requires instance { IsInstance step.now.tables.now }
     requires apart { step.now.literal.path ≢ other }
     requires other { other < length step.now.tables.now.paths }

@@ -7,8 +7,8 @@ ghost use Rattle.fapp_model.specs.Instances.{IsInstance, IsPath};
 ghost use Rattle.fapp_model.specs.search.Partials.{IsLiteral, choice_of, literal};
 ghost use Rattle.fapp_tables.specs.Indexes.{records_of};
 
-use fapp_model::{Choice, Instance, Literal, Path, choice_at, choice_count};
 use distance_words::Pair;
+use fapp_model::{Choice, Instance, Literal, Path, choice_at, choice_count};
 use fapp_tables::Tables;
 
 /// A literal that is pushed or taken back, with the choice that it stands for, and the level that counts are of.

@@ -11,7 +11,7 @@ loop-position-preserved c =
     let instance = c.args.instance.now in
     let k = get_or c.args.positions.now c.loop-position.position-index 0 in
     let one : IsSteady (record_at instance k) c.args.distance c.next_break.result = subst (λ (rs : List Record). IsSteady (get_or rs k no_record) c.args.distance c.next_break.result) c.as_slice-records.ensures
-        (subst (λ (r : Record). IsSteady r c.args.distance c.next_break.result) (get_or_default c.as_slice-records.result.now k _ no_record (subst (λ (rs : List Record). k < length rs) (sym c.as_slice-records.ensures) (c.requires.positions c.loop-position.position-index 0 c.loop-position-test.true))) c.next_break.ensures.steady) in
+    (subst (λ (r : Record). IsSteady r c.args.distance c.next_break.result) (get_or_default c.as_slice-records.result.now k _ no_record (subst (λ (rs : List Record). k < length rs) (sym c.as_slice-records.ensures) (c.requires.positions c.loop-position.position-index 0 c.loop-position-test.true))) c.next_break.ensures.steady) in
     record {
       above = omega (arith, c.min-reach.ensures, c.loop-position.invariant.above, c.next_break.ensures.above);
       within = omega (arith, c.min-reach.ensures, c.loop-position.invariant.within);

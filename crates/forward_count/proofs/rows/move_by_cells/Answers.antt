@@ -16,7 +16,7 @@ pub moved-word-requires-clause-can : goal.moved-word-requires-clause-can
 moved-word-requires-clause-can c =
     let step = c.args.step.now in
     let word_is = word_found step.tables.now step.level step.literal (literal c.args.other c.loop-index.index) c.requires.apart c.args.link.now c.requires.link
-        c.word-pair.new.place step.choice c.choice_at-second.result c.word-pair.result step.chosen c.choice_at-second.ensures c.word-pair.ensures.inside c.word-pair.ensures.word in
+    c.word-pair.new.place step.choice c.choice_at-second.result c.word-pair.result step.chosen c.choice_at-second.ensures c.word-pair.ensures.inside c.word-pair.ensures.word in
     let index = c.loop-index.index in
     let inside : index < length c.args.row.now.words = omega (arith, c.count-index-end.ensures.count, c.requires.count, c.loop-index-test.true) in
     subst (λ (n : ℕ). CanMove step.taking c.get.result n) (sym word_is)
@@ -27,7 +27,7 @@ pub moved-word-requires-clause-small : goal.moved-word-requires-clause-small
 moved-word-requires-clause-small c =
     let step = c.args.step.now in
     let word_is = word_found step.tables.now step.level step.literal (literal c.args.other c.loop-index.index) c.requires.apart c.args.link.now c.requires.link
-        c.word-pair.new.place step.choice c.choice_at-second.result c.word-pair.result step.chosen c.choice_at-second.ensures c.word-pair.ensures.inside c.word-pair.ensures.word in
+    c.word-pair.new.place step.choice c.choice_at-second.result c.word-pair.result step.chosen c.choice_at-second.ensures c.word-pair.ensures.inside c.word-pair.ensures.word in
     let small = pair_small step.tables.now c.requires.instance step.level step.low (literal c.args.other c.loop-index.index) step.literal in
     omega (arith, small, word_is)
 
@@ -35,7 +35,7 @@ pub loop-index-preserved : goal.loop-index-preserved
 loop-index-preserved c =
     let step = c.args.step.now in
     let word_is = word_found step.tables.now step.level step.literal (literal c.args.other c.loop-index.index) c.requires.apart c.args.link.now c.requires.link
-        c.word-pair.new.place step.choice c.choice_at-second.result c.word-pair.result step.chosen c.choice_at-second.ensures c.word-pair.ensures.inside c.word-pair.ensures.word in
+    c.word-pair.new.place step.choice c.choice_at-second.result c.word-pair.result step.chosen c.choice_at-second.ensures c.word-pair.ensures.inside c.word-pair.ensures.word in
     let f = λ (k : ℕ) (word : ℕ). moved c.args.step.now.taking word (pair_word step.tables.now step.level (literal c.args.other k) step.literal) in
     let old = c.args.row.now.words in
     let index = c.loop-index.index in
