@@ -5,6 +5,7 @@ use Rattle.std.specs.Option.{is_some}
 use Rattle.std.proofs.lemmas.List.Elements.{All-push, Contains-get_or}
 use Rattle.fapp_model.specs.declared.instance.Instance.{Instance}
 use Rattle.fapp_model.specs.declared.literal.Literal.{Literal}
+use Rattle.fapp_model.specs.declared.level.TheConstants.{MAX_LEVELS}
 use Rattle.fapp_model.specs.Assignments.{count_at}
 use Rattle.fapp_model.specs.search.Partials.{IsLiteral, IsPartial, literal, names}
 use Rattle.nogood.specs.Literals.{other_paths}
@@ -44,7 +45,7 @@ pub placed : (i : Instance) (k : ℕ) (ls : List Literal) (st : ForwardState) (p
 placed i k ls st place e inside = subst (λ (s : ForwardState). place < length s.pushed) (sym e) inside
 
 module _ (instance : Instance) (level : ℕ) (pushed : List Literal) (slots : List (Option ℕ)) (rows : List Row) (totals : Totals) (room : ℕ) (f : IsForward instance level pushed slots rows totals room) where
-  low : level ≤ 11
+  low : level ≤ MAX_LEVELS
   low = level_few instance level f.low
 
   pub forward_rows : AreRows instance rows

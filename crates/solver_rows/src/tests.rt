@@ -1,3 +1,4 @@
 mod arcs;
 mod jobs;
+mod counts;
 mod tables;
