@@ -1,4 +1,4 @@
 mod arcs;
-mod jobs;
 mod counts;
+mod jobs;
 mod tables;
