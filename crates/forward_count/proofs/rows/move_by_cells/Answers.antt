@@ -1,6 +1,5 @@
-use Rattle.std.proofs.Common.{◌≡◌, ◌^◌, ◌+◌, ◌<◌, ◌≤◌, ◌∙◌, ℕ, List, ap, length, set, subst, sym, take, arith}
+use Rattle.std.proofs.Common.{◌≡◌, ◌+◌, ◌<◌, ◌≤◌, ◌∙◌, ℕ, List, ap, length, set, subst, sym, take, arith}
 use Rattle.fapp_model.specs.search.Partials.{literal}
-use Rattle.distance_words.specs.declared.cells.Cell.{Cell}
 use Rattle.distance_words.proofs.LinkLaws.{pair_small, word_found}
 use Rattle.count_laws.specs.Counts.{pair_word}
 use Rattle.count_laws.specs.Moves.{CanMove, moved, words_with}

@@ -1,4 +1,4 @@
-use Rattle.std.proofs.Common.{◌≡◌, List, length, subst, sym}
+use Rattle.std.proofs.Common.{List, length, subst, sym}
 use Rattle.fapp_model.specs.declared.instance.Instance.{Instance}
 use Rattle.count_laws.specs.declared.rows.Row.{Row}
 use Rattle.count_laws.proofs.DeadByBound.{level_few}
