@@ -208,6 +208,7 @@ module _ (split : Split) (fuel : ℕ) (rows : List KnownRow) (logs : List LogSta
   pub open-for : IsOpenFor split fuel best lower level prefix
   open-for = record {
     names = names-job;
+    unsettled = omega (arith, best-code, opened.bound, opened.unsettled);
     reaches = λ m _ within. reaches m within;
     shown = λ plan own feasible has extends within. omega (arith, best-code, cost-reaches split fuel rows logs word outcomes s.settled s.valid plan own feasible has extends within);
   }

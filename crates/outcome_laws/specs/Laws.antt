@@ -52,11 +52,12 @@ pub record NamesJob (split : Split) (fuel : ℕ) (best : Triple) (level : ℕ) (
   pub at_level : ((best.k ≡ levels_of split.instance + 1) × (level ≡ levels_of split.instance)) ⊎ ((best.k ≤ levels_of split.instance) × (level ≡ best.k))
   pub beyond : IsBeyond split.instance level planned_prefix fuel
 
--- What an Open verdict says: it names such a job; the lower bound is at least (m, 0, 0) where the jobs of the first m levels
--- have tries within the fuel; and the shown cost is at most that of each assignment whose own job, that of its level on the
--- prefix that it extends, has tries within the fuel.
+-- What an Open verdict says: it names such a job; the lower bound is below the shown cost, and at least (m, 0, 0) where the jobs
+-- of the first m levels have tries within the fuel; and the shown cost is at most that of each assignment whose own job, that of
+-- its level on the prefix that it extends, has tries within the fuel.
 pub record IsOpenFor (split : Split) (fuel : ℕ) (best : Triple) (lower : Tag) (level : ℕ) (prefix : List Literal) : Type 0 where
   pub names : NamesJob split fuel best level prefix
+  pub unsettled : lower.code < code_of best
   pub reaches : (m : ℕ) → m ≤ levels_of split.instance + 1 → ((q : ℕ) → q < m → IsLevelWithinFuel split fuel q) → level_code m ≤ lower.code
   pub shown : (plan : List ℕ) (own : List Literal) → IsFeasible split.instance plan → Contains (prefixes split.instance split.split) own → Extends plan own →
       IsWithinFuel split.instance (cost split.instance plan).k own fuel → code_of best ≤ code_of (cost split.instance plan)

@@ -17,7 +17,7 @@ use Rattle.fapp_plan.specs.Plans.{Split}
 abbrev pub IsBeyond : Instance → ℕ → List Literal → ℕ → Type 0
 IsBeyond instance level prefix fuel = (tries : ℕ) → IsTries instance (target level) prefix tries → fuel < tries
 
--- Where nothing costs less than the word that was found. Refuted: the tag is at least the lesser of the word and the level's
+-- With the least cost that was found, the word. Refuted: the tag is at least the lesser of the word and the level's
 -- target, and a line or a row within the prefix says so. Moot: what was seen is at least the word, and at most the level.
 -- Spent: the job has more tries than it had fuel.
 abbrev pub IsSettledBy : Instance → ℕ → List Literal → ℕ → List KnownRow → List LogLine → ℕ → Outcome → Type 0
