@@ -8,7 +8,7 @@ use Rattle.answer_writer.specs.declared.status.Status.{Status}
 use Rattle.answer_writer.specs.declared.status.Status.TheVariants.{Best, NoneFeasible, BadInput, TooLong}
 use Rattle.answer_writer.specs.Refusals.{refusal_line}
 use Rattle.answer_writer.specs.Texts.{plan_text}
-use Rattle.fapp_run.specs.Plans.{shown}
+use Rattle.accept_laws.specs.ShownPlans.{shown}
 
 -- an instance's answer: its least plan in lines, or nothing where no plan is feasible
 abbrev pub IsPlanOf : Instance → Status → List ℕ → Type 0

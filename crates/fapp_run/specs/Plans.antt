@@ -1,11 +1,9 @@
 -- Fronts of plans, and the least plan.
-use Rattle.std.specs.Prelude.{◌≡◌, ℕ, ◌<◌, ◌≤◌, Bool, ◌&&◌, nat_lt, List, length, map, slice_index, take, Option, Some, None}
-use Rattle.std.specs.List.{range_with_len}
-use Rattle.fapp_model.specs.declared.choice.Choice.{Choice}
+use Rattle.std.specs.Prelude.{◌≡◌, ℕ, ◌<◌, ◌≤◌, Bool, ◌&&◌, nat_lt, List, length, slice_index, take, Option, Some, None}
 use Rattle.fapp_model.specs.declared.instance.Instance.{Instance}
 use Rattle.fapp_model.specs.declared.record.Record.{Record}
 use Rattle.fapp_model.specs.Records.{first_path, second_path}
-use Rattle.fapp_model.specs.Assignments.{chosen, count_at, breaks}
+use Rattle.fapp_model.specs.Assignments.{count_at, breaks}
 use Rattle.fapp_model.specs.Least.{IsFeasible, Least}
 
 -- choices for the first paths, so many
@@ -26,7 +24,3 @@ breaks_among instance plan r =
 abbrev pub IsLeastPlan : Instance → Option (List ℕ) → Type 0
 IsLeastPlan instance (Some plan) = Least instance plan
 IsLeastPlan instance None = (plan : List ℕ) → IsFeasible instance plan → ⊥
-
--- what a plan chooses for each path, in order
-abbrev pub shown : Instance → List ℕ → List Choice
-shown instance plan = map (chosen instance plan) (range_with_len 0 (length plan))

@@ -5,7 +5,7 @@ ghost use Rattle.fapp_model.specs.Instances.{IsInstance};
 ghost use Rattle.answer_writer.specs.Refusals.{refusal_line};
 ghost use Rattle.answer_writer.specs.Texts.{plan_text};
 ghost use Rattle.fapp_run.specs.Answers.{Answers, IsPlanOf};
-ghost use Rattle.fapp_run.specs.Plans.{shown};
+ghost use Rattle.accept_laws.specs.ShownPlans.{shown};
 
 use crate::enumeration::least_plan;
 use crate::plan::shown;
