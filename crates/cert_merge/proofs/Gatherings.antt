@@ -1,17 +1,17 @@
 -- The start of a certificate, and the segments that it has room for.
-use Rattle.std.proofs.Common.{◌≡◌, ℕ, ◌+◌, ◌<◌, ◌≤◌, List, [], ◌∷◌, length, map, replicate, drop, get_or, All, refl, sym, ap, ◌∙◌, subst, ⊎_elim, arith}
+use Rattle.std.proofs.Common.{◌≡◌, ℕ, ◌+◌, ◌<◌, ◌≤◌, List, [], ◌∷◌, ◌++◌, length, map, append_assoc, replicate, drop, get_or, All, refl, sym, ap, ◌∙◌, subst, ⊎_elim, arith}
 use Rattle.std.specs.List.{range_with_len}
 use Rattle.std.specs.List.Sorted.{IsPermutation}
 use Rattle.std.proofs.lemmas.Bool.{cases_lt}
-use Rattle.std.proofs.lemmas.List.{get_or-replicate, get_or_past, length-map, length-replicate}
+use Rattle.std.proofs.lemmas.List.{append-nil, get_or-replicate, get_or_past, map-append, length-map, length-replicate}
 use Rattle.std.proofs.lemmas.List.Elements.{All-append, All-contains, All-map, All-nil, All-weaker}
 use Rattle.std.proofs.lemmas.List.Sorted.{Contains-permutation, IsPermutation-sym}
 use Rattle.fapp_model.proofs.Members.{All-from_members}
 use Rattle.cert_lines.specs.declared.answer.Line.{Line}
 use Rattle.log_laws.specs.declared.line.LogLine.{LogLine}
+use Rattle.log_laws.specs.declared.line.Segment.{Segment}
 use Rattle.search_log.specs.LogStates.{LogState}
 use Rattle.merge_laws.specs.declared.piece.Piece.{Piece}
-use Rattle.merge_laws.specs.Certificates.{gathered}
 use Rattle.merge_laws.specs.GoodLogs.{AreByRow, all_lines, piece_of, pieces_from, pieces_of}
 use Rattle.merge_laws.specs.Pieces.{emit_pieces, emit_rests}
 use Rattle.merge_laws.specs.Stages.{Merged, done_of, lines_of, start}
@@ -46,7 +46,7 @@ pub pieces-within : (logs : List LogState) (pieces : List Piece) (arcs : List Li
 pieces-within logs pieces arcs count room s same fits many is k d l =
     let low = moved (λ (p : Piece). p.log < 0 + length logs) (pieces_of logs) pieces same (pieces-inside logs 0) k d l in
     let logs_room = length-replicate {A = List ℕ} count [] in
-    let rows_room = length-replicate room 0 in
+    let rows_room = length-replicate {A = ℕ} room 0 in
     let row = fits k d l in
     subst (λ (v : Merged). IsWithin v (get_or pieces k d)) (sym is) (record { log = omega arith; row = omega arith })
 
@@ -62,3 +62,27 @@ gathered-is arcs logs pieces count room s t u by_row fits many is pieces_is rest
       (pieces_is ∙ ap (λ v. emit_pieces (all_lines logs) pieces v)
       (is ∙ ap (λ n. start arcs n room) (many ∙ sym (length-map logs (λ (log : LogState). log.lines)))));
 }
+
+-- ---- logs taken apart
+
+pieces-more : (logs : List LogState) (from : ℕ) (log : LogState) → pieces_from from (logs ++ log ∷ []) ≡ pieces_from from logs ++ map (piece_of (from + length logs)) log.segments
+pieces-more [] from log =
+    let same : from ≡ from + 0 = omega arith in
+    append-nil (map (piece_of from) log.segments) ∙ ap (λ n. map (piece_of n) log.segments) same
+pieces-more (state ∷ logs) from log =
+    let same : from + 1 + length logs ≡ from + length (state ∷ logs) = omega arith in
+    ap (λ ps. map (piece_of from) state.segments ++ ps) (pieces-more logs (from + 1) log ∙ ap (λ n. pieces_from (from + 1) logs ++ map (piece_of n) log.segments) same)
+    ∙ sym (append_assoc (map (piece_of from) state.segments) (pieces_from (from + 1) logs) (map (piece_of (from + length (state ∷ logs))) log.segments))
+
+pub parted-lines : (logs : List LogState) (log : LogState) (before after : List (List LogLine)) (added : List LogLine) → before ≡ all_lines logs → after ≡ before ++ added ∷ [] → added ≡ log.lines →
+    after ≡ all_lines (logs ++ log ∷ [])
+parted-lines logs log before after added was is same =
+    is ∙ (ap (λ xs. xs ++ added ∷ []) was ∙ (ap (λ x. all_lines logs ++ x ∷ []) same ∙ sym (map-append (λ (l : LogState). l.lines) logs (log ∷ []))))
+
+pub parted-pieces : (logs : List LogState) (log : LogState) (before after : List Piece) (place : ℕ) (segments : List Segment) → before ≡ pieces_of logs → after ≡ before ++ map (piece_of place) segments →
+    place ≡ length logs → segments ≡ log.segments → after ≡ pieces_of (logs ++ log ∷ [])
+parted-pieces logs log before after place segments was is at same =
+    let here : place ≡ 0 + length logs = omega arith in
+    is ∙ (ap (λ ps. ps ++ map (piece_of place) segments) was
+    ∙ (ap (λ n. pieces_of logs ++ map (piece_of n) segments) here
+    ∙ (ap (λ xs. pieces_of logs ++ map (piece_of (0 + length logs)) xs) same ∙ sym (pieces-more logs 0 log))))

@@ -1,7 +1,7 @@
 -- Lists that grow in a loop.
-use Rattle.std.proofs.Common.{◌≡◌, ℕ, zero, suc, ◌+◌, ◌-◌, ◌*◌, ◌<◌, ◌≤◌, List, [], ◌∷◌, ◌++◌, length, map, take, drop, get_or, zero-add, refl, sym, ap, ◌∙◌, subst, append_assoc, arith}
+use Rattle.std.proofs.Common.{◌≡◌, ℕ, suc, ◌+◌, ◌-◌, ◌<◌, ◌≤◌, List, [], ◌∷◌, ◌++◌, map, take, drop, zero-add, sym, ap, ◌∙◌, append_assoc, arith}
 use Rattle.std.specs.List.{range_with_len}
-use Rattle.std.proofs.lemmas.List.{drop_all, drop_more, take_all}
+use Rattle.std.proofs.lemmas.List.{drop_all, take_all}
 use Rattle.std.proofs.lemmas.List.FromFn.{map-range_with_len_more}
 use Rattle.log_laws.specs.declared.line.LogLine.{LogLine}
 use Rattle.merge_laws.specs.Stages.{Merged, emit, emit_all}
@@ -31,8 +31,9 @@ module _ (log count counter : ℕ) (first : List LogLine) (start : Merged) (rest
 
   pub way-short : rest ≡ [] → (s ≡ emit_all log (take count first) start) × ([] ≡ drop count first)
   way-short none = (
-      sym (way.lines ∙ (ap (λ xs. emit_all log (take (count - counter) xs) s) none ∙ ap (λ xs. emit_all log xs s) (take_all (count - counter) [] (omega arith)))),
-      sym (way.rest_is ∙ (ap (λ xs. drop (count - counter) xs) none ∙ drop_all (count - counter) [] (omega arith))))
+    sym (way.lines ∙ (ap (λ xs. emit_all log (take (count - counter) xs) s) none ∙ ap (λ xs. emit_all log xs s) (take_all (count - counter) [] (omega arith)))),
+    sym (way.rest_is ∙ (ap (λ xs. drop (count - counter) xs) none ∙ drop_all (count - counter) [] (omega arith))),
+  )
 
   pub way-end : count ≤ counter → (s ≡ emit_all log (take count first) start) × (rest ≡ drop count first)
   way-end l =

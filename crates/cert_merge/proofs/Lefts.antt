@@ -1,5 +1,5 @@
 -- What is left of logs, once lines of one of them were written.
-use Rattle.std.proofs.Common.{◌≡◌, ◌≢◌, ℕ, suc, ◌+◌, ◌-◌, ◌<◌, ◌≤◌, List, [], ◌∷◌, length, set, get_or, take, drop, refl, sym, ap, ◌∙◌, subst, ⊎_elim, arith}
+use Rattle.std.proofs.Common.{◌≡◌, ℕ, suc, ◌+◌, ◌-◌, ◌<◌, ◌≤◌, List, [], length, set, get_or, take, drop, refl, sym, ap, ◌∙◌, subst, ⊎_elim, arith}
 use Rattle.std.proofs.lemmas.Bool.{cases_eq, cases_lt}
 use Rattle.std.specs.List.{range_with_len}
 use Rattle.std.proofs.lemmas.List.{at_drop_all, at_drop_more, take_all, length-set, length-take, length-drop, get_or-set_same, get_or-set_other, drop-drop, drop_all}
@@ -8,7 +8,7 @@ use Rattle.merge_laws.specs.declared.piece.Piece.{Piece}
 use Rattle.merge_laws.specs.Pieces.{emit_piece, emit_pieces, emit_rests}
 use Rattle.merge_laws.specs.Stages.{Merged, done_of, emit_all, land, lines_of}
 use Rattle.cert_merge.specs.Growth.{AreLeft}
-use Rattle.cert_merge.proofs.Numbers.{done-more, done-other, own-length}
+use Rattle.cert_merge.proofs.Numbers.{done-more, done-other}
 
 -- what is left behind some of the lines that are left
 left-behind : (xs : List LogLine) (done count : ℕ) → drop count (drop done xs) ≡ drop (done + length (take count (drop done xs))) xs
@@ -42,11 +42,11 @@ module _ (logs : List (List LogLine)) (s : Merged) (rests : List (List LogLine))
   left-more = record {
     count = length-set rests log (drop count rest) ∙ left.count;
     each = λ other. ⊎_elim
-    (λ (same : other ≡ log). subst (λ k. lines_of (set rests log (drop count rest)) k ≡ drop (done_of next k) (lines_of logs k)) (sym same) here)
-    (λ (apart : other ≡ log → ⊥).
-    get_or-set_other rests log other (drop count rest) [] apart
-    ∙ (left.each other ∙ ap (λ n. drop n (lines_of logs other)) (sym (done-other log other (take count rest) s apart))))
-    (cases_eq other log);
+        (λ (same : other ≡ log). subst (λ k. lines_of (set rests log (drop count rest)) k ≡ drop (done_of next k) (lines_of logs k)) (sym same) here)
+        (λ (apart : other ≡ log → ⊥).
+        get_or-set_other rests log other (drop count rest) [] apart
+        ∙ (left.each other ∙ ap (λ n. drop n (lines_of logs other)) (sym (done-other log other (take count rest) s apart))))
+        (cases_eq other log);
   }
 
 -- the same where the numbers alone are known

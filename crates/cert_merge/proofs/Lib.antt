@@ -4,3 +4,4 @@ pub mod Growing
 pub mod Trees
 pub mod Gatherings
 pub mod PlanSteps
+pub mod Ends

@@ -1,5 +1,6 @@
 -- The steps of a plan: their paths differ, and the lists along them are the prefixes.
-use Rattle.std.proofs.Common.{◌≡◌, ◌≢◌, ℕ, ◌<◌, ◌≤◌, List, [], ◌∷◌, ◌++◌, length, map, take, get_or, All, AllPairs, IsTrue, refl, sym, ap, ◌∙◌, subst, arith}
+use Rattle.std.proofs.Common.{◌≡◌, ◌≢◌, ℕ, ◌<◌, List, [], ◌∷◌, ◌++◌, map, take, All, AllPairs, IsTrue, refl, sym, ap, ◌∙◌, subst, arith}
+use Rattle.std.proofs.lemmas.Bool.{lt-leb}
 use Rattle.std.proofs.lemmas.List.{get_or-take, length-take}
 use Rattle.std.proofs.lemmas.List.Elements.{All-cons, All-nil}
 use Rattle.fapp_model.specs.declared.instance.Instance.{Instance}
@@ -10,9 +11,14 @@ use Rattle.fapp_model.proofs.InOrder.{pairs-weaker}
 use Rattle.fapp_model.proofs.WorkOrders.{order-is, first-asym}
 use Rattle.fapp_plan.specs.declared.steps.Step.{Step}
 use Rattle.fapp_plan.specs.Steps.{prefix_paths, steps_along}
-use Rattle.merge_laws.specs.Levels.{all_longer}
+use Rattle.fapp_model.specs.declared.tag.Tag.{Tag}
+use Rattle.fapp_plan.specs.Outcomes.{Placed}
+use Rattle.merge_laws.specs.Certificates.{finished}
+use Rattle.merge_laws.specs.Levels.{all_longer, emit_tree}
+use Rattle.merge_laws.specs.Refuted.{prefix_number}
+use Rattle.merge_laws.specs.Stages.{Merged}
 use Rattle.merge_laws.proofs.BottomLists.{bottom, bottom-all}
-use Rattle.cert_merge.specs.Growth.{AreStepsOf, AreWithSteps, IsStepOf, deepest, step_paths}
+use Rattle.cert_merge.specs.Growth.{AreWithSteps, IsStepOf, deepest, step_paths}
 
 order-differs : (instance : Instance) → AllPairs (λ p q. p ≢ q) (work_order instance)
 order-differs instance =
@@ -53,3 +59,8 @@ module _ (instance : Instance) (split : ℕ) (steps : List Step) (is : steps ≡
 
   pub plan-deepest : deepest instance (step_paths steps) ([] ∷ []) ≡ prefixes instance split
   plan-deepest = deepest-is instance (step_paths steps) ([] ∷ []) ∙ (ap (λ ps. bottom instance ps ([] ∷ [])) plan-paths ∙ bottom-all instance (prefix_paths instance split))
+
+-- the tree stands where the arcs' root tag is lower
+pub finished-above : (instance : Instance) (split : ℕ) (outcomes : List Placed) (t : Tag) (root : ℕ) (s : Merged) → root < t.code →
+    finished instance split outcomes t root s ≡ emit_tree instance t (prefix_number instance outcomes t.code s) (prefix_paths instance split) ([] ∷ []) s.out
+finished-above instance split outcomes t root s low = rw (lt-leb t.code root low) refl

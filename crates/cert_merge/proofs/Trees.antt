@@ -1,5 +1,5 @@
 -- The lists of a tree, and how many lines it has.
-use Rattle.std.proofs.Common.{◌≡◌, ◌≢◌, ℕ, zero, suc, ◌+◌, ◌-◌, ◌*◌, ◌<◌, ◌≤◌, List, [], ◌∷◌, ◌++◌, length, map, get_or, All, AllPairs, zero-add, refl, sym, ap, ◌∙◌, subst, append_assoc, arith}
+use Rattle.std.proofs.Common.{◌≡◌, ◌≢◌, ℕ, ◌+◌, ◌-◌, ◌*◌, ◌<◌, ◌≤◌, List, [], ◌∷◌, ◌++◌, length, map, get_or, All, AllPairs, sym, ap, ◌∙◌, subst, append_assoc, arith}
 use Rattle.std.specs.List.{flat_map, range_with_len}
 use Rattle.std.proofs.lemmas.List.{get_or-map, get_or_append_left, length-append, length-map, length_push, map-append}
 use Rattle.std.proofs.lemmas.List.Elements.{All-append, All-head, All-map, All-tail}
@@ -10,10 +10,10 @@ use Rattle.fapp_model.specs.declared.tag.Tag.{Tag}
 use Rattle.fapp_model.specs.Assignments.{count_at}
 use Rattle.fapp_model.specs.search.Partials.{literal}
 use Rattle.cert_lines.specs.declared.answer.Line.{Line}
-use Rattle.merge_laws.specs.Levels.{all_longer, branch_line, emit_above, emit_level, emit_prefixes, emit_tree, longer, prefix_line}
+use Rattle.merge_laws.specs.Levels.{all_longer, branch_line, emit_level, emit_prefixes, emit_tree, longer, prefix_line}
 use Rattle.fapp_plan.specs.declared.steps.Step.{Step}
-use Rattle.cert_merge.specs.Growth.{AreApart, AreStepsOf, AreWithSteps, IsStepOf, deepest, step_paths}
-
+use Rattle.merge_laws.specs.Stages.{Merged}
+use Rattle.cert_merge.specs.Growth.{AreApart, AreStepsOf, AreWithSteps, IsStepOf, deepest, step_paths, with_out}
 
 -- ---- literals of different paths
 
@@ -84,31 +84,47 @@ step-head instance steps rest step is h =
     let whole = subst (All (IsFit instance)) is h in
     (All-head (IsFit instance) step rest whole, All-tail (IsFit instance) step rest whole)
 
-module _ (instance : Instance) (t : Tag) (number : ℕ → ℕ) (steps rest : List Step) (step : Step) (lists : List (List Literal)) (out : List Line) (is : steps ≡ step ∷ rest) (fits : AreStepsOf instance steps) where
-  abbrev deeper : List (List Literal)
-  deeper = all_longer instance step.path lists
+pub longer-is : (instance : Instance) (steps rest : List Step) (step : Step) (lists now items : List (List Literal)) → steps ≡ step ∷ rest → AreStepsOf instance steps → now ≡ items →
+    ((other : Instance) → IsStepOf other step → items ≡ flat_map (longer other step.path) lists) → now ≡ all_longer instance step.path lists
+longer-is instance steps rest step lists now items is fits same made = same ∙ made instance (step-head instance steps rest step is fits).0.0
 
+pub longer-deepest : (instance : Instance) (steps rest : List Step) (step : Step) (lists deep all : List (List Literal)) → steps ≡ step ∷ rest → deep ≡ all_longer instance step.path lists →
+    deepest instance (step_paths steps) lists ≡ all → deepest instance (step_paths rest) deep ≡ all
+longer-deepest instance steps rest step lists deep all is deep_is h =
+    ap (deepest instance (step_paths rest)) deep_is ∙ (ap (λ (these : List Step). deepest instance (step_paths these) lists) (sym is) ∙ h)
+
+pub deep-differ : (instance : Instance) (steps rest : List Step) (step : Step) (lists deep : List (List Literal)) → steps ≡ step ∷ rest → deep ≡ all_longer instance step.path lists →
+    AreWithSteps (step_paths steps) lists → AreWithSteps (step_paths rest) deep
+deep-differ instance steps rest step lists deep is deep_is h =
+    subst (AreWithSteps (step_paths rest)) (sym deep_is)
+    (longer-differ instance step.path (step_paths rest) lists (subst (λ (all : List Step). AreWithSteps (step_paths all) lists) is h))
+
+-- a level above the longer lists
+module _ (instance : Instance) (t : Tag) (number : ℕ → ℕ) (steps rest : List Step) (step : Step) (lists deep : List (List Literal)) (s0 s1 : Merged) (is : steps ≡ step ∷ rest) (fits : AreStepsOf instance steps)
+    (deep_is : deep ≡ all_longer instance step.path lists) (s1_is : s1 ≡ with_out s0 (emit_tree instance t number (step_paths rest) deep s0.out)) where
   abbrev below : List Line
-  below = emit_tree instance t number (step_paths rest) deeper out
+  below = emit_tree instance t number (step_paths rest) (all_longer instance step.path lists) s0.out
 
-  -- the longer lists are fewer than the lines, so their first line has a number
-  pub first-inside : length deeper ≤ length below
-  first-inside = tree-length instance t number (step_paths rest) deeper out
+  out-is : s1.out ≡ below
+  out-is = ap (λ (v : Merged). v.out) s1_is ∙ ap (λ these. emit_tree instance t number (step_paths rest) these s0.out) deep_is
 
-  pub first-few : (most first : ℕ) → length below ≤ most → first ≡ length below + 1 - length deeper → first + length lists * step.choices ≤ most + 1
-  first-few most first few at =
-      let inside = first-inside in
-      let count = longer-count instance step.path lists in
+  -- the longer lists are fewer than the lines
+  pub deep-inside : length deep ≤ length s1.out
+  deep-inside = omega (arith, ap length deep_is, ap length out-is, tree-length instance t number (step_paths rest) (all_longer instance step.path lists) s0.out)
+
+  pub level-few : (most first : ℕ) → length s1.out ≤ most → first ≡ length s1.out + 1 - length deep → first + length lists * step.choices ≤ most + 1
+  level-few most first few at =
+      let inside = deep-inside in
+      let count = ap length deep_is ∙ longer-count instance step.path lists in
       let same : length lists * step.choices ≡ length lists * count_at instance step.path = ap (λ n. length lists * n) (step-head instance steps rest step is fits).0.0 in
       omega arith
 
-  pub tree-step : (first : ℕ) → first ≡ length below + 1 - length deeper → emit_level instance t step.path first lists below ≡ emit_tree instance t number (step_paths steps) lists out
-  tree-step first at =
-      ap (λ n. emit_level instance t step.path n lists below) at
-      ∙ ap (λ (all : List Step). emit_tree instance t number (step_paths all) lists out) (sym is)
-
-  pub step-differs : AreWithSteps (step_paths steps) lists → AreWithSteps (step_paths rest) deeper
-  step-differs h = longer-differ instance step.path (step_paths rest) lists (subst (λ (all : List Step). AreWithSteps (step_paths all) lists) is h)
-
-  pub step-deepest : (all : List (List Literal)) → deepest instance (step_paths steps) lists ≡ all → deepest instance (step_paths rest) deeper ≡ all
-  step-deepest all h = ap (λ (these : List Step). deepest instance (step_paths these) lists) (sym is) ∙ h
+  pub tree-whole : (first : ℕ) (s2 : Merged) → first ≡ length s1.out + 1 - length deep → s2 ≡ with_out s1 (emit_level instance t step.path first lists s1.out) →
+      s2 ≡ with_out s0 (emit_tree instance t number (step_paths steps) lists s0.out)
+  tree-whole first s2 at s2_is =
+      let place : first ≡ length below + 1 - length (all_longer instance step.path lists) = omega (arith, at, ap length out-is, ap length deep_is) in
+      s2_is
+      ∙ (ap (λ v. with_out v (emit_level instance t step.path first lists v.out)) s1_is
+      ∙ (ap (λ these. with_out s0 (emit_level instance t step.path first lists (emit_tree instance t number (step_paths rest) these s0.out))) deep_is
+      ∙ (ap (λ n. with_out s0 (emit_level instance t step.path n lists below)) place
+      ∙ ap (λ (all : List Step). with_out s0 (emit_tree instance t number (step_paths all) lists s0.out)) (sym is))))

@@ -5,9 +5,11 @@ mod claim;
 mod copies;
 mod gathered;
 mod levels;
-mod merge;
 mod merged;
 mod prefixes;
 mod remainder;
 mod segments;
 mod tree;
+mod whole;
+
+pub use whole::merge;

@@ -71,7 +71,8 @@ impl Certificate {
 
     /// The lines, in place.
     pub(crate) fn into_lines(self) -> Vec<Line>
-        ensures { result.items ≡ self.out }
+        ensures value { result.items ≡ self.out }
+        ensures few { length result.items ≤ MAX_NUMBER }
     {
         let Certificate { lines, .. } = self;
         lines

@@ -24,12 +24,7 @@ fn cites_of(alloc: Global, number: u32) -> Result<Items<u32>, NoMemory>
 }
 
 /// The Count line of a prefix, which cites the line of a number, or none.
-fn prefix_line(
-    alloc: Global,
-    tag: Tag,
-    prefix: &[Literal],
-    number: u32,
-) -> Result<Line, NoMemory>
+fn prefix_line(alloc: Global, tag: Tag, prefix: &[Literal], number: u32) -> Result<Line, NoMemory>
     requires { AreApart prefix.now }
     ensures { IfOk result (λ line. line ≡ prefix_line tag prefix.now number) }
 {

@@ -12,7 +12,11 @@ use fapp_plan::{Collected, Plan, Step};
 use std::alloc::Global;
 
 /// A list with one more literal.
-fn with_literal(alloc: Global, list: &[Literal], literal: Literal) -> Result<Items<Literal>, NoMemory>
+fn with_literal(
+    alloc: Global,
+    list: &[Literal],
+    literal: Literal,
+) -> Result<Items<Literal>, NoMemory>
     ensures { IfOk result (λ longer. longer ≡ list.now ++ literal ∷ []) }
 {
     let mut longer = Vec::with_capacity(alloc, list.len() + 1)?;
@@ -81,6 +85,7 @@ impl Certificate {
         let longer = longer(self.alloc(), lists, step)?;
         self.write_tree(plan, collected, tag, rest, &longer)?;
         let first = self.len() + 1 - longer.len() as u32;
-        self.write_level(tag, step, first, lists)
+        self.write_level(tag, step, first, lists)?;
+        Ok(())
     }
 }

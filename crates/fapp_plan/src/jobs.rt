@@ -88,7 +88,8 @@ impl<'a> Plan<'a> {
 
     /// How many jobs there are: one for each prefix and level.
     pub fn job_count(&self) -> u32
-        ensures { result ≡ job_count self.now.instance self.now.split }
+        ensures count { result ≡ job_count self.now.instance self.now.split }
+        ensures few { result ≤ 131072 }
     {
         (levels(self.instance) + 1) * self.prefixes
     }

@@ -4,3 +4,5 @@ pub mod SearchLemmas
 pub mod CheckKinds
 pub mod AnswerSizes
 pub mod RunEnds
+pub mod Joining
+pub mod Shown

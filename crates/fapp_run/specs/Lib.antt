@@ -1,6 +1,7 @@
 pub mod Plans
 pub mod Incumbents
 pub mod Words
+pub mod Solving
 pub mod Answers
 pub mod Halves
 pub mod Judgements

@@ -1,5 +1,5 @@
 ghost use Rattle.std.specs.Prelude.{◌≡◌, ◌≤◌, None, Some, min};
-ghost use Rattle.search_log.specs.Bounds.{Offers, Tells, lowest};
+ghost use Rattle.search_log.specs.Bounds.{Offers, Tells, lowest, with_offer};
 ghost use Rattle.search_log.specs.PlainBounds.{code_of_offer};
 
 use fapp_model::Tag;
@@ -8,7 +8,8 @@ use fapp_model::Tag;
 pub trait Bound {
     ghost use Rattle.search_log.specs.Bounds.{BoundState};
 
-    /// The tag that was told last, at first the tag that the bound began with, and the least tag that was offered.
+    /// The tag that the bound began with, the tag that was told last, at first this one, and the least tag that was
+    /// offered.
     ghost state: { Self → BoundState };
 
     /// The least tag that is known now. It is at most what was told last and what was offered.
@@ -24,29 +25,41 @@ pub trait Bound {
 /// A bound of one holder, which nobody else lowers.
 #[derive(Clone, Copy, Debug, PartialEq, Eq)]
 pub struct PlainBound {
+    began: Tag,
     tag: Tag,
     told: Tag,
     least: Option<Tag>,
     ghost known: { tag.code ≤ lowest told.code (code_of_offer least) },
+    ghost lowest_is: { tag.code ≡ lowest began.code (code_of_offer least) },
 }
 
 impl PlainBound {
     /// A bound that begins with this tag.
     pub fn new(tag: Tag) -> PlainBound
+        ensures began { result.began ≡ tag }
         ensures tag { result.tag ≡ tag }
         ensures told { result.told ≡ tag }
         ensures least { result.least ≡ None }
     {
         PlainBound {
+            began: tag,
             tag,
             told: tag,
             least: None,
         }
     }
+
+    /// The least of the tag that it began with and of what was offered. It is at most what was told last.
+    pub fn lowest(&self) -> Tag
+        ensures lowest { result.code ≡ lowest (⟦<PlainBound as Bound>⟧.state self.now).began (⟦<PlainBound as Bound>⟧.state self.now).least }
+        ensures told { result.code ≤ (⟦<PlainBound as Bound>⟧.state self.now).told }
+    {
+        self.tag
+    }
 }
 
 impl Bound for PlainBound {
-    ghost state = { λ bound. record { told = bound.told.code; least = code_of_offer bound.least } };
+    ghost state = { λ bound. record { began = bound.began.code; told = bound.told.code; least = code_of_offer bound.least } };
 
     /// The tag that it began with, or the least that was offered since where that is less.
     fn now(&mut self) -> Tag
@@ -62,12 +75,24 @@ impl Bound for PlainBound {
         ensures offers { Offers (⟦<PlainBound as Bound>⟧.state self.old) (⟦<PlainBound as Bound>⟧.state self.new) tag.code }
         ensures lowered { self.new.tag.code ≡ min self.old.tag.code tag.code }
     {
-        if tag < self.tag {
-            self.tag = tag;
-        }
-        self.least = match self.least {
-            Some(least) if least.code < tag.code => Some(least),
-            _ => Some(tag),
-        };
+        self.tag = lesser(self.tag, tag);
+        self.least = Some(least_offer(self.least, tag));
+    }
+}
+
+/// The lesser of two tags.
+fn lesser(a: Tag, b: Tag) -> Tag
+    ensures { result.code ≡ min a.code b.code }
+{
+    if b < a { b } else { a }
+}
+
+/// The least offer after one more.
+fn least_offer(least: Option<Tag>, tag: Tag) -> Tag
+    ensures { Some result.code ≡ with_offer (code_of_offer least) tag.code }
+{
+    match least {
+        Some(least) => lesser(least, tag),
+        None => tag,
     }
 }

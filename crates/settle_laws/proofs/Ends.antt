@@ -1,5 +1,5 @@
 -- What is found of some literals when a line is added.
-use Rattle.std.proofs.Common.{◌≡◌, ℕ, ◌+◌, ◌<◌, ◌≤◌, List, [], ◌∷◌, ◌++◌, length, All, Contains, Some, Result, Ok, Err, refl, sym, ap, subst, ◌∙◌, inl, inr, ⊎_elim, arith}
+use Rattle.std.proofs.Common.{◌≡◌, ◌⊎◌, ℕ, ◌+◌, ◌<◌, ◌≤◌, List, [], ◌∷◌, ◌++◌, length, All, Contains, Some, Result, Ok, Err, refl, sym, ap, subst, ◌∙◌, inl, inr, ⊎_elim, arith, append-nil}
 use Rattle.std.specs.List.{slice_get}
 use Rattle.std.proofs.lemmas.List.{length-append}
 use Rattle.std.proofs.lemmas.List.Elements.{All-nil, Contains-append_left}
@@ -14,10 +14,12 @@ use Rattle.fapp_model.specs.Levels.{levels_of}
 use Rattle.fapp_model.specs.Tags.{IsTagOf, code_of, triple_from}
 use Rattle.fapp_model.specs.search.Dead.{Dead}
 use Rattle.fapp_model.specs.search.Implied.{Implied}
+use Rattle.fapp_model.specs.search.Jobs.{target}
 use Rattle.fapp_model.specs.search.Partials.{IsPartial}
 use Rattle.fapp_model.specs.search.Prefixes.{IsPrefix}
 use Rattle.fapp_model.specs.search.WorkOrder.{work_order}
 use Rattle.fapp_model.proofs.Members.{All-from_members}
+use Rattle.fapp_model.proofs.WorkOrders.{order-length}
 use Rattle.dead_laws.proofs.DeadImplied.{dead-implied}
 use Rattle.dead_laws.proofs.ImpliedLemmas.{Implied-branch, Implied-more}
 use Rattle.log_laws.specs.declared.line.ChoiceRef.{ChoiceRef}
@@ -34,21 +36,20 @@ use Rattle.search_log.specs.Shares.{SharedState, known}
 use Rattle.settle_laws.specs.declared.found.Found.{Found}
 use Rattle.settle_laws.specs.declared.found.Found.TheVariants.{Settled}
 use Rattle.settle_laws.specs.declared.node.Node.{Node}
-use Rattle.settle_laws.specs.Founds.{IsHigh, IsRefuted, Searched}
-use Rattle.settle_laws.specs.Levels.{level_code}
-use Rattle.settle_laws.specs.Lines.{AddsLine, AreSorted, Concludes, IsConcluded, IsLined}
+use Rattle.settle_laws.specs.Founds.{IsHigh, IsLow, IsRefuted, Searched}
+use Rattle.settle_laws.specs.Lines.{AddsLine, AreSorted, Concludes, IsConcluded, IsLined, Offered}
 use Rattle.settle_laws.specs.Ticked.{IsTicked}
-use Rattle.settle_laws.specs.Ticks.{Ticks, TicksBelow}
+use Rattle.settle_laws.specs.Ticks.{OffersCost, Ticks, TicksBelow}
 use Rattle.settle_laws.specs.Trying.{AreTriedChoices, IsChild, Trying}
-use Rattle.settle_laws.specs.Worlds.{IsKeptRight, IsLeastOffered, IsPlain, Keeps, KeepsAtMost, OffersCost, World, world}
+use Rattle.settle_laws.specs.Worlds.{IsKeptRight, IsLeastOffered, IsPlain, Keeps, KeepsAtMost, World, world}
 use Rattle.settle_laws.proofs.Adding.{gains-none, gains-one, gains-trans}
-use Rattle.settle_laws.proofs.FullPrefixes.{cost-own, dead-at-cost}
+use Rattle.settle_laws.proofs.FullPrefixes.{cost-low, cost-own, dead-at-cost}
 use Rattle.settle_laws.proofs.Keeping.{keeps-same, keeps-trans}
 use Rattle.settle_laws.proofs.LineParts.{branch-good, count-good}
-use Rattle.settle_laws.proofs.NextPaths.{next-apart, next-small}
-use Rattle.settle_laws.proofs.Offering.{kept-lines, offered-keeps, offers-falls}
+use Rattle.settle_laws.proofs.NextPaths.{next-apart, next-small, prefix-short}
+use Rattle.settle_laws.proofs.Offering.{kept-lines, offered-cost, offered-keeps, offers-falls}
 use Rattle.settle_laws.proofs.TagCodes.{alive-at, tag-small}
-use Rattle.settle_laws.proofs.TickJoin.{all-ticks, first-tick, one-tick}
+use Rattle.settle_laws.proofs.TickJoin.{first-tick, one-tick, ticks-later}
 use Rattle.settle_laws.proofs.Tried.{tried-grow}
 
 get-last : {X : Type 0} (xs : List X) (y : X) → slice_get (xs ++ y ∷ []) (length xs) ≡ Some y
@@ -61,7 +62,7 @@ copied-known shared = All-from_members (Contains (known shared)) shared.copied (
 -- ---- the world after a line
 
 -- all that is kept but the number of lines, which a tick pays for
-module _ (instance : Instance) (literals : List Literal) (old now : World) (keeps : Keeps instance literals old now) (line : LogLine) (log : LogState) (added : log ≡ with_line now.log line) where
+module _ (instance : Instance) (literals : List Literal) (old now : World) (keeps : Keeps instance old now) (line : LogLine) (log : LogState) (added : log ≡ with_line now.log line) where
   pub line-adds : length log.lines ≡ length now.log.lines + 1
   line-adds = ap (λ (l : LogState). length l.lines) added ∙ length-append now.log.lines (line ∷ [])
 
@@ -72,7 +73,7 @@ module _ (instance : Instance) (literals : List Literal) (old now : World) (keep
   line-good good_line good = subst (λ (l : LogState). IsGoodLog instance (known now.shared) l.lines l.segments) (sym added)
       (log-push instance (known now.shared) now.log.lines now.log.segments line good good_line)
 
-  pub line-keeps : IsPlain line → IsGoodLine instance (known now.shared) now.log.lines line → Keeps instance literals old (world now.fuel now.bound now.shared log)
+  pub line-keeps : IsPlain line → IsGoodLine instance (known now.shared) now.log.lines line → Keeps instance old (world now.fuel now.bound now.shared log)
   line-keeps plain good_line = record {
     fuel = keeps.fuel;
     copied = keeps.copied;
@@ -82,14 +83,19 @@ module _ (instance : Instance) (literals : List Literal) (old now : World) (keep
     lines = gains-trans old.log.lines now.log.lines log.lines keeps.lines (gains-one now.log.lines log.lines line (ap (λ (l : LogState). l.lines) added) plain);
     segments = ap (λ (l : LogState). l.segments) added ∙ keeps.segments;
     good = λ good. line-good good_line (keeps.good good);
+    began = keeps.began;
+    tells = keeps.tells;
+    lowers = keeps.lowers;
     falls = keeps.falls;
     least = λ h. subst (λ (l : LogState). IsLeastOffered l.best now.bound.least) (sym added) (keeps.least h);
     right = λ h. subst (λ (l : LogState). IsKeptRight instance l.best) (sym added) (keeps.right h);
     better = λ tag h. subst (λ (l : LogState). KeepsAtMost l.best tag) (sym added) (keeps.better tag h);
-    offers = ⊎_elim (λ same. inl same)
-        (λ (o : OffersCost instance literals now). inr (record { plan = o.plan; feasible = o.feasible; extends = o.extends; offered = o.offered; kept = subst (λ (l : LogState). KeepsAtMost l.best (code_of (cost instance o.plan))) (sym added) o.kept }))
-        keeps.offers;
   }
+
+  -- and the ticks before it
+  pub line-ticks : (level : ℕ) (refused : List (List Literal)) → Ticks instance level literals old now refused → Ticks instance level literals old (world now.fuel now.bound now.shared log) refused
+  line-ticks level refused t = ticks-later instance level literals old now (world now.fuel now.bound now.shared log) refused refl refl
+      (λ tag h. subst (λ (l : LogState). KeepsAtMost l.best tag) (sym added) h) t
 
   pub line-refutes : AreSorted instance literals line.lits → Implied instance (triple_from line.tag.code) line.lits → IsTagFor instance line.tag → (tag : ℕ) → tag ≤ line.tag.code → IsRefuted instance now.shared.copied log.lines literals (Own (length now.log.lines)) tag
   line-refutes sorted implied own tag low = record {
@@ -104,14 +110,15 @@ module _ (instance : Instance) (literals : List Literal) (old now : World) (keep
   pub line-last : (length old.log.lines ≤ length now.log.lines) × (length now.log.lines + 1 ≡ length log.lines)
   line-last = (omega (arith, ap length keeps.lines.are, length-append old.log.lines keeps.lines.more), omega (arith, line-adds))
 
-begun-one : (prefix : List Literal) (tried : List (List Literal)) → Contains tried prefix → 0 < length tried
-begun-one prefix tried m = let l = m.1 in omega arith
+-- a tick fell at the prefix itself
+begun-one : (instance : Instance) (level : ℕ) (prefix : List Literal) (path index : ℕ) (old now : World) (t : TicksBelow instance level prefix path index old now) → 0 < length t.ticks.tried
+begun-one instance level prefix path index old now t = let l = t.begins.1 in omega (arith, ap length (t.ticks.asked_is ∙ append-nil t.ticks.tried))
 
 -- ---- a Branch line after all choices were tried
 
 module _ (instance : Instance) (valid : IsInstance instance) (level : ℕ) (limit : level ≤ levels_of instance) (literals : List Literal) (prefix : IsPrefix instance literals) (partial : IsPartial instance literals) (old now : World) (node : Node) (trying : Trying instance level literals old now node) (done : node.choice ≡ node.count) (log : LogState) where
   node-own : IsTagFor instance node.tag
-  node-own = tag-small instance level node.tag limit trying.most
+  node-own = tag-small instance level node.tag limit (omega (arith, trying.low))
 
   module _ (found : Found) (adds : AddsLine instance literals node.tag (Some node.path) node.refs now.log log found) where
     tag-same : adds.line.tag.code ≡ node.tag.code
@@ -144,17 +151,17 @@ module _ (instance : Instance) (valid : IsInstance instance) (level : ℕ) (limi
     branch-by = record {
       keeps = line-keeps instance literals old now trying.keeps adds.line log adds.added plain good;
       few = omega (arith, trying.fewer, line-adds instance literals old now trying.keeps adds.line log adds.added);
-      is = (
-        trying.is_open,
-        trying.high,
-        (λ same. absurd (omega (arith, trying.taken, trying.ticks.count_is, begun-one literals trying.ticks.tried trying.ticks.begins))),
-        line-refutes instance literals old now trying.keeps adds.line log adds.added adds.sorted implied (subst (λ (t : Tag). IsTagFor instance t) (sym adds.tag_is) node-own) node.tag.code (omega (arith, tag-same)),
-        line-last instance literals old now trying.keeps adds.line log adds.added,
-      );
-      count = trying.count;
-      ticks = all-ticks instance level literals node.path node.choice trying.count trying.ticks;
-      taken = omega (arith, trying.taken);
-      fresh = λ some. trying.fresh;
+      is = record {
+        is_open = trying.is_open;
+        high = trying.high;
+        low = trying.low;
+        exact = λ same. absurd (omega (arith, trying.ticks.ticks.taken, begun-one instance level literals node.path node.choice old now trying.ticks));
+        refuted = line-refutes instance literals old now trying.keeps adds.line log adds.added adds.sorted implied (subst (λ (t : Tag). IsTagFor instance t) (sym adds.tag_is) node-own) node.tag.code (omega (arith, tag-same));
+        last = line-last instance literals old now trying.keeps adds.line log adds.added;
+      };
+      refused_at = [];
+      refused_count = refl;
+      ticks = line-ticks instance literals old now trying.keeps adds.line log adds.added level [] trying.ticks.ticks;
     }
 
     branch-found : {E : Type 0} → Searched {E = E} instance level literals old (world now.fuel now.bound now.shared log) (Ok found)
@@ -166,32 +173,34 @@ module _ (instance : Instance) (valid : IsInstance instance) (level : ℕ) (limi
     keeps = trying.keeps;
     few = omega (arith, trying.fewer);
     is = tt;
-    count = trying.count;
-    ticks = all-ticks instance level literals node.path node.choice trying.count trying.ticks;
-    taken = omega (arith, trying.taken);
-    fresh = λ some. trying.fresh;
+    refused_at = [];
+    refused_count = refl;
+    ticks = trying.ticks.ticks;
   })
 
 -- ---- after a tick
 
 module _ (instance : Instance) (valid : IsInstance instance) (level : ℕ) (within : level ≤ levels_of instance) (literals : List Literal) (prefix : IsPrefix instance literals)
     (old now : World) (tag : Tag) (ticked : IsTicked instance level literals old now tag) where
-  tick : Ticks instance level literals 1
-  tick = one-tick instance level literals prefix (alive-at instance level tag literals valid within ticked.most ticked.alive)
+  still-alive : Dead instance (target level) literals → ⊥
+  still-alive = alive-at instance level tag literals valid within (omega (arith, ticked.low)) ticked.alive
+
+  -- the tick, and what was offered since
+  tick-then : (after : World) → after.fuel ≡ now.fuel → (after.bound.least ≡ old.bound.least) ⊎ OffersCost instance (literals ∷ []) after → Ticks instance level literals old after []
+  tick-then after same offers = one-tick instance level literals old after prefix still-alive (tag.code, ticked.low, ticked.alive) ticked.rowless (omega (arith, ticked.took)) offers
 
   few-lines : length now.log.lines ≡ length old.log.lines
   few-lines = ap (λ (l : LogState). length l.lines) ticked.log
 
   -- the search ends there for want of memory
-  pub tick-ends : {E : Type 0} → (after : World) → Keeps instance literals now after → after.fuel ≡ now.fuel → after.log.lines ≡ now.log.lines → (e : E) → Searched instance level literals old after (Err e)
-  tick-ends after keeps same lines e = record {
-    keeps = keeps-trans instance literals old now after ticked.keeps keeps;
+  pub tick-ends : {E : Type 0} → (after : World) → Keeps instance now after → after.fuel ≡ now.fuel → after.log.lines ≡ now.log.lines → (after.bound.least ≡ old.bound.least) ⊎ OffersCost instance (literals ∷ []) after → (e : E) → Searched instance level literals old after (Err e)
+  tick-ends after keeps same lines offers e = record {
+    keeps = keeps-trans instance old now after ticked.keeps keeps;
     few = omega (arith, ticked.took, few-lines, ap length lines);
     is = tt;
-    count = 1;
-    ticks = tick;
-    taken = omega (arith, ticked.took);
-    fresh = λ some. ticked.fresh;
+    refused_at = [];
+    refused_count = refl;
+    ticks = tick-then after same offers;
   }
 
   -- the choices of the next path are tried
@@ -200,7 +209,7 @@ module _ (instance : Instance) (valid : IsInstance instance) (level : ℕ) (with
     next = next;
     counted = counted;
     within = omega arith;
-    most = subst (λ (t : Tag). t.code ≤ level_code (level + 1)) (sym tag_is) ticked.most;
+    low = subst (λ (t : Tag). IsLow level old.bound t.code) (sym tag_is) ticked.low;
     keeps = ticked.keeps;
     fewer = omega (arith, ticked.took, few-lines);
     is_open = ticked.is_open;
@@ -213,18 +222,22 @@ module _ (instance : Instance) (valid : IsInstance instance) (level : ℕ) (with
           settled = λ i l. absurd (omega arith);
           implied = λ i l. absurd (omega arith);
         }));
-    count = 1;
-    ticks = subst (λ n. TicksBelow instance level literals node.path n 1) (sym choice_is)
-        (first-tick instance level literals node.path prefix (alive-at instance level tag literals valid within ticked.most ticked.alive));
-    taken = omega (arith, ticked.took);
-    fresh = ticked.fresh;
+    ticks = subst (λ n. TicksBelow instance level literals node.path n old now) (sym choice_is)
+        (first-tick instance level literals old now prefix still-alive (tag.code, ticked.low, ticked.alive) ticked.rowless node.path ticked.took ticked.least);
   }
 
   -- a full prefix
   module _ (partial : IsPartial instance literals) (full : length (work_order instance) ≤ length literals) (after : BoundState) (log : LogState) where
+    -- what was offered is the cost of the assignment that the literals are
+    offers-since : (after : BoundState) (kept : LogState) → Offered instance literals now.bound after now.log kept → (after.least ≡ old.bound.least) ⊎ OffersCost instance (literals ∷ []) (world now.fuel after now.shared kept)
+    offers-since after kept o = ⊎_elim
+        (λ same. inl (same ∙ ticked.least))
+        (λ cost. inr cost)
+        (offered-cost instance valid literals now.fuel now.bound after now.shared now.log kept o (omega (arith, prefix-short instance literals prefix, order-length instance)))
+
     module _ (found : Found) (c : Concludes instance literals now.bound after now.log log found) where
-      to-kept : Keeps instance literals old (world now.fuel after now.shared c.kept)
-      to-kept = keeps-trans instance literals old now (world now.fuel after now.shared c.kept) ticked.keeps
+      to-kept : Keeps instance old (world now.fuel after now.shared c.kept)
+      to-kept = keeps-trans instance old now (world now.fuel after now.shared c.kept) ticked.keeps
           (offered-keeps instance valid literals now.fuel now.bound after now.shared now.log c.kept c.offered)
 
       kept-few : length c.kept.lines ≡ length now.log.lines
@@ -251,17 +264,18 @@ module _ (instance : Instance) (valid : IsInstance instance) (level : ℕ) (with
       full-by = record {
         keeps = line-keeps instance literals old (world now.fuel after now.shared c.kept) to-kept c.adds.line log c.adds.added (λ none. c.adds.refs_are) full-good;
         few = omega (arith, kept-few, ticked.took, few-lines, line-adds instance literals old (world now.fuel after now.shared c.kept) to-kept c.adds.line log c.adds.added);
-        is = (
-          omega (arith, c.offered.offers.told, ticked.is_open),
-          omega (arith, (offers-falls now.bound after (code_of (cost instance c.offered.plan)) c.offered.offers).1, c.tag_is),
-          (λ same. absurd (omega (arith, ticked.took))),
-          line-refutes instance literals old (world now.fuel after now.shared c.kept) to-kept c.adds.line log c.adds.added c.adds.sorted full-implied full-own c.tag.code (omega (arith, ap (λ (t : Tag). t.code) c.adds.tag_is)),
-          line-last instance literals old (world now.fuel after now.shared c.kept) to-kept c.adds.line log c.adds.added,
-        );
-        count = 1;
-        ticks = tick;
-        taken = omega (arith, ticked.took);
-        fresh = λ some. ticked.fresh;
+        is = record {
+          is_open = omega (arith, c.offered.offers.told, ticked.is_open);
+          high = omega (arith, (offers-falls now.bound after (code_of (cost instance c.offered.plan)) c.offered.offers).1, c.tag_is);
+          low = omega (arith, cost-low instance valid literals prefix full c.offered.plan c.offered.feasible.assignment c.offered.extends tag.code ticked.own ticked.alive, c.tag_is, ticked.low);
+          exact = λ same. absurd (omega (arith, ticked.took));
+          refuted = line-refutes instance literals old (world now.fuel after now.shared c.kept) to-kept c.adds.line log c.adds.added c.adds.sorted full-implied full-own c.tag.code (omega (arith, ap (λ (t : Tag). t.code) c.adds.tag_is));
+          last = line-last instance literals old (world now.fuel after now.shared c.kept) to-kept c.adds.line log c.adds.added;
+        };
+        refused_at = [];
+        refused_count = refl;
+        ticks = line-ticks instance literals old (world now.fuel after now.shared c.kept) to-kept c.adds.line log c.adds.added level []
+            (tick-then (world now.fuel after now.shared c.kept) refl (offers-since after c.kept c.offered));
       }
 
       full-found : {E : Type 0} → Searched {E = E} instance level literals old (world now.fuel after now.shared log) (Ok found)
@@ -270,6 +284,6 @@ module _ (instance : Instance) (valid : IsInstance instance) (level : ℕ) (with
     pub full-searched : {E : Type 0} → (result : Result Found E) → IsConcluded instance literals now.bound after now.log log result → Searched instance level literals old (world now.fuel after now.shared log) result
     full-searched (Ok found) c = full-found found c
     full-searched (Err e) (inl same) = tick-ends (world now.fuel after now.shared log)
-        (subst (λ b. Keeps instance literals now (world now.fuel b now.shared log)) (sym same.0) (subst (λ l. Keeps instance literals now (world now.fuel now.bound now.shared l)) (sym same.1) (keeps-same instance literals now)))
-        refl (ap (λ (l : LogState). l.lines) same.1) e
-    full-searched (Err e) (inr offered) = tick-ends (world now.fuel after now.shared log) (offered-keeps instance valid literals now.fuel now.bound after now.shared now.log log offered) refl (kept-lines instance valid literals now.fuel now.bound after now.shared now.log log offered) e
+        (subst (λ b. Keeps instance now (world now.fuel b now.shared log)) (sym same.0) (subst (λ l. Keeps instance now (world now.fuel now.bound now.shared l)) (sym same.1) (keeps-same instance now)))
+        refl (ap (λ (l : LogState). l.lines) same.1) (inl (ap (λ (b : BoundState). b.least) same.0 ∙ ticked.least)) e
+    full-searched (Err e) (inr offered) = tick-ends (world now.fuel after now.shared log) (offered-keeps instance valid literals now.fuel now.bound after now.shared now.log log offered) refl (kept-lines instance valid literals now.fuel now.bound after now.shared now.log log offered) (offers-since after log offered) e

@@ -19,10 +19,10 @@ use Rattle.search_log.specs.Shares.{known}
 use Rattle.settle_laws.specs.declared.found.Found.{Found}
 use Rattle.settle_laws.specs.declared.found.Found.TheVariants.{Dead as FoundDead, Settled, Moot, Spent}
 use Rattle.settle_laws.specs.Founds.{IsFoundBy, IsLastRef, Searched}
-use Rattle.settle_laws.specs.Lined.{IsAtMostCount, IsLinedBy, IsNewRef, Lined}
+use Rattle.settle_laws.specs.Lined.{IsAtMostCount, IsLinedBy, Lined}
 use Rattle.settle_laws.specs.Lines.{AddsLine, IsLined}
 use Rattle.settle_laws.specs.Worlds.{World, world}
-use Rattle.settle_laws.proofs.Ends.{line-adds, line-keeps, line-last, line-refutes}
+use Rattle.settle_laws.proofs.Ends.{line-adds, line-keeps, line-last, line-refutes, line-ticks}
 use Rattle.settle_laws.proofs.Entering.{floor-le}
 use Rattle.settle_laws.proofs.LineParts.{count-good}
 use Rattle.settle_laws.proofs.TagCodes.{tag-small}
@@ -47,13 +47,9 @@ module _ (instance : Instance) (level : ℕ) (literals : List Literal) (old new 
   same-lines few (Own n) last same = absurd (omega (arith, last.0, last.1))
   same-lines few (Row r) last same = inl last.1
 
-  new-ref : (line : Ref) → IsLastRef old new line → IsNewRef old new line
-  new-ref (Own n) last = last
-  new-ref (Row r) last = last
-
   lined-is : {E : Type 0} → (result : Result Found E) → NotDead result → length new.log.lines + new.fuel ≤ length old.log.lines + old.fuel → IsFoundBy instance level literals old new result → IsLinedBy instance level literals old new result
   lined-is (Ok (FoundDead tag)) alive few is = absurd alive
-  lined-is (Ok (Settled line tag)) alive few is = (is.0, is.1, is.2, is.3, new-ref line is.4, same-lines few line is.4)
+  lined-is (Ok (Settled line tag)) alive few is = (is, same-lines few line is.last)
   lined-is (Ok (Moot seen)) alive few is = is
   lined-is (Ok Spent) alive few is = is
   lined-is (Err e) alive few is = tt
@@ -63,10 +59,9 @@ module _ (instance : Instance) (level : ℕ) (literals : List Literal) (old new 
     keeps = s.keeps;
     few = omega (arith, s.few, s.keeps.fuel);
     is = lined-is result alive s.few s.is;
-    count = s.count;
+    refused_at = s.refused_at;
+    refused_count = s.refused_count;
     ticks = s.ticks;
-    taken = s.taken;
-    fresh = s.fresh;
   }
 
 -- a Count line is added where it is dead
@@ -79,14 +74,14 @@ module _ {E : Type 0} (instance : Instance) (valid : IsInstance instance) (level
     line-own = subst (λ (t : Tag). IsTagFor instance t) (sym adds.tag_is) own
 
     line-dead : Dead instance (triple_from adds.line.tag.code) literals
-    line-dead = subst (λ (t : Tag). Dead instance (triple_from t.code) literals) (sym adds.tag_is) s.is.2
+    line-dead = subst (λ (t : Tag). Dead instance (triple_from t.code) literals) (sym adds.tag_is) s.is.3
 
     implied : Implied instance (triple_from adds.line.tag.code) adds.line.lits
     implied = Implied-more instance (triple_from adds.line.tag.code) literals adds.line.lits adds.sorted.has
         (dead-implied instance (triple_from adds.line.tag.code) literals valid line-own partial line-dead)
 
     one-more : length log.lines ≡ length old.log.lines + 1
-    one-more = line-adds instance literals old now s.keeps adds.line log adds.added ∙ ap (λ n. n + 1) (ap length s.is.4)
+    one-more = line-adds instance literals old now s.keeps adds.line log adds.added ∙ ap (λ n. n + 1) (ap length s.is.5)
 
     dead-by : Lined {E = E} instance level literals old (world now.fuel now.bound now.shared log) (Ok (Settled (Own (length now.log.lines)) tag))
     dead-by = record {
@@ -94,17 +89,19 @@ module _ {E : Type 0} (instance : Instance) (valid : IsInstance instance) (level
           (count-good instance valid literals partial (known now.shared) now.log.lines adds.line adds.sorted line-own adds.path_is adds.refs_are line-dead);
       few = omega (arith, one-more);
       is = (
-        s.is.0,
-        omega (arith, s.is.1, floor-le now.bound),
-        (λ same. s.is.1),
-        line-refutes instance literals old now s.keeps adds.line log adds.added adds.sorted implied line-own tag.code (omega (arith, ap (λ (t : Tag). t.code) adds.tag_is)),
-        line-last instance literals old now s.keeps adds.line log adds.added,
-        (λ same. inr (record { line = adds.line; added = ap (λ (l : LogState). l.lines) adds.added ∙ ap (λ lines. lines ++ adds.line ∷ []) s.is.4; count = adds.path_is; sorted = adds.sorted })),
+        record {
+          is_open = s.is.0;
+          high = omega (arith, s.is.1, floor-le now.bound);
+          low = s.is.2;
+          exact = λ same. s.is.1;
+          refuted = line-refutes instance literals old now s.keeps adds.line log adds.added adds.sorted implied line-own tag.code (omega (arith, ap (λ (t : Tag). t.code) adds.tag_is));
+          last = line-last instance literals old now s.keeps adds.line log adds.added;
+        },
+        (λ same. inr (record { line = adds.line; added = ap (λ (l : LogState). l.lines) adds.added ∙ ap (λ lines. lines ++ adds.line ∷ []) s.is.5; count = adds.path_is; sorted = adds.sorted })),
       );
-      count = s.count;
-      ticks = s.ticks;
-      taken = s.taken;
-      fresh = s.fresh;
+      refused_at = s.refused_at;
+      refused_count = s.refused_count;
+      ticks = line-ticks instance literals old now s.keeps adds.line log adds.added level s.refused_at s.ticks;
     }
 
     dead-adds : Lined {E = E} instance level literals old (world now.fuel now.bound now.shared log) (Ok found)
@@ -115,10 +112,9 @@ module _ {E : Type 0} (instance : Instance) (valid : IsInstance instance) (level
     keeps = s.keeps;
     few = omega (arith, s.few, s.keeps.fuel);
     is = tt;
-    count = s.count;
+    refused_at = s.refused_at;
+    refused_count = s.refused_count;
     ticks = s.ticks;
-    taken = s.taken;
-    fresh = s.fresh;
   })
 
   pub dead-lined : (result : Result Found E) → IsLined instance literals tag None [] now.log log result → Lined instance level literals old (world now.fuel now.bound now.shared log) result

@@ -16,7 +16,7 @@ use Rattle.fapp_model.proofs.Members.{front_or_behind, no_member}
 use Rattle.fapp_model.proofs.InOrder.{pairs-head, pairs-tail, pairs-weaker}
 use Rattle.fapp_model.proofs.WorkOrders.{first-asym, order-is}
 
-get-contains : {X : Type 0} (xs : List X) (n : ℕ) (x : X) → slice_get xs n ≡ Some x → Contains xs x
+pub get-contains : {X : Type 0} (xs : List X) (n : ℕ) (x : X) → slice_get xs n ≡ Some x → Contains xs x
 get-contains xs n x e = (n, slice_get_within xs n x e, get_or_from_slice_get xs n x x e)
 
 pub past : {X : Type 0} (xs : List X) (n : ℕ) → slice_get xs n ≡ None → length xs ≤ n
@@ -37,6 +37,14 @@ along-next instance [] [] path i along next below = cc
 along-next instance (p ∷ paths) [] path i along next below = let e : p ≡ path = cc in (sym e, subst (λ q. i < count_at instance q) (sym e) below, tt)
 along-next instance [] (b ∷ lits) path i along next below = absurd along
 along-next instance (p ∷ paths) (b ∷ lits) path i along next below = (along.0, along.1, along-next instance paths lits path i along.2 next below)
+
+along-short : (instance : Instance) (paths : List ℕ) (lits : List Literal) → IsAlong instance paths lits → length lits ≤ length paths
+along-short instance paths [] along = omega arith
+along-short instance [] (b ∷ lits) along = absurd along
+along-short instance (p ∷ paths) (b ∷ lits) along = let l = along-short instance paths lits along.2 in omega arith
+
+pub prefix-short : (instance : Instance) (prefix : List Literal) → IsPrefix instance prefix → length prefix ≤ length (work_order instance)
+prefix-short instance prefix is = along-short instance (work_order instance) prefix is
 
 module _ (instance : Instance) (prefix : List Literal) (is : IsPrefix instance prefix) (path : ℕ) (next : slice_get (work_order instance) (length prefix) ≡ Some path) where
   pub next-small : path < length instance.paths

@@ -1,5 +1,5 @@
 -- A cost that is kept and then offered.
-use Rattle.std.proofs.Common.{◌≡◌, ◌⊎◌, ℕ, ◌<◌, ◌≤◌, min, List, [], Option, Some, None, Result, Ok, Err, IsTrue, refl, sym, ap, subst, ◌∙◌, inl, inr, ⊎_elim, arith, append-nil}
+use Rattle.std.proofs.Common.{◌≡◌, ◌⊎◌, ℕ, ◌<◌, ◌≤◌, min, List, [], ◌∷◌, length, Option, Some, None, Result, Ok, Err, IsTrue, refl, sym, ap, subst, ◌∙◌, inl, inr, ⊎_elim, arith, append-nil}
 use Rattle.std.proofs.lemmas.Bool.{cases_lt, cases_order}
 use Rattle.fapp_model.specs.declared.instance.Instance.{Instance}
 use Rattle.fapp_model.specs.declared.level.TheConstants.{MAX_LEVELS}
@@ -13,6 +13,7 @@ use Rattle.fapp_model.specs.Levels.{levels_of}
 use Rattle.fapp_model.specs.Tags.{code_of, is_tag, triple_from}
 use Rattle.fapp_model.specs.Triples.{IsAtMost, IsBelow}
 use Rattle.fapp_model.proofs.LevelNumbers.{levels-few}
+use Rattle.fapp_model.proofs.Members.{at_front}
 use Rattle.cert_lines.proofs.Codes.{tag_within}
 use Rattle.dead_laws.proofs.CostLaws.{cost-tag}
 use Rattle.dead_laws.proofs.ImpliedLemmas.{IsBelow-trans}
@@ -25,6 +26,7 @@ use Rattle.search_log.specs.Logs.{IsBetter, KeepsBest}
 use Rattle.search_log.specs.Shares.{SharedState, known}
 use Rattle.settle_laws.specs.declared.found.Found.{Found}
 use Rattle.settle_laws.specs.Lines.{IsConcluded, IsLined, Offered}
+use Rattle.settle_laws.specs.Ticks.{OffersCost}
 use Rattle.settle_laws.specs.Worlds.{IsKeptRight, IsLeastOffered, Keeps, KeepsAtMost, world}
 use Rattle.settle_laws.proofs.Adding.{has-same}
 use Rattle.settle_laws.proofs.FullPrefixes.{cost-back, not-below}
@@ -142,7 +144,7 @@ module _ (instance : Instance) (valid : IsInstance instance) (literals : List Li
   kept-segments : new.segments ≡ old.segments
   kept-segments = same-segments (cost instance o.plan) (code_of (cost instance o.plan)) own-triple o.plan old new o.keeps
 
-  pub offered-keeps : Keeps instance literals (world fuel bound shared old) (world fuel after shared new)
+  pub offered-keeps : Keeps instance (world fuel bound shared old) (world fuel after shared new)
   offered-keeps = record {
     fuel = omega arith;
     copied = has-same shared.copied;
@@ -152,15 +154,29 @@ module _ (instance : Instance) (valid : IsInstance instance) (literals : List Li
     lines = record { more = []; are = kept-lines ∙ sym (append-nil old.lines); plain = λ k d l. absurd (omega arith) };
     segments = kept-segments;
     good = λ good. subst (λ segments. IsGoodLog instance (known shared) new.lines segments) (sym kept-segments) (subst (λ lines. IsGoodLog instance (known shared) lines old.segments) (sym kept-lines) good);
+    began = o.offers.began;
+    tells = omega (arith, o.offers.told);
+    lowers = λ tag. (by-least bound.least after.least tag tag (code_of (cost instance o.plan)) refl o.offers.least).0;
     falls = (offers-falls bound after (code_of (cost instance o.plan)) o.offers).0;
     least = λ h. subst (IsLeastOffered new.best) (sym o.offers.least) (keeps-least (cost instance o.plan) (code_of (cost instance o.plan)) own-triple o.plan old new o.keeps bound.least h);
     right = keeps-right (cost instance o.plan) (code_of (cost instance o.plan)) own-triple o.plan old new o.keeps instance o.feasible refl;
     better = keeps-better (cost instance o.plan) (code_of (cost instance o.plan)) own-triple o.plan old new o.keeps;
-    offers = ⊎_elim
-        (λ same. inl same)
-        (λ e. inr (record { plan = o.plan; feasible = o.feasible; extends = o.extends; offered = e; kept = keeps-this (cost instance o.plan) (code_of (cost instance o.plan)) own-triple o.plan old new o.keeps }))
-        (lower-or-same bound.least after.least (code_of (cost instance o.plan)) o.offers.least);
   }
+
+  pub offered-cost : length literals ≡ length instance.paths → (after.least ≡ bound.least) ⊎ OffersCost instance (literals ∷ []) (world fuel after shared new)
+  offered-cost full = ⊎_elim
+      (λ same. inl same)
+      (λ e. inr (record {
+        plan = o.plan;
+        feasible = o.feasible;
+        prefix = literals;
+        ticked = at_front literals [];
+        full = full;
+        extends = o.extends;
+        offered = e;
+        kept = keeps-this (cost instance o.plan) (code_of (cost instance o.plan)) own-triple o.plan old new o.keeps;
+      }))
+      (lower-or-same bound.least after.least (code_of (cost instance o.plan)) o.offers.least)
 
 -- the line at the cost comes last
 pub concluded : {E : Type 0} → (instance : Instance) (literals : List Literal) (bound after : BoundState) (old kept new : LogState) (tag : Tag) (o : Offered instance literals bound after old kept) → tag.code ≡ code_of (cost instance o.plan) → (result : Result Found E) → IsLined instance literals tag None [] kept new result → IsConcluded instance literals bound after old new result

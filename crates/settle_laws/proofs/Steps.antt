@@ -16,14 +16,14 @@ use Rattle.settle_laws.specs.declared.node.Node.{Node}
 use Rattle.settle_laws.specs.Founds.{IsFoundBy, IsHigh, IsOpen, Searched, refused}
 use Rattle.settle_laws.specs.Levels.{level_code}
 use Rattle.settle_laws.specs.Noted.{Goes, IsEnding, Notes, by_choice}
-use Rattle.settle_laws.specs.Ticks.{TicksBelow}
+use Rattle.settle_laws.specs.Ticks.{Ticks}
 use Rattle.settle_laws.specs.Trying.{AreTriedChoices, Trying}
 use Rattle.settle_laws.specs.Worlds.{Keeps, World}
 use Rattle.settle_laws.proofs.Entering.{floor-le}
-use Rattle.settle_laws.proofs.Keeping.{has-pushed, keeps-fewer, keeps-trans}
+use Rattle.settle_laws.proofs.Keeping.{keeps-trans}
 use Rattle.settle_laws.proofs.NextPaths.{next-apart, next-prefix, next-small}
 use Rattle.settle_laws.proofs.TagCodes.{dead-lower, tag-small}
-use Rattle.settle_laws.proofs.TickJoin.{all-ticks, next-ticks}
+use Rattle.settle_laws.proofs.TickJoin.{next-below, next-ticks, none-at}
 use Rattle.settle_laws.proofs.Tried.{tried-dead, tried-grow, tried-settled}
 use Rattle.tries_laws.proofs.PrefixParts.{prefix-is_partial}
 
@@ -40,15 +40,11 @@ module _ (instance : Instance) (level : ℕ) (literals : List Literal) (old here
   with-choice = literals ++ literal node.path node.choice ∷ []
 
   module _ {E : Type 0} (result : Result Found E) (s : Searched instance level with-choice here now result) where
-    both-keep : Keeps instance literals old now
-    both-keep = keeps-trans instance literals old here now trying.keeps
-        (keeps-fewer instance literals with-choice here now (has-pushed literals (literal node.path node.choice)) s.keeps)
+    both-keep : Keeps instance old now
+    both-keep = keeps-trans instance old here now trying.keeps s.keeps
 
-    both-ticks : TicksBelow instance level literals node.path (node.choice + 1) (trying.count + s.count)
-    both-ticks = next-ticks instance level literals node.path node.choice trying.count s.count trying.ticks s.ticks
-
-    both-taken : (trying.count + s.count) + now.fuel ≡ old.fuel + refused result
-    both-taken = omega (arith, trying.taken, s.taken)
+    both-ticks : Ticks instance level literals old now s.refused_at
+    both-ticks = next-ticks instance level literals node.path node.choice old here now trying.keeps s.keeps s.refused_at trying.ticks s.ticks
 
     -- what ends the search of a choice ends that of the literals
     end-as : IsFoundBy instance level literals old now result → Searched instance level literals old now result
@@ -56,10 +52,9 @@ module _ (instance : Instance) (level : ℕ) (literals : List Literal) (old here
       keeps = both-keep;
       few = omega (arith, trying.fewer, s.few);
       is = is;
-      count = trying.count + s.count;
-      ticks = all-ticks instance level literals node.path (node.choice + 1) (trying.count + s.count) both-ticks;
-      taken = both-taken;
-      fresh = λ some. trying.fresh;
+      refused_at = s.refused_at;
+      refused_count = s.refused_count;
+      ticks = both-ticks;
     }
 
   pub ends : {E : Type 0} → (result : Result Found E) → IsEnding result → Searched instance level with-choice here now result → Searched instance level literals old now result
@@ -75,10 +70,9 @@ module _ (instance : Instance) (level : ℕ) (literals : List Literal) (old here
     keeps = both-keep (Ok found) s;
     few = omega (arith, trying.fewer, s.few);
     is = tt;
-    count = trying.count + s.count;
-    ticks = all-ticks instance level literals node.path (node.choice + 1) (trying.count + s.count) (both-ticks (Ok found) s);
-    taken = omega (arith, both-taken (Ok found) s);
-    fresh = λ some. trying.fresh;
+    refused_at = s.refused_at;
+    refused_count = s.refused_count ∙ none;
+    ticks = both-ticks (Ok found) s;
   }
 
   -- the next choice
@@ -105,23 +99,21 @@ module _ (instance : Instance) (level : ℕ) (literals : List Literal) (old here
       -- the choices before this one, in the world as it is now
       before : AreTriedChoices instance now.shared.copied now.log.lines literals new.tag.code node.path node.choice node.refs
       before = tried-grow instance valid literals node.path here.shared.copied now.shared.copied here.log.lines now.log.lines s.keeps.copied s.keeps.lines node.tag.code new.tag.code
-          (tag-small instance level node.tag within trying.most) (tag-small instance level new.tag within (omega (arith, trying.most, lower))) lower node.choice node.refs trying.choices
+          (tag-small instance level node.tag within (omega (arith, trying.low))) (tag-small instance level new.tag within (omega (arith, trying.low, lower))) lower node.choice node.refs trying.choices
 
       goes-with : IsOpen level now.bound → IsHigh level now.bound tag.code → AreTriedChoices instance now.shared.copied now.log.lines literals new.tag.code node.path (node.choice + 1) refs → Trying instance level literals old now new
       goes-with is_open high tried = record {
         next = trying.next ∙ ap (λ (p : ℕ). Some p) (sym goes.path_is);
         counted = goes.count_is ∙ (trying.counted ∙ ap (λ p. count_at instance p) (sym goes.path_is));
         within = omega (arith, goes.choice_is, goes.count_is);
-        most = omega (arith, trying.most, lower);
+        low = omega (arith, trying.low, lower);
         keeps = both-keep (Ok found) s;
         fewer = omega (arith, trying.fewer, s.few);
         is_open = is_open;
         high = omega (arith, trying.high, high, s.keeps.falls, goes.tag_is);
         choices = rw (goes.path_is, goes.choice_is, goes.refs_are) tried;
-        count = trying.count + s.count;
-        ticks = rw (goes.path_is, goes.choice_is) (both-ticks (Ok found) s);
-        taken = omega (arith, both-taken (Ok found) s);
-        fresh = trying.fresh;
+        ticks = rw (goes.path_is, goes.choice_is) (next-below instance level literals node.path node.choice old here now trying.keeps s.keeps trying.ticks
+            (subst (λ r. Ticks instance level with-choice here now r) (none-at s.refused_at (s.refused_count ∙ none)) s.ticks));
       }
 
     goes-dead : {E : Type 0} → (tag : Tag) → Searched {E = E} instance level with-choice here now (Ok (FoundDead tag)) → (new : Node) → Goes node new tag.code node.refs → Trying instance level literals old now new
@@ -132,15 +124,15 @@ module _ (instance : Instance) (level : ℕ) (literals : List Literal) (old here
         goes-with (FoundDead tag) s new tag node.refs goes refl s.is.0 (omega (arith, s.is.1, floor-le now.bound))
         (tried-dead instance valid literals partial node.path node.choice small below apart now.shared.copied now.log.lines new.tag.code own_new node.refs
         (before (FoundDead tag) s new tag node.refs goes refl) pushed-partial
-        (dead-lower instance tag.code new.tag.code with-choice valid (tag-small instance level tag within most) own_new low s.is.2))
+        (dead-lower instance tag.code new.tag.code with-choice valid (tag-small instance level tag within most) own_new low s.is.3))
 
     goes-settled : {E : Type 0} → (line : Ref) (tag : Tag) → Searched {E = E} instance level with-choice here now (Ok (Settled line tag)) → (new : Node) → Goes node new tag.code (node.refs ++ by_choice node.choice line ∷ []) → Trying instance level literals old now new
     goes-settled line tag s new goes =
         let low : new.tag.code ≤ tag.code = omega (arith, goes.tag_is) in
-        let own_new = tag-small instance level new.tag within (omega (arith, goes.tag_is, trying.most)) in
-        goes-with (Settled line tag) s new tag (node.refs ++ by_choice node.choice line ∷ []) goes refl s.is.0 s.is.1
+        let own_new = tag-small instance level new.tag within (omega (arith, goes.tag_is, trying.low)) in
+        goes-with (Settled line tag) s new tag (node.refs ++ by_choice node.choice line ∷ []) goes refl s.is.is_open s.is.high
         (tried-settled instance valid literals partial node.path node.choice small below apart now.shared.copied now.log.lines new.tag.code own_new node.refs
-        (before (Settled line tag) s new tag (node.refs ++ by_choice node.choice line ∷ []) goes refl) line tag.code low s.is.3)
+        (before (Settled line tag) s new tag (node.refs ++ by_choice node.choice line ∷ []) goes refl) line tag.code low s.is.refuted)
 
     pub goes-on : {E : Type 0} → (found : Found) → Searched {E = E} instance level with-choice here now (Ok found) → (new : Node) → Notes node new found None → Trying instance level literals old now new
     goes-on {E} found s new notes = ⊎_elim

@@ -1,36 +1,43 @@
 -- The ticks of one choice after another.
-use Rattle.std.proofs.Common.{◌≡◌, ◌≢◌, ℕ, ◌+◌, ◌-◌, ◌<◌, ◌≤◌, List, [], ◌∷◌, ◌++◌, length, take, Contains, refl, sym, ap, subst, ◌∙◌, inl, inr, ⊎_elim, arith, append_assoc, append-nil}
+use Rattle.std.proofs.Common.{◌≡◌, ◌≢◌, ◌⊎◌, ℕ, zero, suc, ◌+◌, ◌-◌, ◌<◌, ◌≤◌, List, [], ◌∷◌, ◌++◌, length, take, All, Contains, Some, refl, sym, ap, subst, ◌∙◌, inl, inr, ⊎_elim, arith, append_assoc, append-nil}
+use Rattle.std.specs.List.{slice_get}
 use Rattle.std.proofs.lemmas.Bool.{cases_lt}
 use Rattle.std.proofs.lemmas.List.{length-append, take-append-le, take_all}
 use Rattle.std.proofs.lemmas.List.Elements.{All-append, All-contains, All-cons, All-nil, Contains-append_left, Contains-append_right}
 use Rattle.fapp_model.specs.declared.instance.Instance.{Instance}
 use Rattle.fapp_model.specs.declared.literal.Literal.{Literal}
+use Rattle.fapp_model.specs.Costs.{cost}
+use Rattle.fapp_model.specs.Tags.{code_of}
 use Rattle.fapp_model.specs.search.Dead.{Dead}
 use Rattle.fapp_model.specs.search.Jobs.{target}
-use Rattle.fapp_model.specs.search.Partials.{literal}
+use Rattle.fapp_model.specs.search.Partials.{HasAll, literal}
 use Rattle.fapp_model.specs.search.Prefixes.{GoesOn, IsPrefix}
 use Rattle.tries_laws.specs.TriesLaws.{AreTried}
 use Rattle.fapp_model.proofs.Members.{All-from_members, at_front}
-use Rattle.settle_laws.specs.Ticks.{IsEarlier, Ticks, TicksBelow}
+use Rattle.log_laws.specs.Contents.{KnownRow}
+use Rattle.log_laws.proofs.Places.{get-front}
+use Rattle.search_log.specs.Bounds.{floor}
+use Rattle.search_log.specs.Shares.{known}
+use Rattle.settle_laws.specs.Levels.{level_code, target_code}
+use Rattle.settle_laws.specs.Ticks.{IsAliveBy, IsEarlier, NoneWithin, OffersCost, StandBehind, Ticks, TicksBelow}
+use Rattle.settle_laws.specs.Worlds.{Keeps, KeepsAtMost, World}
 use Rattle.settle_laws.proofs.Adding.{pairs-join}
+use Rattle.settle_laws.proofs.Keeping.{rows-grow}
+use Rattle.settle_laws.proofs.NextPaths.{get-contains}
 
-pub no-ticks : (instance : Instance) (level : ℕ) (prefix : List Literal) → Ticks instance level prefix 0
-no-ticks instance level prefix = record {
-  tried = [];
-  are = record {
-    apart = λ i j d less small. absurd (omega arith);
-    prefixes = All-nil (IsPrefix instance);
-    go_on = All-nil (GoesOn prefix);
-    alive = All-nil (λ literals. Dead instance (target level) literals → ⊥);
-    closed = All-nil (λ literals. length prefix < length literals → Contains [] (take (length literals - 1) literals));
-  };
-  count_is = refl;
+pub none-tried : (instance : Instance) (level : ℕ) (prefix : List Literal) → AreTried instance (target level) prefix []
+none-tried instance level prefix = record {
+  apart = λ i j d less small. absurd (omega arith);
+  prefixes = All-nil (IsPrefix instance);
+  go_on = All-nil (GoesOn prefix);
+  alive = All-nil (λ literals. Dead instance (target level) literals → ⊥);
+  closed = All-nil (λ literals. length prefix < length literals → Contains [] (take (length literals - 1) literals));
 }
 
 goes-on-itself : (literals : List Literal) → GoesOn literals literals
 goes-on-itself literals = ([], simp append-nil)
 
-one-tried : (instance : Instance) (level : ℕ) (prefix : List Literal) → IsPrefix instance prefix → (Dead instance (target level) prefix → ⊥) → AreTried instance (target level) prefix (prefix ∷ [])
+pub one-tried : (instance : Instance) (level : ℕ) (prefix : List Literal) → IsPrefix instance prefix → (Dead instance (target level) prefix → ⊥) → AreTried instance (target level) prefix (prefix ∷ [])
 one-tried instance level prefix is alive = record {
   apart = λ i j d less small. absurd (omega arith);
   prefixes = All-cons (IsPrefix instance) prefix [] is (All-nil (IsPrefix instance));
@@ -40,8 +47,79 @@ one-tried instance level prefix is alive = record {
       All-cons P prefix [] (λ l. absurd (omega arith)) (All-nil P);
 }
 
-pub one-tick : (instance : Instance) (level : ℕ) (prefix : List Literal) → IsPrefix instance prefix → (Dead instance (target level) prefix → ⊥) → Ticks instance level prefix 1
-one-tick instance level prefix is alive = record { tried = prefix ∷ []; are = one-tried instance level prefix is alive; count_is = refl }
+pub only-behind : (prefix : List Literal) → StandBehind prefix (prefix ∷ [])
+only-behind prefix zero literals at longer = let e : prefix ≡ literals = cc in absurd (omega (arith, ap length e))
+only-behind prefix (suc place) literals at longer = cc
+
+module _ (instance : Instance) (level : ℕ) (prefix : List Literal) (old new : World) where
+  -- no tick fell, and none was refused
+  abbrev pub no-ticks : new.fuel ≡ old.fuel → new.bound.least ≡ old.bound.least → Ticks instance level prefix old new []
+  no-ticks same least = record {
+    tried = [];
+    asked = [];
+    asked_is = refl;
+    taken = omega arith;
+    are = none-tried instance level prefix;
+    behind = λ place literals at longer. cc;
+    judged = All-nil (IsAliveBy instance (target_code level (floor old.bound)));
+    rowless = All-nil (NoneWithin level (known old.shared));
+    offers = inl least;
+  }
+
+  -- one fell, or was refused, at a prefix
+  module _ (is : IsPrefix instance prefix) (alive : Dead instance (target level) prefix → ⊥) (judged : IsAliveBy instance (target_code level (floor old.bound)) prefix) (rowless : NoneWithin level (known old.shared) prefix) where
+    abbrev pub one-tick : old.fuel ≡ new.fuel + 1 → (new.bound.least ≡ old.bound.least) ⊎ OffersCost instance (prefix ∷ []) new → Ticks instance level prefix old new []
+    one-tick took offers = record {
+      tried = prefix ∷ [];
+      asked = prefix ∷ [];
+      asked_is = refl;
+      taken = omega arith;
+      are = one-tried instance level prefix is alive;
+      behind = only-behind prefix;
+      judged = All-cons (IsAliveBy instance (target_code level (floor old.bound))) prefix [] judged (All-nil (IsAliveBy instance (target_code level (floor old.bound))));
+      rowless = All-cons (NoneWithin level (known old.shared)) prefix [] rowless (All-nil (NoneWithin level (known old.shared)));
+      offers = offers;
+    }
+
+    pub one-refused : new.fuel ≡ old.fuel → new.bound.least ≡ old.bound.least → Ticks instance level prefix old new (prefix ∷ [])
+    one-refused same least = record {
+      tried = [];
+      asked = prefix ∷ [];
+      asked_is = refl;
+      taken = omega arith;
+      are = one-tried instance level prefix is alive;
+      behind = only-behind prefix;
+      judged = All-cons (IsAliveBy instance (target_code level (floor old.bound))) prefix [] judged (All-nil (IsAliveBy instance (target_code level (floor old.bound))));
+      rowless = All-cons (NoneWithin level (known old.shared)) prefix [] rowless (All-nil (NoneWithin level (known old.shared)));
+      offers = inl least;
+    }
+
+    -- and the choices of the next path come next
+    pub first-tick : (path : ℕ) → old.fuel ≡ new.fuel + 1 → new.bound.least ≡ old.bound.least → TicksBelow instance level prefix path 0 old new
+    first-tick path took least = record {
+      ticks = one-tick took (inl least);
+      begins = at_front prefix [];
+      each = All-cons (IsEarlier prefix path 0) prefix [] (inl refl) (All-nil (IsEarlier prefix path 0));
+    }
+
+-- the world changed since in nothing that ticks speak of
+module _ (instance : Instance) (tried : List (List Literal)) (new later : World) (better : (tag : ℕ) → KeepsAtMost new.log.best tag → KeepsAtMost later.log.best tag) where
+  pub cost-later : later.bound.least ≡ new.bound.least → OffersCost instance tried new → OffersCost instance tried later
+  cost-later same o = record { plan = o.plan; feasible = o.feasible; prefix = o.prefix; ticked = o.ticked; full = o.full; extends = o.extends; offered = same ∙ o.offered; kept = better (code_of (cost instance o.plan)) o.kept }
+
+abbrev pub ticks-later : (instance : Instance) (level : ℕ) (prefix : List Literal) (old new later : World) (refused : List (List Literal)) → later.fuel ≡ new.fuel → later.bound.least ≡ new.bound.least →
+    ((tag : ℕ) → KeepsAtMost new.log.best tag → KeepsAtMost later.log.best tag) → Ticks instance level prefix old new refused → Ticks instance level prefix old later refused
+ticks-later instance level prefix old new later refused fuel least better t = record {
+  tried = t.tried;
+  asked = t.asked;
+  asked_is = t.asked_is;
+  taken = omega (arith, t.taken);
+  are = t.are;
+  behind = t.behind;
+  judged = t.judged;
+  rowless = t.rowless;
+  offers = ⊎_elim (λ same. inl (least ∙ same)) (λ (o : OffersCost instance t.tried new). inr (cost-later instance t.tried new later better least o)) t.offers;
+}
 
 module _ {X : Type 0} where
   -- the first element behind a front
@@ -84,44 +162,97 @@ earlier-more : (prefix : List Literal) (path index : ℕ) (x : List Literal) →
 earlier-more prefix path index x (inl e) = inl e
 earlier-more prefix path index x (inr h) = inr (h.0, (let less = h.1 in omega arith), h.2)
 
-module _ (instance : Instance) (level : ℕ) (prefix : List Literal) (path : ℕ) where
-  pub first-tick : IsPrefix instance prefix → (Dead instance (target level) prefix → ⊥) → TicksBelow instance level prefix path 0 1
-  first-tick is alive = record {
-    tried = prefix ∷ [];
-    are = one-tried instance level prefix is alive;
-    begins = at_front prefix [];
-    each = All-cons (IsEarlier prefix path 0) prefix [] (inl refl) (All-nil (IsEarlier prefix path 0));
-    count_is = refl;
-  }
+module _ {X : Type 0} where
+  -- what stands behind a front
+  behind-front : (xs ys : List X) (n : ℕ) (x : X) → length xs ≤ n → slice_get (xs ++ ys) n ≡ Some x → (k : ℕ) × (slice_get ys k ≡ Some x) × (take n (xs ++ ys) ≡ xs ++ take k ys)
+  behind-front [] ys n x l at = (n, at, refl)
+  behind-front (y ∷ xs) ys zero x l at = absurd (omega arith)
+  behind-front (y ∷ xs) ys (suc n) x l at = let r = behind-front xs ys n x (omega arith) at in (r.0, r.1, ap (λ zs. y ∷ zs) r.2)
 
-  join-all : (index m n : ℕ) (a : TicksBelow instance level prefix path index m) (b : Ticks instance level (prefix ++ literal path index ∷ []) n) → AreTried instance (target level) prefix (a.tried ++ b.tried)
-  join-all index m n a b =
-      let longer = prefix ++ literal path index ∷ [] in
-      let IsNew : List Literal → Type 0 = λ x. GoesOn longer x in
+-- the ticks at a choice after those at the choices before it
+module _ (instance : Instance) (level : ℕ) (prefix : List Literal) (path index : ℕ) (old here new : World) (before : Keeps instance old here) (after : Keeps instance here new) (refused : List (List Literal))
+    (a : TicksBelow instance level prefix path index old here) (b : Ticks instance level (prefix ++ literal path index ∷ []) here new refused) where
+  abbrev longer : List Literal
+  longer = prefix ++ literal path index ∷ []
+
+  pub join-all : AreTried instance (target level) prefix (a.ticks.asked ++ b.asked)
+  join-all =
+      let xs = a.ticks.asked in
+      let ys = b.asked in
       let closed : List (List Literal) → List Literal → Type 0 = λ all lits. length prefix < length lits → Contains all (take (length lits - 1) lits) in
       record {
-        apart = pairs-join (λ x y. x ≢ y) a.tried b.tried a.are.apart b.are.apart (λ x y l r. apart-from prefix path index x y
-            (All-contains (IsEarlier prefix path index) a.tried x a.each l) (All-contains IsNew b.tried y b.are.go_on r));
-        prefixes = All-append (IsPrefix instance) a.tried b.tried a.are.prefixes b.are.prefixes;
-        go_on = All-append (GoesOn prefix) a.tried b.tried a.are.go_on (All-from_members (GoesOn prefix) b.tried (λ x m.
-            let long = goes-on-longer prefix (literal path index) x (All-contains IsNew b.tried x b.are.go_on m) in (literal path index ∷ long.0, long.1)));
-        alive = All-append (λ x. Dead instance (target level) x → ⊥) a.tried b.tried a.are.alive b.are.alive;
-        closed = All-append (closed (a.tried ++ b.tried)) a.tried b.tried
-            (All-from_members (closed (a.tried ++ b.tried)) a.tried (λ x m l. Contains-append_left a.tried b.tried (take (length x - 1) x) (All-contains (closed a.tried) a.tried x a.are.closed m l)))
-            (All-from_members (closed (a.tried ++ b.tried)) b.tried (λ x m l. parent-in prefix (literal path index) a.tried b.tried x a.begins (All-contains IsNew b.tried x b.are.go_on m) (All-contains (λ lits. length longer < length lits → Contains b.tried (take (length lits - 1) lits)) b.tried x b.are.closed m)));
+        apart = pairs-join (λ x y. x ≢ y) xs ys a.ticks.are.apart b.are.apart (λ x y l r. apart-from prefix path index x y
+            (All-contains (IsEarlier prefix path index) xs x a.each l) (All-contains (GoesOn longer) ys y b.are.go_on r));
+        prefixes = All-append (IsPrefix instance) xs ys a.ticks.are.prefixes b.are.prefixes;
+        go_on = All-append (GoesOn prefix) xs ys a.ticks.are.go_on (All-from_members (GoesOn prefix) ys (λ x m.
+            let long = goes-on-longer prefix (literal path index) x (All-contains (GoesOn longer) ys x b.are.go_on m) in (literal path index ∷ long.0, long.1)));
+        alive = All-append (λ x. Dead instance (target level) x → ⊥) xs ys a.ticks.are.alive b.are.alive;
+        closed = All-append (closed (xs ++ ys)) xs ys
+            (All-from_members (closed (xs ++ ys)) xs (λ x m l. Contains-append_left xs ys (take (length x - 1) x) (All-contains (closed xs) xs x a.ticks.are.closed m l)))
+            (All-from_members (closed (xs ++ ys)) ys (λ x m l. parent-in prefix (literal path index) xs ys x a.begins (All-contains (GoesOn longer) ys x b.are.go_on m) (All-contains (λ lits. length longer < length lits → Contains ys (take (length lits - 1) lits)) ys x b.are.closed m)));
       }
 
-  -- a choice's ticks after those of the choices before it
-  pub next-ticks : (index m n : ℕ) → TicksBelow instance level prefix path index m → Ticks instance level (prefix ++ literal path index ∷ []) n → TicksBelow instance level prefix path (index + 1) (m + n)
-  next-ticks index m n a b = record {
-    tried = a.tried ++ b.tried;
-    are = join-all index m n a b;
-    begins = Contains-append_left a.tried b.tried prefix a.begins;
-    each = All-append (IsEarlier prefix path (index + 1)) a.tried b.tried
-        (All-from_members (IsEarlier prefix path (index + 1)) a.tried (λ x l. earlier-more prefix path index x (All-contains (IsEarlier prefix path index) a.tried x a.each l)))
-        (All-from_members (IsEarlier prefix path (index + 1)) b.tried (λ x l. inr (index, omega arith, All-contains (λ y. GoesOn (prefix ++ literal path index ∷ []) y) b.tried x b.are.go_on l)));
-    count_is = length-append a.tried b.tried ∙ (ap (λ k. k + length b.tried) a.count_is ∙ ap (λ k. m + k) b.count_is);
+  pub join-behind : StandBehind prefix (a.ticks.asked ++ b.asked)
+  join-behind place literals at long = ⊎_elim
+      (λ l. subst (λ zs. Contains zs (take (length literals - 1) literals)) (sym (take-append-le place a.ticks.asked b.asked (omega arith)))
+      (a.ticks.behind place literals (get-front a.ticks.asked b.asked place literals l at) long))
+      (λ g.
+      let r = behind-front a.ticks.asked b.asked place literals g at in
+      subst (λ zs. Contains zs (take (length literals - 1) literals)) (sym r.2)
+      (parent-in prefix (literal path index) a.ticks.asked (take r.0 b.asked) literals a.begins (All-contains (GoesOn longer) b.asked literals b.are.go_on (get-contains b.asked r.0 literals r.1))
+      (λ deep. b.behind r.0 literals r.1 deep)))
+      (cases_lt place (length a.ticks.asked))
+
+  -- neither the bound nor the rows told less
+  pub judged-before : (literals : List Literal) → IsAliveBy instance (target_code level (floor here.bound)) literals → IsAliveBy instance (target_code level (floor old.bound)) literals
+  judged-before literals h = (h.0, (let low = h.1 in omega (arith, before.falls)), h.2)
+
+  pub rowless-before : (literals : List Literal) → NoneWithin level (known here.shared) literals → NoneWithin level (known old.shared) literals
+  rowless-before literals h = All-from_members (λ (row : KnownRow). HasAll literals row.content.lits → level_code (level + 1) ≤ row.content.tag → ⊥) (known old.shared) (λ row m.
+      All-contains (λ (row : KnownRow). HasAll literals row.content.lits → level_code (level + 1) ≤ row.content.tag → ⊥) (known here.shared) row h
+      (All-contains (Contains (known here.shared)) (known old.shared) row (rows-grow old.shared here.shared before.copied before.published) m))
+
+  more-tried : (xs ys : List (List Literal)) (w : World) → All (Contains ys) xs → OffersCost instance xs w → OffersCost instance ys w
+  more-tried xs ys w has o = record { plan = o.plan; feasible = o.feasible; prefix = o.prefix; ticked = All-contains (Contains ys) xs o.prefix has o.ticked; full = o.full; extends = o.extends; offered = o.offered; kept = o.kept }
+
+  pub join-offers : (new.bound.least ≡ old.bound.least) ⊎ OffersCost instance (a.ticks.tried ++ b.tried) new
+  join-offers = ⊎_elim
+      (λ same. ⊎_elim
+      (λ was. inl (same ∙ was))
+      (λ (o : OffersCost instance a.ticks.tried here). inr (more-tried a.ticks.tried (a.ticks.tried ++ b.tried) new
+      (All-from_members (Contains (a.ticks.tried ++ b.tried)) a.ticks.tried (λ x m. Contains-append_left a.ticks.tried b.tried x m))
+      (cost-later instance a.ticks.tried here new after.better same o)))
+      a.ticks.offers)
+      (λ (o : OffersCost instance b.tried new). inr (more-tried b.tried (a.ticks.tried ++ b.tried) new
+      (All-from_members (Contains (a.ticks.tried ++ b.tried)) b.tried (λ x m. Contains-append_right a.ticks.tried b.tried x m)) o))
+      b.offers
+
+  abbrev pub next-ticks : Ticks instance level prefix old new refused
+  next-ticks = record {
+    tried = a.ticks.tried ++ b.tried;
+    asked = a.ticks.asked ++ b.asked;
+    asked_is = ap (λ xs. xs ++ b.asked) (a.ticks.asked_is ∙ append-nil a.ticks.tried) ∙ (ap (λ ys. a.ticks.tried ++ ys) b.asked_is ∙ sym (append_assoc a.ticks.tried b.tried refused));
+    taken = omega (arith, length-append a.ticks.tried b.tried, a.ticks.taken, b.taken);
+    are = join-all;
+    behind = join-behind;
+    judged = All-append (IsAliveBy instance (target_code level (floor old.bound))) a.ticks.asked b.asked a.ticks.judged
+        (All-from_members (IsAliveBy instance (target_code level (floor old.bound))) b.asked (λ x m. judged-before x (All-contains (IsAliveBy instance (target_code level (floor here.bound))) b.asked x b.judged m)));
+    rowless = All-append (NoneWithin level (known old.shared)) a.ticks.asked b.asked a.ticks.rowless
+        (All-from_members (NoneWithin level (known old.shared)) b.asked (λ x m. rowless-before x (All-contains (NoneWithin level (known here.shared)) b.asked x b.rowless m)));
+    offers = join-offers;
   }
 
-  pub all-ticks : (index m : ℕ) → TicksBelow instance level prefix path index m → Ticks instance level prefix m
-  all-ticks index m a = record { tried = a.tried; are = a.are; count_is = a.count_is }
+-- where none was refused, the next choice comes next
+pub next-below : (instance : Instance) (level : ℕ) (prefix : List Literal) (path index : ℕ) (old here new : World) → Keeps instance old here → Keeps instance here new →
+    TicksBelow instance level prefix path index old here → Ticks instance level (prefix ++ literal path index ∷ []) here new [] → TicksBelow instance level prefix path (index + 1) old new
+next-below instance level prefix path index old here new before after a b = record {
+  ticks = next-ticks instance level prefix path index old here new before after [] a b;
+  begins = Contains-append_left a.ticks.asked b.asked prefix a.begins;
+  each = All-append (IsEarlier prefix path (index + 1)) a.ticks.asked b.asked
+      (All-from_members (IsEarlier prefix path (index + 1)) a.ticks.asked (λ x l. earlier-more prefix path index x (All-contains (IsEarlier prefix path index) a.ticks.asked x a.each l)))
+      (All-from_members (IsEarlier prefix path (index + 1)) b.asked (λ x l. inr (index, omega arith, All-contains (λ y. GoesOn (prefix ++ literal path index ∷ []) y) b.asked x b.are.go_on l)));
+}
+
+pub none-at : (xs : List (List Literal)) → length xs ≡ 0 → xs ≡ []
+none-at [] e = refl
+none-at (x ∷ xs) e = absurd (omega arith)

@@ -1,5 +1,5 @@
 -- What the search finds of some literals.
-use Rattle.std.specs.Prelude.{◌≡◌, ℕ, ◌+◌, ◌<◌, ◌≤◌, min, List, length, All, Result, Ok, Err}
+use Rattle.std.specs.Prelude.{◌≡◌, ℕ, ◌+◌, ◌<◌, ◌≤◌, min, List, length, Result, Ok, Err}
 use Rattle.fapp_model.specs.declared.instance.Instance.{Instance}
 use Rattle.fapp_model.specs.declared.literal.Literal.{Literal}
 use Rattle.fapp_model.specs.Tags.{IsTagOf, triple_from}
@@ -10,7 +10,7 @@ use Rattle.log_laws.specs.declared.line.Ref.{Ref}
 use Rattle.log_laws.specs.declared.line.Ref.TheVariants.{Own, Row}
 use Rattle.log_laws.specs.Contents.{Cites, Content, KnownRow}
 use Rattle.search_log.specs.Bounds.{BoundState, floor}
-use Rattle.search_log.specs.Shares.{IsServed, known}
+use Rattle.search_log.specs.Shares.{IsServed}
 use Rattle.settle_laws.specs.declared.found.Found.{Found}
 use Rattle.settle_laws.specs.declared.found.Found.TheVariants.{Dead as FoundDead, Settled, Moot, Spent}
 use Rattle.settle_laws.specs.Levels.{level_code, target_code}
@@ -35,14 +35,13 @@ pub record IsRefuted (instance : Instance) (rows : List KnownRow) (lines : List 
 abbrev pub IsHigh : ℕ → BoundState → ℕ → Type 0
 IsHigh level bound tag = min (level_code (level + 1)) (floor bound) ≤ tag
 
+-- at most the level's target, what the bound had told and what it was offered
+abbrev pub IsLow : ℕ → BoundState → ℕ → Type 0
+IsLow level bound tag = tag ≤ target_code level (floor bound)
+
 -- the bound that was told last leaves something to find at the level
 abbrev pub IsOpen : ℕ → BoundState → Type 0
 IsOpen level bound = level_code level < bound.told
-
--- no row lies within some literals at a tag of at least the level's target
-abbrev pub NoneWithin : ℕ → List Literal → List KnownRow → Type 0
-NoneWithin level literals rows =
-    All (λ row. HasAll literals row.content.lits → level_code (level + 1) ≤ row.content.tag → ⊥) rows
 
 -- a line of the log is one of those that were added, and the last; where a row is named, no tick was taken
 abbrev pub IsLastRef : World → World → Ref → Type 0
@@ -53,6 +52,16 @@ IsLastRef old new (Row r) = (new.fuel ≡ old.fuel) × (new.log.lines ≡ old.lo
 abbrev pub IsExact : ℕ → World → World → ℕ → Type 0
 IsExact level old new tag = new.fuel ≡ old.fuel → tag ≡ target_code level new.bound.told
 
+-- A line or a row settles some literals. Its tag is neither above the target that the bound gave before nor below the one that
+-- it gives now.
+pub record IsSettledBy (instance : Instance) (level : ℕ) (literals : List Literal) (old new : World) (line : Ref) (tag : ℕ) : Type 0 where
+  pub is_open : IsOpen level new.bound
+  pub high : IsHigh level new.bound tag
+  pub low : IsLow level old.bound tag
+  pub exact : IsExact level old new tag
+  pub refuted : IsRefuted instance new.shared.copied new.log.lines literals line tag
+  pub last : IsLastRef old new line
+
 -- so many takes of fuel were refused
 abbrev pub refused : {E : Type 0} → Result Found E → ℕ
 refused (Ok (FoundDead tag)) = 0
@@ -61,24 +70,21 @@ refused (Ok (Moot seen)) = 0
 refused (Ok Spent) = 1
 refused (Err e) = 0
 
--- Dead and settled come with a tag that is high enough, Moot with the bound that was told last, Spent without fuel
+-- Dead comes with the target, settled with a tag that is high enough, Moot with the bound that was told last, Spent without fuel
 abbrev pub IsFoundBy : {E : Type 0} → Instance → ℕ → List Literal → World → World → Result Found E → Type 0
 IsFoundBy instance level literals old new (Ok (FoundDead tag)) = IsOpen level new.bound
-    × (tag.code ≡ target_code level new.bound.told)
+    × (tag.code ≡ target_code level new.bound.told) × IsLow level old.bound tag.code
     × Dead instance (triple_from tag.code) literals × (new.fuel ≡ old.fuel) × (new.log.lines ≡ old.log.lines)
-IsFoundBy instance level literals old new (Ok (Settled line tag)) = IsOpen level new.bound
-    × IsHigh level new.bound tag.code × IsExact level old new tag.code
-    × IsRefuted instance new.shared.copied new.log.lines literals line tag.code × IsLastRef old new line
+IsFoundBy instance level literals old new (Ok (Settled line tag)) = IsSettledBy instance level literals old new line tag.code
 IsFoundBy instance level literals old new (Ok (Moot seen)) = (seen.code ≡ new.bound.told) × (new.bound.told ≤ level_code level)
 IsFoundBy instance level literals old new (Ok Spent) = IsOpen level new.bound × (new.fuel ≡ 0)
 IsFoundBy instance level literals old new (Err e) = Unit {0}
 
 -- what was found, what was kept, and at which prefixes ticks were taken or refused; with each line at least one was taken
 pub record Searched {E : Type 0} (instance : Instance) (level : ℕ) (literals : List Literal) (old new : World) (result : Result Found E) : Type 0 where
-  pub keeps : Keeps instance literals old new
+  pub keeps : Keeps instance old new
   pub few : length new.log.lines + new.fuel ≤ length old.log.lines + old.fuel
   pub is : IsFoundBy instance level literals old new result
-  pub count : ℕ
-  pub ticks : Ticks instance level literals count
-  pub taken : count + new.fuel ≡ old.fuel + refused result
-  pub fresh : 0 < count → NoneWithin level literals (known old.shared)
+  pub refused_at : List (List Literal)
+  pub refused_count : length refused_at ≡ refused result
+  pub ticks : Ticks instance level literals old new refused_at

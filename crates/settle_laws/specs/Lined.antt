@@ -3,12 +3,9 @@ use Rattle.std.specs.Prelude.{◌≡◌, ◌⊎◌, ℕ, ◌+◌, ◌-◌, ◌<�
 use Rattle.fapp_model.specs.declared.instance.Instance.{Instance}
 use Rattle.fapp_model.specs.declared.literal.Literal.{Literal}
 use Rattle.log_laws.specs.declared.line.LogLine.{LogLine}
-use Rattle.log_laws.specs.declared.line.Ref.{Ref}
-use Rattle.log_laws.specs.declared.line.Ref.TheVariants.{Own, Row}
-use Rattle.search_log.specs.Shares.{known}
 use Rattle.settle_laws.specs.declared.found.Found.{Found}
 use Rattle.settle_laws.specs.declared.found.Found.TheVariants.{Dead, Settled, Moot, Spent}
-use Rattle.settle_laws.specs.Founds.{IsExact, IsHigh, IsOpen, IsRefuted, NoneWithin, refused}
+use Rattle.settle_laws.specs.Founds.{IsOpen, IsSettledBy, refused}
 use Rattle.settle_laws.specs.Levels.{level_code}
 use Rattle.settle_laws.specs.Lines.{AreSorted}
 use Rattle.settle_laws.specs.Ticks.{Ticks}
@@ -24,16 +21,9 @@ pub record IsOneCount (instance : Instance) (literals : List Literal) (old new :
 abbrev pub IsAtMostCount : Instance → List Literal → List LogLine → List LogLine → Type 0
 IsAtMostCount instance literals old new = (new ≡ old) ⊎ IsOneCount instance literals old new
 
--- a line of the log is one that was added, and the last; where a row is named, no tick was taken and no line added
-abbrev pub IsNewRef : World → World → Ref → Type 0
-IsNewRef old new (Own n) = (length old.log.lines ≤ n) × (n + 1 ≡ length new.log.lines)
-IsNewRef old new (Row r) = (new.fuel ≡ old.fuel) × (new.log.lines ≡ old.log.lines)
-
 abbrev pub IsLinedBy : {E : Type 0} → Instance → ℕ → List Literal → World → World → Result Found E → Type 0
 IsLinedBy instance level literals old new (Ok (Dead tag)) = ⊥
-IsLinedBy instance level literals old new (Ok (Settled line tag)) = IsOpen level new.bound
-    × IsHigh level new.bound tag.code × IsExact level old new tag.code
-    × IsRefuted instance new.shared.copied new.log.lines literals line tag.code × IsNewRef old new line
+IsLinedBy instance level literals old new (Ok (Settled line tag)) = IsSettledBy instance level literals old new line tag.code
     × (new.fuel ≡ old.fuel → IsAtMostCount instance literals old.log.lines new.log.lines)
 IsLinedBy instance level literals old new (Ok (Moot seen)) = (seen.code ≡ new.bound.told) × (new.bound.told ≤ level_code level)
 IsLinedBy instance level literals old new (Ok Spent) = IsOpen level new.bound × (new.fuel ≡ 0)
@@ -41,10 +31,9 @@ IsLinedBy instance level literals old new (Err e) = Unit {0}
 
 -- with each line a tick was taken, or one line was added without
 pub record Lined {E : Type 0} (instance : Instance) (level : ℕ) (literals : List Literal) (old new : World) (result : Result Found E) : Type 0 where
-  pub keeps : Keeps instance literals old new
+  pub keeps : Keeps instance old new
   pub few : length new.log.lines ≤ length old.log.lines + max 1 (old.fuel - new.fuel)
   pub is : IsLinedBy instance level literals old new result
-  pub count : ℕ
-  pub ticks : Ticks instance level literals count
-  pub taken : count + new.fuel ≡ old.fuel + refused result
-  pub fresh : 0 < count → NoneWithin level literals (known old.shared)
+  pub refused_at : List (List Literal)
+  pub refused_count : length refused_at ≡ refused result
+  pub ticks : Ticks instance level literals old new refused_at

@@ -24,11 +24,12 @@ abbrev pub EndsBy : {T E : Type 0} → LogState → LogState → ℕ → Result 
 EndsBy log after row (Ok _) = after ≡ with_segment log row
 EndsBy log after row (Err _) = after ≡ log
 
--- it got a row above all others, which ends a segment where there was memory
+-- it can be a row, and got one above all others, which ends a segment where there was memory
 pub record GotRow {T E : Type 0} (old new : SharedState) (log after : LogState) (place : ℕ) (result : Result T E) : Type 0 where
   pub row : ℕ
   pub line : LogLine
   pub last : slice_get log.lines place ≡ Some line
+  pub short : IsShort line
   pub published : new.published ≡ old.published ++ known_row row (content_of line) ∷ []
   pub above : All (λ other. other.number < row) (known old)
   pub ends : EndsBy log after row result

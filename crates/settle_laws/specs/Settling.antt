@@ -3,22 +3,24 @@ use Rattle.std.specs.Prelude.{◌≡◌, ◌⊎◌, ℕ, ◌+◌, ◌-◌, ◌<�
 use Rattle.fapp_model.specs.declared.instance.Instance.{Instance}
 use Rattle.fapp_model.specs.declared.literal.Literal.{Literal}
 use Rattle.fapp_model.specs.search.Jobs.{target}
+use Rattle.fapp_model.specs.search.Partials.{HasAll}
+use Rattle.fapp_model.specs.search.Prefixes.{extensions}
 use Rattle.fapp_model.specs.search.Tries.{IsTries}
 use Rattle.log_laws.specs.declared.line.LogLine.{LogLine}
 use Rattle.log_laws.specs.declared.line.Ref.{Ref}
 use Rattle.log_laws.specs.declared.line.Ref.TheVariants.{Own, Row}
 use Rattle.log_laws.specs.declared.line.Segment.{Segment}
-use Rattle.log_laws.specs.Contents.{KnownRow}
+use Rattle.log_laws.specs.Contents.{Content, KnownRow, content_of, known_row}
 use Rattle.search_log.specs.declared.job.Outcome.{Outcome}
 use Rattle.search_log.specs.declared.job.Outcome.TheVariants.{Refuted, Moot, Spent}
-use Rattle.search_log.specs.Bounds.{floor}
-use Rattle.search_log.specs.Shares.{known}
-use Rattle.settle_laws.specs.Founds.{IsExact, IsHigh, IsOpen, IsRefuted, NoneWithin}
+use Rattle.search_log.specs.Bounds.{floor, lowest}
+use Rattle.search_log.specs.Shares.{IsServed, known}
+use Rattle.settle_laws.specs.Founds.{IsOpen, IsSettledBy}
 use Rattle.settle_laws.specs.Levels.{level_code}
-use Rattle.settle_laws.specs.Lined.{IsAtMostCount, IsNewRef}
+use Rattle.settle_laws.specs.Lined.{IsAtMostCount}
 use Rattle.settle_laws.specs.Published.{IsShort}
-use Rattle.settle_laws.specs.Ticks.{Ticks}
-use Rattle.settle_laws.specs.Worlds.{Gains, IsGood, IsKeptRight, IsLeastOffered, KeepsAtMost, OffersCost, World}
+use Rattle.settle_laws.specs.Ticks.{NoneWithin, Ticks}
+use Rattle.settle_laws.specs.Worlds.{Gains, IsGood, IsKeptRight, IsLeastOffered, KeepsAtMost, World}
 
 -- the segments are of the rows, in their order
 abbrev pub AreHome : List KnownRow → List Segment → Type 0
@@ -43,15 +45,54 @@ pub record Publishes {T E : Type 0} (old new : World) (result : Result T E) : Ty
   pub segments : new.log.segments ≡ old.log.segments ++ gained
   pub home : AreHomeBy rows gained result
 
--- a line that can be a row ends a segment that was gained, or where offers are taken a refusal was counted
+-- nothing was published, and no segment was gained
+pub record PublishesNone (old new : World) : Type 0 where
+  pub published : new.shared.published ≡ old.shared.published
+  pub segments : new.log.segments ≡ old.log.segments
+
+-- one row with this content was published, above all that were known
+pub record PublishesOne (old new : World) (content : Content) (row : ℕ) : Type 0 where
+  pub published : new.shared.published ≡ old.shared.published ++ known_row row content ∷ []
+  pub above : All (λ other. other.number < row) (new.shared.copied ++ old.shared.published)
+
+-- a line that can be a row was published with its content, and ends a segment that was gained
+pub record IsHome (old new : World) (place : ℕ) (line : LogLine) : Type 0 where
+  pub short : IsShort line
+  pub row : ℕ
+  pub publishes : PublishesOne old new (content_of line) row
+  pub segments : new.log.segments ≡ old.log.segments ++ record { last = place; row = row } ∷ []
+
+-- a line was not published; where it can be a row and offers are taken, a refusal was counted
+pub record IsAway (old new : World) (line : LogLine) : Type 0 where
+  pub none : PublishesNone old new
+  pub refused : old.shared.takes ≡ true → IsShort line → old.shared.refusals < new.shared.refusals
+
+-- a row was published with a content that lies within some literals and is implied, and no segment was kept for it
+pub record IsUnkept (instance : Instance) (literals : List Literal) (old new : World) : Type 0 where
+  pub content : Content
+  pub row : ℕ
+  pub contained : HasAll literals content.lits
+  pub served : IsServed instance content
+  pub publishes : PublishesOne old new content row
+  pub segments : new.log.segments ≡ old.log.segments
+
+-- the line that settles a job is offered, and no row
 abbrev pub IsOffered : World → World → Ref → Type 0
-IsOffered old new (Own n) = (line : LogLine) → slice_get new.log.lines n ≡ Some line → IsShort line → old.shared.takes ≡ true →
-    ((s : Segment) × (new.log.segments ≡ old.log.segments ++ s ∷ []) × (s.last ≡ n)) ⊎ (old.shared.refusals < new.shared.refusals)
-IsOffered old new (Row r) = new.shared.published ≡ old.shared.published
+IsOffered old new (Own n) = (line : LogLine) × (slice_get new.log.lines n ≡ Some line) × (IsHome old new n line ⊎ IsAway old new line)
+IsOffered old new (Row r) = PublishesNone old new
 
 -- The log's lines are as before.
 abbrev pub IsCut : World → World → Type 0
 IsCut old new = new.log.lines ≡ old.log.lines
+
+-- No fuel is left, and the lines are cut. There was less fuel than tries, and so less than prefixes that go on from the literals.
+pub record RunsOut (instance : Instance) (level : ℕ) (literals : List Literal) (old new : World) : Type 0 where
+  pub is_open : IsOpen level new.bound
+  pub empty : new.fuel ≡ 0
+  pub cut : IsCut old new
+  pub none : PublishesNone old new
+  pub tries : (n : ℕ) → IsTries instance (target level) literals n → old.fuel < n
+  pub prefixes : old.fuel < length (extensions instance literals)
 
 -- so many takes of fuel were refused
 abbrev pub not_taken : {E : Type 0} → Result Outcome E → ℕ
@@ -60,20 +101,18 @@ not_taken (Ok (Moot seen)) = 0
 not_taken (Ok Spent) = 1
 not_taken (Err e) = 0
 
--- Refuted: the line or row lies within the literals, at no lower tag; the tag is high enough, and the target where no tick
--- was taken. Moot: what the bound told last is at most the level. Spent: no fuel is left, and the tries exceed what there was.
+-- Refuted: the line or row lies within the literals, at no lower tag; the tag is between the targets, and the target where no
+-- tick was taken. Moot: what the bound told last is at most the level. After all but Refuted the lines are cut; only for
+-- want of memory may a row have been published then.
 abbrev pub IsOutcome : {E : Type 0} → Instance → ℕ → List Literal → World → World → Result Outcome E → Type 0
-IsOutcome instance level literals old new (Ok (Refuted line tag)) = IsOpen level new.bound
-    × IsHigh level new.bound tag.code × IsExact level old new tag.code
-    × IsRefuted instance new.shared.copied new.log.lines literals line tag.code × IsNewRef old new line
+IsOutcome instance level literals old new (Ok (Refuted line tag)) = IsSettledBy instance level literals old new line tag.code
     × IsOffered old new line
     × (new.fuel ≡ old.fuel → IsAtMostCount instance literals old.log.lines new.log.lines)
-IsOutcome instance level literals old new (Ok (Moot seen)) = (seen.code ≡ new.bound.told) × (new.bound.told ≤ level_code level) × IsCut old new
-IsOutcome instance level literals old new (Ok Spent) = IsOpen level new.bound × (new.fuel ≡ 0) × IsCut old new
-    × ((tries : ℕ) → IsTries instance (target level) literals tries → old.fuel < tries)
-IsOutcome instance level literals old new (Err e) = IsCut old new
+IsOutcome instance level literals old new (Ok (Moot seen)) = (seen.code ≡ new.bound.told) × (new.bound.told ≤ level_code level) × IsCut old new × PublishesNone old new
+IsOutcome instance level literals old new (Ok Spent) = RunsOut instance level literals old new
+IsOutcome instance level literals old new (Err e) = IsCut old new × (PublishesNone old new ⊎ IsUnkept instance literals old new)
 
--- What a job's search keeps and finds. Ticks were taken at so many prefixes, one more where one was refused.
+-- What a job's search keeps and finds, and at which prefixes ticks were taken or, at the end, one was refused.
 pub record Settles {E : Type 0} (instance : Instance) (level : ℕ) (literals : List Literal) (old new : World) (result : Result Outcome E) : Type 0 where
   pub fuel : new.fuel ≤ old.fuel
   pub copied : All (Contains new.shared.copied) old.shared.copied
@@ -83,13 +122,15 @@ pub record Settles {E : Type 0} (instance : Instance) (level : ℕ) (literals : 
   pub lines : Gains old.log.lines new.log.lines
   pub few : length new.log.lines ≤ length old.log.lines + max 1 (old.fuel - new.fuel)
   pub good : IsGood instance old → IsGood instance new
+  pub began : new.bound.began ≡ old.bound.began
+  pub tells : new.bound.told ≤ old.bound.told
+  pub lowers : (tag : ℕ) → lowest tag new.bound.least ≤ lowest tag old.bound.least
   pub falls : floor new.bound ≤ floor old.bound
   pub least : IsLeastOffered old.log.best old.bound.least → IsLeastOffered new.log.best new.bound.least
   pub right : IsKeptRight instance old.log.best → IsKeptRight instance new.log.best
   pub better : (tag : ℕ) → KeepsAtMost old.log.best tag → KeepsAtMost new.log.best tag
-  pub offers : (new.bound.least ≡ old.bound.least) ⊎ OffersCost instance literals new
   pub is : IsOutcome instance level literals old new result
-  pub count : ℕ
-  pub ticks : Ticks instance level literals count
-  pub taken : count + new.fuel ≡ old.fuel + not_taken result
-  pub fresh : 0 < count → NoneWithin level literals (known old.shared)
+  pub refused_at : List (List Literal)
+  pub refused_count : length refused_at ≡ not_taken result
+  pub ticks : Ticks instance level literals old new refused_at
+  pub fresh : 0 < length ticks.asked → NoneWithin level (known old.shared) literals

@@ -1,16 +1,14 @@
 -- All that a search changes, and what it keeps.
-use Rattle.std.specs.Prelude.{◌≡◌, ◌⊎◌, ℕ, ◌≤◌, List, [], ◌++◌, All, Contains, Option, Some, None}
+use Rattle.std.specs.Prelude.{◌≡◌, ℕ, ◌≤◌, List, [], ◌++◌, All, Contains, Option, Some, None}
 use Rattle.fapp_model.specs.declared.instance.Instance.{Instance}
-use Rattle.fapp_model.specs.declared.literal.Literal.{Literal}
 use Rattle.fapp_model.specs.Costs.{cost}
 use Rattle.fapp_model.specs.Least.{IsFeasible}
-use Rattle.fapp_model.specs.Tags.{code_of, triple_from}
+use Rattle.fapp_model.specs.Tags.{triple_from}
 use Rattle.fapp_model.specs.Triples.{IsAtMost}
-use Rattle.fapp_model.specs.search.Partials.{Extends}
 use Rattle.log_laws.specs.declared.line.LogLine.{LogLine}
 use Rattle.log_laws.specs.Segments.{IsGoodLog}
 use Rattle.search_log.specs.declared.log.KeptPlan.{KeptPlan}
-use Rattle.search_log.specs.Bounds.{BoundState, floor}
+use Rattle.search_log.specs.Bounds.{BoundState, floor, lowest}
 use Rattle.search_log.specs.LogStates.{LogState}
 use Rattle.search_log.specs.Shares.{SharedState, known}
 
@@ -55,18 +53,9 @@ abbrev pub KeepsAtMost : Option KeptPlan → ℕ → Type 0
 KeepsAtMost None tag = ⊥
 KeepsAtMost (Some best) tag = IsAtMost best.cost (triple_from tag)
 
--- the cost of an assignment that has the literals is the least offer, and the log keeps one that costs no more
-pub record OffersCost (instance : Instance) (literals : List Literal) (new : World) : Type 0 where
-  pub plan : List ℕ
-  pub feasible : IsFeasible instance plan
-  pub extends : Extends plan literals
-  pub offered : new.bound.least ≡ Some (code_of (cost instance plan))
-  pub kept : KeepsAtMost new.log.best (code_of (cost instance plan))
-
--- What every search of some literals keeps, whatever it answers: rows and lines are only added, and nothing is
--- published; a good log is good again; what the bound told or was offered does not rise; what is kept stays the least offer,
--- and a true cost, where it was; only assignments that have the literals are offered.
-pub record Keeps (instance : Instance) (literals : List Literal) (old new : World) : Type 0 where
+-- What every search keeps, whatever it answers: rows and lines are only added, and nothing is published; a good log is good
+-- again; neither what the bound told nor its least offer rises; what is kept stays the least offer, and a true cost, where it was.
+pub record Keeps (instance : Instance) (old new : World) : Type 0 where
   pub fuel : new.fuel ≤ old.fuel
   pub copied : All (Contains new.shared.copied) old.shared.copied
   pub published : new.shared.published ≡ old.shared.published
@@ -75,8 +64,10 @@ pub record Keeps (instance : Instance) (literals : List Literal) (old new : Worl
   pub lines : Gains old.log.lines new.log.lines
   pub segments : new.log.segments ≡ old.log.segments
   pub good : IsGood instance old → IsGood instance new
+  pub began : new.bound.began ≡ old.bound.began
+  pub tells : new.bound.told ≤ old.bound.told
+  pub lowers : (tag : ℕ) → lowest tag new.bound.least ≤ lowest tag old.bound.least
   pub falls : floor new.bound ≤ floor old.bound
   pub least : IsLeastOffered old.log.best old.bound.least → IsLeastOffered new.log.best new.bound.least
   pub right : IsKeptRight instance old.log.best → IsKeptRight instance new.log.best
   pub better : (tag : ℕ) → KeepsAtMost old.log.best tag → KeepsAtMost new.log.best tag
-  pub offers : (new.bound.least ≡ old.bound.least) ⊎ OffersCost instance literals new

@@ -1,2 +1,3 @@
 mod arcs;
+mod jobs;
 mod tables;

@@ -37,9 +37,9 @@ ends-by log after row (Ok u) ok err = ok
 ends-by log after row (Err e) ok err = err
 
 -- a row was drawn
-pub home-published : {T E : Type 0} → (old new : SharedState) (log after : LogState) (place row : ℕ) (line : LogLine) (result : Result T E) → slice_get log.lines place ≡ Some line → Offered old new line.lits line.tag.code (Home row) →
+pub home-published : {T E : Type 0} → (old new : SharedState) (log after : LogState) (place row : ℕ) (line : LogLine) (result : Result T E) → slice_get log.lines place ≡ Some line → 0 < line.tag.code → Offered old new line.lits line.tag.code (Home row) →
     OnOk result (after ≡ with_segment log row) → OnErr result (after ≡ log) → IsPublished old new log after place result
-home-published old new log after place row line result last offered ok err = record {
+home-published old new log after place row line result last says offered ok err = record {
   copied = offered.copied;
   takes = offered.takes;
   refusals = offered.refusals;
@@ -47,6 +47,7 @@ home-published old new log after place row line result last offered ok err = rec
     row = row;
     line = line;
     last = last;
+    short = record { says = says; few = offered.answers.1 };
     published = offered.answers.0;
     above = offered.answers.3;
     ends = ends-by log after row result ok err;

@@ -4,3 +4,5 @@ pub mod Advancing
 pub mod Exploring
 pub mod Fronts
 pub mod Closing
+mod Serving
+mod Comparing

@@ -1,74 +1,40 @@
--- The literals that are pushed, path by path.
-use Rattle.std.proofs.Common.{◌≡◌, ℕ, ◌+◌, ◌<◌, ◌≤◌, true, false, List, [], ◌∷◌, ◌++◌, length, slice_index, All, Contains, Option, Some, None, unwrap_or, sym, ap, subst, ◌∙◌, ⊎_elim, arith}
-use Rattle.std.proofs.lemmas.Bool.{cases_lt, true≢false}
-use Rattle.std.proofs.lemmas.List.Elements.{All-contains, All-nil, All-push, All-weaker, Contains-append_left, Contains-push}
-use Rattle.std.proofs.lemmas.List.Quantifiers.{all_pairs_push}
+-- The literals that are pushed, in order and as a plan.
+use Rattle.std.proofs.Common.{◌≡◌, ℕ, ◌+◌, ◌<◌, ◌≤◌, true, false, List, length, get_or, slice_index, Contains, Option, unwrap_or, sym, ap, subst, ◌∙◌, inl, inr, arith}
+use Rattle.std.specs.List.{AllAdjacentBelow}
+use Rattle.std.specs.List.Sorted.{IsPermutation}
+use Rattle.std.proofs.lemmas.Bool.{true≢false}
+use Rattle.std.proofs.lemmas.List.Elements.{All-contains}
+use Rattle.std.proofs.lemmas.List.Sorted.{Contains-permutation, IsPermutation-sym, IsNonDecreasingBy-from_all_adjacent}
 use Rattle.fapp_model.specs.declared.instance.Instance.{Instance}
 use Rattle.fapp_model.specs.declared.literal.Literal.{Literal}
 use Rattle.fapp_model.specs.Assignments.{IsAssignment, count_at, meets}
 use Rattle.fapp_model.specs.Instances.{IsInstance}
 use Rattle.fapp_model.specs.Least.{IsFeasible}
-use Rattle.fapp_model.specs.search.Partials.{Extends, IsLiteral, IsPartial, literal}
+use Rattle.fapp_model.specs.search.Partials.{Extends, IsLiteral, IsPartial}
 use Rattle.fapp_model.specs.search.Prefixes.{IsPrefix}
 use Rattle.fapp_model.specs.search.WorkOrder.{work_order}
-use Rattle.fapp_model.proofs.InOrder.{pairs-nil}
 use Rattle.fapp_model.proofs.Members.{All-from_members}
+use Rattle.fapp_tables.proofs.RankLaws.{rising_ranks}
 use Rattle.count_laws.specs.ForwardStates.{AreSlots}
-use Rattle.nogood.specs.Partials.{choice_given}
 use Rattle.settle_laws.specs.Lines.{AreSorted}
 use Rattle.settle_laws.proofs.FullPrefixes.{full-has}
-use Rattle.subtree_search.specs.Plans.{AreFirst, IsPlanOf}
+use Rattle.subtree_search.specs.Plans.{IsNotAfter, IsPlanOf}
 
-pub first-none : (pushed : List Literal) → AreFirst pushed 0 []
-first-none pushed = record {
-  some = All-nil (Contains pushed);
-  below = All-nil (λ (a : Literal). a.path < 0);
-  ascending = pairs-nil (λ (a b : Literal). a.path < b.path);
-  each = λ a m l. absurd (omega arith);
-}
-
-module _ (instance : Instance) (pushed : List Literal) (slots : List (Option ℕ)) (are : AreSlots instance pushed slots) (path : ℕ) (literals : List Literal) (h : AreFirst pushed path literals) where
-  still-below : All (λ (a : Literal). a.path < path + 1) literals
-  still-below = All-weaker (λ (a : Literal). a.path < path) (λ (a : Literal). a.path < path + 1) (λ a l. omega arith) literals h.below
-
-  given-at : (a : Literal) → Contains pushed a → a.path ≡ path → choice_given slots path ≡ Some a.choice
-  given-at a m e = subst (λ p. choice_given slots p ≡ Some a.choice) e ((are.given a).1 m)
-
-  here-or-before : (a : Literal) → a.path < path + 1 → (a.path < path → Contains literals a) → (a.path ≡ path → Contains literals a) → Contains literals a
-  here-or-before a l before here = ⊎_elim before (λ g. here (omega arith)) (cases_lt a.path path)
-
-  pub first-free : choice_given slots path ≡ None → AreFirst pushed (path + 1) literals
-  first-free none = record {
-    some = h.some;
-    below = still-below;
-    ascending = h.ascending;
-    each = λ a m l. here-or-before a l (h.each a m) (λ e. let some = given-at a m e in cc);
-  }
-
-  module _ (choice : ℕ) (given : choice_given slots path ≡ Some choice) where
-    same-choice : (a : Literal) → a.path ≡ path → choice_given slots path ≡ Some a.choice → literal path choice ≡ a
-    same-choice a e some = let c : choice ≡ a.choice = cc in ap (λ (p : ℕ). literal p choice) (sym e) ∙ ap (literal a.path) c
-
-    pub first-some : AreFirst pushed (path + 1) (literals ++ literal path choice ∷ [])
-    first-some = record {
-      some = All-push (Contains pushed) literals (literal path choice) h.some ((are.given (literal path choice)).0 given);
-      below = All-push (λ (a : Literal). a.path < path + 1) literals (literal path choice) still-below (omega arith);
-      ascending = all_pairs_push (λ (a b : Literal). a.path < b.path) literals (literal path choice) h.ascending (λ k d l. h.below k d l);
-      each = λ a m l. ⊎_elim
-          (λ less. Contains-append_left literals (literal path choice ∷ []) a (h.each a m less))
-          (λ g. let e : a.path ≡ path = omega arith in subst (Contains (literals ++ literal path choice ∷ [])) (same-choice a e (given-at a m e)) (Contains-push literals (literal path choice)))
-          (cases_lt a.path path);
-    }
-
-pub first-sorted : (instance : Instance) (pushed literals : List Literal) → IsPartial instance pushed → AreFirst pushed (length instance.paths) literals → AreSorted instance pushed literals
-first-sorted instance pushed literals partial h = record {
+-- literals of different paths, put in order
+pub sorted-are : (instance : Instance) (pushed literals : List Literal) → IsPartial instance pushed → IsPermutation pushed literals → AllAdjacentBelow IsNotAfter literals (length literals) → AreSorted instance pushed literals
+sorted-are instance pushed literals partial moved ordered = record {
   are = record {
-    in_range = All-from_members (IsLiteral instance) literals (λ a m. All-contains (IsLiteral instance) pushed a partial.in_range (All-contains (Contains pushed) literals a h.some m));
-    ascending = h.ascending;
+    in_range = All-from_members (IsLiteral instance) literals (λ a m. All-contains (IsLiteral instance) pushed a partial.in_range (Contains-permutation literals pushed a (IsPermutation-sym pushed literals moved) m));
+    ascending = rising_ranks (λ (a : Literal). a.path) pushed literals partial.distinct moved
+        (IsNonDecreasingBy-from_all_adjacent (λ (a : Literal). a.path) literals (λ k d inside. no_lower (get_or literals k d) (get_or literals (k + 1) d) (ordered k d inside)));
   };
-  has = All-from_members (Contains literals) pushed (λ a m. h.each a m (All-contains (IsLiteral instance) pushed a partial.in_range m).path);
-  only = h.some;
+  has = All-from_members (Contains literals) pushed (λ a m. Contains-permutation pushed literals a moved m);
+  only = All-from_members (Contains pushed) literals (λ a m. Contains-permutation literals pushed a (IsPermutation-sym pushed literals moved) m);
 }
+  where
+    no_lower : (a b : Literal) → IsNotAfter a b → a.path ≤ b.path
+    no_lower a b (inl less) = omega arith
+    no_lower a b (inr (same, most)) = omega arith
 
 module _ (instance : Instance) (valid : IsInstance instance) (pushed : List Literal) (prefix : IsPrefix instance pushed) (full : length (work_order instance) ≤ length pushed) (partial : IsPartial instance pushed)
     (slots : List (Option ℕ)) (are : AreSlots instance pushed slots) (plan : List ℕ) (whole : length plan ≡ length instance.paths) (h : IsPlanOf slots (length instance.paths) plan) where

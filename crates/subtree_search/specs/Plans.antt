@@ -1,14 +1,11 @@
 -- The literals that are pushed, path by path.
-use Rattle.std.specs.Prelude.{◌≡◌, ℕ, ◌<◌, List, slice_index, All, AllPairs, Contains, Option, unwrap_or}
+use Rattle.std.specs.Prelude.{◌≡◌, ◌⊎◌, ℕ, ◌<◌, ◌≤◌, List, slice_index, Option, unwrap_or}
 use Rattle.fapp_model.specs.declared.literal.Literal.{Literal}
 use Rattle.nogood.specs.Partials.{choice_given}
 
--- the literals of the first few paths, ascending by path
-pub record AreFirst (pushed : List Literal) (path : ℕ) (literals : List Literal) : Type 0 where
-  pub some : All (Contains pushed) literals
-  pub below : All (λ a. a.path < path) literals
-  pub ascending : AllPairs (λ a b. a.path < b.path) literals
-  pub each : (a : Literal) → Contains pushed a → a.path < path → Contains literals a
+-- a literal's path is before another's, or both have one path and its choice is not behind
+abbrev pub IsNotAfter : Literal → Literal → Type 0
+IsNotAfter a b = (a.path < b.path) ⊎ ((a.path ≡ b.path) × (a.choice ≤ b.choice))
 
 -- what is given at each path, 0 where nothing is
 abbrev pub IsPlanOf : List (Option ℕ) → ℕ → List ℕ → Type 0

@@ -1,5 +1,6 @@
 // What is asked at each prefix before its choices are tried.
-ghost use Rattle.std.specs.Prelude.{◌≤◌};
+ghost use Rattle.std.specs.Prelude.{◌↔◌, ◌≤◌};
+ghost use Rattle.fapp_model.specs.declared.instance.Instance.{Instance};
 ghost use Rattle.fapp_model.specs.Instances.{IsInstance};
 ghost use Rattle.fapp_model.specs.Levels.{levels_of};
 ghost use Rattle.fapp_model.specs.search.Prefixes.{IsPrefix};
@@ -35,12 +36,12 @@ pub fn enter<B: Bound, H: Shared>(
     requires level { level ≤ levels_of forward.now.instance }
     requires prefix { IsPrefix forward.now.instance forward.now.pushed }
     requires serves { H.serves shared.old forward.now.instance }
-    ensures serves { H.serves shared.new forward.now.instance }
+    ensures serves { (instance : Instance) → H.serves shared.old instance ↔ H.serves shared.new instance }
     ensures entry { (log : LogState) → IsEntry forward.now.instance level forward.now.pushed (world fuel.old.amount (B.state bound.old) (H.state shared.old) log)
         (world fuel.new.amount (B.state bound.new) (H.state shared.new) log) result }
 {
     let seen = bound.now();
-    if seen.code <= level_tag(level).code {
+    if seen <= level_tag(level) {
         return Entry::Decided(Found::Moot { seen });
     }
     let target = lesser(seen, level_tag(level + 1));

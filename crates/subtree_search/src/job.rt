@@ -1,5 +1,5 @@
 // The search of one job.
-ghost use Rattle.std.specs.Prelude.{◌≡◌, ◌≤◌, ℕ, List, [], length};
+ghost use Rattle.std.specs.Prelude.{◌≡◌, ◌↔◌, ◌≤◌, ℕ, List, [], length, OnErr, OnOk};
 ghost use Rattle.fapp_model.specs.declared.instance.Instance.{Instance};
 ghost use Rattle.fapp_model.specs.declared.literal.Literal.{Literal};
 ghost use Rattle.fapp_model.specs.Levels.{levels_of};
@@ -35,7 +35,7 @@ fn search_prefix<B: Bound, H: Shared>(
     requires empty { walk.old.nodes.items ≡ [] }
     requires prefix { IsPrefix forward.old.instance forward.old.pushed }
     requires serves { H.serves shared.old forward.old.instance }
-    ensures serves { H.serves shared.new forward.old.instance }
+    ensures serves { (instance : Instance) → H.serves shared.old instance ↔ H.serves shared.new instance }
     ensures front { forward.new ≡ with_literals forward.old forward.new.pushed }
     ensures lined { Lined forward.old.instance walk.old.level forward.old.pushed (world fuel.old.amount (B.state bound.old) (H.state shared.old) log.old)
         (world fuel.new.amount (B.state bound.new) (H.state shared.new) log.new) result }
@@ -56,7 +56,7 @@ fn finish<H: Shared>(
 ) -> Result<Outcome, NoMemory>
     requires closing { (instance : Instance) × (level : ℕ) × (literals : List Literal) × (old : World) × (fuel : ℕ) × (bound : BoundState) × H.serves shared.old instance
         × IsClosing instance level literals old (world fuel bound (H.state shared.old) log.old) from found }
-    ensures serves { (instance : Instance) → H.serves shared.old instance → H.serves shared.new instance }
+    ensures serves { (instance : Instance) → H.serves shared.old instance ↔ H.serves shared.new instance }
     ensures settled { (instance : Instance) (level : ℕ) (literals : List Literal) (old : World) (fuel : ℕ) (bound : BoundState) →
         IsClosing instance level literals old (world fuel bound (H.state shared.old) log.old) from found →
         Settles instance level literals old (world fuel bound (H.state shared.new) log.new) result }
@@ -91,8 +91,8 @@ fn finish<H: Shared>(
     }
 }
 
-/// Searches a job: each assignment that extends its prefix, at its level. `forward` has no literal before and after, and
-/// counts at the job's level after.
+/// Searches a job: each assignment that extends its prefix, at its level. `forward` has no literal before and after. It
+/// counts at the job's level after, and at the level that it had where `NoMemory` comes.
 ///
 /// Refuted names the line or row that settles the job, Moot what the bound told where it decided, Spent that the fuel did
 /// not suffice. `NoMemory` comes where room for the open nodes, a line, the kept assignment or a segment could not be had.
@@ -110,16 +110,22 @@ pub fn settle<B: Bound, H: Shared>(
     requires level { job.now.level ≤ levels_of forward.old.instance }
     requires prefix { IsPrefix forward.old.instance job.now.prefix }
     requires serves { H.serves shared.old forward.old.instance }
-    ensures serves { H.serves shared.new forward.old.instance }
-    ensures forward { forward.new ≡ at_level forward.old job.now.level }
+    ensures serves { (instance : Instance) → H.serves shared.old instance ↔ H.serves shared.new instance }
+    ensures ok { OnOk result (forward.new ≡ at_level forward.old job.now.level) }
+    ensures err { OnErr result (forward.new ≡ forward.old) }
     ensures settles { Settles forward.old.instance job.now.level job.now.prefix (world fuel.old.amount (B.state bound.old) (H.state shared.old) log.old)
         (world fuel.new.amount (B.state bound.new) (H.state shared.new) log.new) result }
 {
-    forward.keep_level(job.level);
     let mut walk = Walk::new(alloc, job.level, forward.tables().instance().paths.len())?;
+    let before = forward.level();
+    forward.keep_level(job.level);
     let from = log.len();
     push_all(forward, job.prefix.as_slice());
     let found = search_prefix(&mut walk, forward, fuel, bound, shared, log);
     take_all_back(forward);
-    finish(found, from, shared, log)
+    let outcome = finish(found, from, shared, log);
+    if outcome.is_err() {
+        forward.keep_level(before);
+    }
+    outcome
 }

@@ -1,5 +1,7 @@
 // The line that settles a prefix.
 ghost use Rattle.std.specs.Prelude.{◌≡◌, ◌≤◌, ◌⊎◌, [], length, None, Some, IfOk};
+ghost use Rattle.std.specs.List.{AllAdjacentBelow};
+ghost use Rattle.std.specs.List.Sorted.{IsPermutation};
 ghost use Rattle.fapp_model.specs.declared.limits.TheConstants.{MAX_PATHS};
 ghost use Rattle.fapp_model.specs.declared.tag.Tag.{Tag as SomeTag};
 ghost use Rattle.fapp_model.specs.InstanceTags.{IsTagFor};
@@ -9,7 +11,7 @@ ghost use Rattle.fapp_model.specs.search.Dead.{Dead};
 ghost use Rattle.fapp_model.specs.search.Prefixes.{IsPrefix};
 ghost use Rattle.fapp_model.specs.search.WorkOrder.{work_order};
 ghost use Rattle.settle_laws.specs.Lines.{AreSorted, IsConcluded, IsLined};
-ghost use Rattle.subtree_search.specs.Plans.{IsPlanOf};
+ghost use Rattle.subtree_search.specs.Plans.{IsNotAfter, IsPlanOf};
 
 use fapp_cost::cost;
 use fapp_model::{Items, Literal, NoMemory, Tag, tag_of};
@@ -21,19 +23,19 @@ use std::alloc::Global;
 
 /// The literals that are pushed, ascending by path.
 fn sorted_literals(alloc: Global, forward: &Forward) -> Result<Items<Literal>, NoMemory>
-    requires { IsInstance forward.now.instance }
     ensures { IfOk result (AreSorted forward.now.instance forward.now.pushed) }
 {
-    let part = forward.partial();
-    let paths = forward.tables().instance().paths.len() as u16;
-    let mut literals = Vec::with_capacity(alloc, forward.pushed().len())?;
-    for path in 0..paths {
-        let Some(choice) = part.get(path) else {
-            continue;
-        };
-        literals.push(Literal { path, choice })?;
-    }
+    let mut literals = Vec::from_slice(alloc, forward.pushed())?;
+    sort_literals(&mut literals);
     Ok(Items::from_vec(literals))
+}
+
+/// Puts literals in order, by path first.
+fn sort_literals(literals: &mut [Literal])
+    ensures same { IsPermutation literals.old literals.new }
+    ensures ordered { AllAdjacentBelow IsNotAfter literals.new (length literals.new) }
+{
+    literals.sort_unstable();
 }
 
 /// Adds a line on the literals that are pushed.

@@ -9,7 +9,7 @@ use fapp_model::{Tag, Triple, tag_of};
 pub fn lesser(a: Tag, b: Tag) -> Tag
     ensures { result.code ≡ min a.code b.code }
 {
-    if b.code < a.code { b } else { a }
+    if b < a { b } else { a }
 }
 
 /// The tag (level, 0, 0).

@@ -1,6 +1,7 @@
 // The search from the literals that are pushed on.
-ghost use Rattle.std.specs.Prelude.{◌≡◌, [], IfOk, List, length};
+ghost use Rattle.std.specs.Prelude.{◌≡◌, ◌↔◌, [], IfOk, List, length};
 ghost use Rattle.std.specs.declared.alloc.AllocError.{AllocError};
+ghost use Rattle.fapp_model.specs.declared.instance.Instance.{Instance};
 ghost use Rattle.fapp_model.specs.declared.literal.Literal.{Literal};
 ghost use Rattle.fapp_model.specs.search.Prefixes.{IsPrefix};
 ghost use Rattle.count_laws.specs.ForwardStates.{with_literals};
@@ -61,7 +62,7 @@ fn visit<B: Bound, H: Shared>(
     requires serves { H.serves shared.old forward.now.instance }
     ensures ready { IsReady forward.now.instance walk.new }
     ensures level { walk.new.level ≡ walk.old.level }
-    ensures serves { H.serves shared.new forward.now.instance }
+    ensures serves { (instance : Instance) → H.serves shared.old instance ↔ H.serves shared.new instance }
     ensures visited { IsVisited forward.now.instance walk.old.level forward.now.pushed walk.old.nodes.items walk.new.nodes.items
         (world fuel.old.amount (B.state bound.old) (H.state shared.old) log.old) (world fuel.new.amount (B.state bound.new) (H.state shared.new) log.new) result }
 {
@@ -104,7 +105,7 @@ fn advance<B: Bound, H: Shared>(
         (world fuel.old.amount (B.state bound.old) (H.state shared.old) log.old) }
     ensures ready { IsReady forward.old.instance walk.new }
     ensures level { walk.new.level ≡ walk.old.level }
-    ensures serves { H.serves shared.new forward.old.instance }
+    ensures serves { (instance : Instance) → H.serves shared.old instance ↔ H.serves shared.new instance }
     ensures front { forward.new ≡ with_literals forward.old forward.new.pushed }
     ensures advanced { (root : List Literal) (from : World) → IsPrefix forward.old.instance root → IsTrying forward.old.instance walk.old.level root from walk.old.nodes.items forward.old.pushed
         (world fuel.old.amount (B.state bound.old) (H.state shared.old) log.old) → IsAdvanced forward.old.instance walk.old.level root from walk.new.nodes.items forward.new.pushed
@@ -167,7 +168,7 @@ pub fn explore<B: Bound, H: Shared>(
     requires empty { walk.old.nodes.items ≡ [] }
     requires prefix { IsPrefix forward.old.instance forward.old.pushed }
     requires serves { H.serves shared.old forward.old.instance }
-    ensures serves { H.serves shared.new forward.old.instance }
+    ensures serves { (instance : Instance) → H.serves shared.old instance ↔ H.serves shared.new instance }
     ensures front { forward.new ≡ with_literals forward.old forward.new.pushed }
     ensures back { IfOk result (λ found. IsBack found forward.old.pushed forward.new.pushed) }
     ensures searched { Searched forward.old.instance walk.old.level forward.old.pushed (world fuel.old.amount (B.state bound.old) (H.state shared.old) log.old)

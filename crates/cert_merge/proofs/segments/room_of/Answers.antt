@@ -1,4 +1,4 @@
-use Rattle.std.proofs.Common.{ℕ, ◌+◌, ◌<◌, ◌≤◌, List, length, All, take, get_or, ⊎_elim, subst, arith}
+use Rattle.std.proofs.Common.{ℕ, ◌+◌, ◌<◌, ◌≤◌, List, length, All, take, get_or, subst, arith}
 use Rattle.std.proofs.lemmas.List.{take_all}
 use Rattle.std.proofs.lemmas.List.Elements.{All-more, All-weaker}
 use Rattle.merge_laws.specs.declared.piece.Piece.{Piece}
@@ -15,10 +15,11 @@ more ps i low high d inside before rise here =
 
 pub loop-piece-preserved : goal.loop-piece-preserved
 loop-piece-preserved c = elim c.if-room-piece.branch [
-    then-room-piece w ↦ more c.args.pieces.now c.loop-piece.piece-index c.loop-piece.room c.if-room-piece.room no_piece c.loop-piece-test.true c.loop-piece.invariant
-        (omega (arith, w.room-is, w.if-room-piece.true)) (omega (arith, w.room-is))
-    | else-room-piece w ↦ more c.args.pieces.now c.loop-piece.piece-index c.loop-piece.room c.if-room-piece.room no_piece c.loop-piece-test.true c.loop-piece.invariant
-        (omega (arith, w.room-is)) (omega (arith, w.room-is, w.if-room-piece.false)) ]
+  | then-room-piece w ↦ more c.args.pieces.now c.loop-piece.piece-index c.loop-piece.room c.if-room-piece.room no_piece c.loop-piece-test.true c.loop-piece.invariant
+      (omega (arith, w.room-is, w.if-room-piece.true)) (omega (arith, w.room-is))
+  | else-room-piece w ↦ more c.args.pieces.now c.loop-piece.piece-index c.loop-piece.room c.if-room-piece.room no_piece c.loop-piece-test.true c.loop-piece.invariant
+      (omega (arith, w.room-is)) (omega (arith, w.room-is, w.if-room-piece.false))
+]
 
 pub returns : goal.returns
 returns c = subst (λ (ps : List Piece). All (λ p. p.row < c.loop-piece.room) ps) (take_all c.loop-piece.piece-index c.args.pieces.now (omega (arith, c.loop-piece-test.false))) c.loop-piece.invariant

@@ -1,4 +1,4 @@
-use Rattle.std.proofs.Common.{◌≡◌, ℕ, [], ◌∷◌, ◌++◌, ap, ◌∙◌}
+use Rattle.std.proofs.Common.{[], ◌∷◌, ◌++◌, ap, ◌∙◌}
 use Rattle.fapp_model.specs.search.Partials.{literal}
 use Rattle.cert_merge.proofs.Growing.{mapped-more}
 use Rattle.cert_merge.proofs.tree.push_longer.Goals as goal

@@ -8,6 +8,7 @@ use Rattle.search_log.specs.Shares.{IsCiteOf, Looks}
 use Rattle.settle_laws.specs.Levels.{level_code}
 use Rattle.settle_laws.proofs.Entering.{dead-found, is-ticked, moot-found, row-found, spent-found}
 use Rattle.settle_laws.proofs.TagCodes.{tag-small}
+use Rattle.subtree_search.proofs.Comparing.{above-by, at-most-by}
 use Rattle.subtree_search.proofs.enter.enter.Goals as goal
 
 pub level_tag-requires : goal.level_tag-requires
@@ -16,14 +17,14 @@ level_tag-requires g c = omega (arith, (levels-few c.args.forward.now.instance).
 pub level_tag-requires-2 : goal.level_tag-requires-2
 level_tag-requires-2 g c = omega (arith, (levels-few c.args.forward.now.instance).1)
 
-pub returns-then-seen-level_tag-clause-entry : goal.returns-then-seen-level_tag-clause-entry
-returns-then-seen-level_tag-clause-entry g c = λ log. moot-found c.args.forward.now.instance c.args.level c.args.forward.now.pushed c.args.fuel.now.amount (g.B.Bound.state c.args.bound.now) (g.B.Bound.state c.now-seen.new.self) (g.H.Shared.state c.args.shared.now) c.now-seen.result c.now-seen.ensures log
-    (omega (arith, c.if-seen-level_tag.true, c.level_tag.ensures))
+pub returns-then-le-clause-entry : goal.returns-then-le-clause-entry
+returns-then-le-clause-entry g c = λ log. moot-found c.args.forward.now.instance c.args.level c.args.forward.now.pushed c.args.fuel.now.amount (g.B.Bound.state c.args.bound.now) (g.B.Bound.state c.now-seen.new.self) (g.H.Shared.state c.args.shared.now) c.now-seen.result c.now-seen.ensures log
+    (omega (arith, at-most-by c.le.result c.now-seen.result.code c.level_tag.result.code c.le.ensures c.if-le.true, c.level_tag.ensures))
 
 pub returns-in-Some-clause-entry : goal.returns-in-Some-clause-entry
 returns-in-Some-clause-entry g c =
     let f = c.args.forward.now in
-    let low : level_code c.args.level < c.now-seen.result.code = omega (arith, c.if-seen-level_tag.false, c.level_tag.ensures) in
+    let low : level_code c.args.level < c.now-seen.result.code = omega (arith, above-by c.le.result c.now-seen.result.code c.level_tag.result.code c.le.ensures c.if-le.false, c.level_tag.ensures) in
     let at_is : c.lesser-target.result.code ≡ min c.now-seen.result.code (level_code (c.args.level + 1)) = c.lesser-target.ensures ∙ ap (λ n. min c.now-seen.result.code n) c.level_tag-2.ensures in
     λ log. row-found f.instance c.args.level f.pushed c.args.fuel.now.amount (g.B.Bound.state c.args.bound.now) (g.B.Bound.state c.now-seen.new.self) (g.H.Shared.state c.args.shared.now) c.now-seen.result c.now-seen.ensures log
     low c.lesser-target.result at_is c.partial.result.now (g.H.Shared.state c.lookup.new.self) (λ a. (c.partial.ensures.given a).0) c.in-Some.cite
@@ -37,7 +38,7 @@ is_dead-requires g c = tag-small c.args.forward.now.instance c.args.level c.less
 pub returns-then-is_dead-clause-entry : goal.returns-then-is_dead-clause-entry
 returns-then-is_dead-clause-entry g c =
     let f = c.args.forward.now in
-    let low : level_code c.args.level < c.now-seen.result.code = omega (arith, c.if-seen-level_tag.false, c.level_tag.ensures) in
+    let low : level_code c.args.level < c.now-seen.result.code = omega (arith, above-by c.le.result c.now-seen.result.code c.level_tag.result.code c.le.ensures c.if-le.false, c.level_tag.ensures) in
     let at_is : c.lesser-target.result.code ≡ min c.now-seen.result.code (level_code (c.args.level + 1)) = c.lesser-target.ensures ∙ ap (λ n. min c.now-seen.result.code n) c.level_tag-2.ensures in
     λ log. dead-found f.instance c.args.level f.pushed c.args.fuel.now.amount (g.B.Bound.state c.args.bound.now) (g.B.Bound.state c.now-seen.new.self) (g.H.Shared.state c.args.shared.now) c.now-seen.result c.now-seen.ensures log
     low c.lesser-target.result at_is c.partial.result.now (g.H.Shared.state c.lookup.new.self)
@@ -47,7 +48,7 @@ returns-then-is_dead-clause-entry g c =
 pub returns-then-not-take-clause-entry : goal.returns-then-not-take-clause-entry
 returns-then-not-take-clause-entry g c =
     let f = c.args.forward.now in
-    let low : level_code c.args.level < c.now-seen.result.code = omega (arith, c.if-seen-level_tag.false, c.level_tag.ensures) in
+    let low : level_code c.args.level < c.now-seen.result.code = omega (arith, above-by c.le.result c.now-seen.result.code c.level_tag.result.code c.le.ensures c.if-le.false, c.level_tag.ensures) in
     let at_is : c.lesser-target.result.code ≡ min c.now-seen.result.code (level_code (c.args.level + 1)) = c.lesser-target.ensures ∙ ap (λ n. min c.now-seen.result.code n) c.level_tag-2.ensures in
     let alive : Dead f.instance (triple_from c.lesser-target.result.code) f.pushed → ⊥ = λ dead. true≢false (sym (c.is_dead.ensures.1 dead) ∙ c.if-is_dead.false) in
     let taken : Takes c.args.fuel.now.amount c.take.new.self.amount false = subst (λ b. Takes c.args.fuel.now.amount c.take.new.self.amount b) c.if-not-take.true c.take.ensures in
@@ -59,7 +60,7 @@ returns-then-not-take-clause-entry g c =
 pub returns-clause-entry : goal.returns-clause-entry
 returns-clause-entry g c =
     let f = c.args.forward.now in
-    let low : level_code c.args.level < c.now-seen.result.code = omega (arith, c.if-seen-level_tag.false, c.level_tag.ensures) in
+    let low : level_code c.args.level < c.now-seen.result.code = omega (arith, above-by c.le.result c.now-seen.result.code c.level_tag.result.code c.le.ensures c.if-le.false, c.level_tag.ensures) in
     let at_is : c.lesser-target.result.code ≡ min c.now-seen.result.code (level_code (c.args.level + 1)) = c.lesser-target.ensures ∙ ap (λ n. min c.now-seen.result.code n) c.level_tag-2.ensures in
     let alive : Dead f.instance (triple_from c.lesser-target.result.code) f.pushed → ⊥ = λ dead. true≢false (sym (c.is_dead.ensures.1 dead) ∙ c.if-is_dead.false) in
     let taken : Takes c.args.fuel.now.amount c.take.new.self.amount true = subst (λ b. Takes c.args.fuel.now.amount c.take.new.self.amount b) c.if-not-take.false c.take.ensures in

@@ -63,4 +63,4 @@ pub returns-in-Spent-clause-settled : goal.returns-in-Spent-clause-settled
 returns-in-Spent-clause-settled g c = λ instance level literals old fuel bound k.
     let e : c.args.found ≡ Ok Spent = found-as c.args.found c.in-Ok.found Spent c.in-Ok.is c.in-Spent.is in
     let mid = world fuel bound (g.H.Shared.state c.args.shared.now) c.args.log.now in
-    spent-settles instance level literals old mid c.cut-in-Spent.new.self c.args.from k.from_is k.behind c.cut-in-Spent.ensures k.prefix (subst (λ f. Lined instance level literals old mid f) e k.lined)
+    spent-settles instance level literals old mid c.cut-in-Spent.new.self c.args.from k.from_is k.behind c.cut-in-Spent.ensures k.valid k.within k.prefix (subst (λ f. Lined instance level literals old mid f) e k.lined)

@@ -1,5 +1,6 @@
 use Rattle.std.proofs.Common.{◌≡◌, ap, subst, ◌∙◌, arith}
 use Rattle.count_laws.specs.ForwardStates.{ForwardState, at_level, with_literals}
+use Rattle.fapp_model.specs.Instances.{IsInstance}
 use Rattle.settle_laws.specs.Lined.{Lined}
 use Rattle.settle_laws.specs.Worlds.{world}
 use Rattle.settle_laws.proofs.Settling.{nothing-settles}
@@ -14,7 +15,9 @@ returns-clause-settles g c =
     let f = c.args.forward.now in
     let pushed : c.push_all.new.forward ≡ with_literals (at_level f c.args.job.now.level) c.args.job.now.prefix = c.push_all.ensures ∙ (ap (λ s. with_literals s c.as_slice.result.now) c.keep_level.ensures ∙ ap (λ lits. with_literals (at_level f c.args.job.now.level) lits) c.as_slice.ensures) in
     let lined : Lined f.instance c.in_ok-walk.walk.level c.args.job.now.prefix (world c.args.fuel.now.amount (g.B.Bound.state c.args.bound.now) (g.H.Shared.state c.args.shared.now) c.args.log.now) (world c.search_prefix-found.new.fuel.amount (g.B.Bound.state c.search_prefix-found.new.bound) (g.H.Shared.state c.search_prefix-found.new.shared) c.search_prefix-found.new.log) c.search_prefix-found.result = subst (λ (s : ForwardState). Lined s.instance c.in_ok-walk.walk.level s.pushed (world c.args.fuel.now.amount (g.B.Bound.state c.args.bound.now) (g.H.Shared.state c.args.shared.now) c.args.log.now) (world c.search_prefix-found.new.fuel.amount (g.B.Bound.state c.search_prefix-found.new.bound) (g.H.Shared.state c.search_prefix-found.new.shared) c.search_prefix-found.new.log) c.search_prefix-found.result) pushed c.search_prefix-found.ensures.lined in
-    c.finish.ensures.settled f.instance c.args.job.now.level c.args.job.now.prefix (world c.args.fuel.now.amount (g.B.Bound.state c.args.bound.now) (g.H.Shared.state c.args.shared.now) c.args.log.now) c.search_prefix-found.new.fuel.amount (g.B.Bound.state c.search_prefix-found.new.bound) (record {
+    c.finish-outcome.ensures.settled f.instance c.args.job.now.level c.args.job.now.prefix (world c.args.fuel.now.amount (g.B.Bound.state c.args.bound.now) (g.H.Shared.state c.args.shared.now) c.args.log.now) c.search_prefix-found.new.fuel.amount (g.B.Bound.state c.search_prefix-found.new.bound) (record {
+      valid = subst IsInstance (c.instance.ensures.value ∙ c.tables.ensures) c.instance.ensures.valid;
+      within = c.requires.level;
       prefix = c.requires.prefix;
       from_is = c.len-from.ensures.count;
       behind = omega (arith, c.len-from.ensures.ended, c.len-from.ensures.count);

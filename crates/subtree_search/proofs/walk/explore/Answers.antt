@@ -4,6 +4,7 @@ use Rattle.settle_laws.specs.Worlds.{world}
 use Rattle.subtree_search.specs.Steps.{IsAdvanced, IsNoted, IsVisited, Lightens, NotesLess}
 use Rattle.subtree_search.specs.Walks.{work_left}
 use Rattle.subtree_search.proofs.Exploring.{comes-back, comes-here, err-any, fronted-on, opened-trying, prefix-here, ready-here, same-instance, searched-back, searched-err, trying-back, trying-here}
+use Rattle.subtree_search.proofs.Serving.{serves-trans}
 use Rattle.subtree_search.proofs.walk.explore.Goals as goal
 
 pub loop-found-init : goal.loop-found-init
@@ -20,13 +21,13 @@ pub advance-requires-clause-ready : goal.advance-requires-clause-ready
 advance-requires-clause-ready g c = ready-here c.args.forward.now c.loop-found.forward c.args.walk.now.level c.loop-found.walk c.loop-found.invariant.exploring.fronted
 
 pub advance-requires-clause-serves : goal.advance-requires-clause-serves
-advance-requires-clause-serves g c = subst (λ i. g.H.Shared.serves c.loop-found.shared i) (sym (same-instance c.args.forward.now c.loop-found.forward c.args.walk.now.level c.loop-found.walk c.loop-found.invariant.exploring.fronted)) c.loop-found.invariant.serves
+advance-requires-clause-serves g c = subst (λ i. g.H.Shared.serves c.loop-found.shared i) (sym (same-instance c.args.forward.now c.loop-found.forward c.args.walk.now.level c.loop-found.walk c.loop-found.invariant.exploring.fronted)) ((c.loop-found.invariant.serves c.args.forward.now.instance).0 c.requires.serves)
 
 pub advance-requires-clause-trying : goal.advance-requires-clause-trying
 advance-requires-clause-trying g c = (c.args.forward.now.pushed, (world c.args.fuel.now.amount (g.B.Bound.state c.args.bound.now) (g.H.Shared.state c.args.shared.now) c.args.log.now), prefix-here c.args.forward.now c.loop-found.forward c.args.walk.now.level c.loop-found.walk c.loop-found.invariant.exploring.fronted, (trying-here c.args.forward.now c.loop-found.forward c.args.walk.now.level c.loop-found.walk c.loop-found.invariant.exploring.fronted (world c.args.fuel.now.amount (g.B.Bound.state c.args.bound.now) (g.H.Shared.state c.args.shared.now) c.args.log.now) (world c.loop-found.fuel.amount (g.B.Bound.state c.loop-found.bound) (g.H.Shared.state c.loop-found.shared) c.loop-found.log) c.loop-found.walk.nodes.items c.loop-found.forward.pushed c.loop-found.invariant.exploring.trying))
 
 pub returns-in_err-found-2-clause-serves : goal.returns-in_err-found-2-clause-serves
-returns-in_err-found-2-clause-serves g c = subst (λ i. g.H.Shared.serves c.advance.new.shared i) (same-instance c.args.forward.now c.loop-found.forward c.args.walk.now.level c.loop-found.walk c.loop-found.invariant.exploring.fronted) c.advance.ensures.serves
+returns-in_err-found-2-clause-serves g c = serves-trans (g.H.Shared.serves c.args.shared.now) (g.H.Shared.serves c.loop-found.shared) (g.H.Shared.serves c.advance.new.shared) c.loop-found.invariant.serves c.advance.ensures.serves
 
 pub returns-in_err-found-2-clause-front : goal.returns-in_err-found-2-clause-front
 returns-in_err-found-2-clause-front g c = (fronted-on c.args.forward.now c.loop-found.forward c.args.walk.now.level c.loop-found.walk c.loop-found.invariant.exploring.fronted c.advance.new.forward c.advance.ensures.front c.advance.new.walk c.advance.ensures.level c.advance.ensures.ready).front
@@ -41,7 +42,7 @@ loop-found-smaller-in_default-2 g c = subst (λ o. Lightens {E = AllocError} (wo
 
 pub loop-found-preserved-in_default-2 : goal.loop-found-preserved-in_default-2
 loop-found-preserved-in_default-2 g c = record {
-  serves = subst (λ i. g.H.Shared.serves c.advance.new.shared i) (same-instance c.args.forward.now c.loop-found.forward c.args.walk.now.level c.loop-found.walk c.loop-found.invariant.exploring.fronted) c.advance.ensures.serves;
+  serves = serves-trans (g.H.Shared.serves c.args.shared.now) (g.H.Shared.serves c.loop-found.shared) (g.H.Shared.serves c.advance.new.shared) c.loop-found.invariant.serves c.advance.ensures.serves;
   exploring = record {
     fronted = (fronted-on c.args.forward.now c.loop-found.forward c.args.walk.now.level c.loop-found.walk c.loop-found.invariant.exploring.fronted c.advance.new.forward c.advance.ensures.front c.advance.new.walk c.advance.ensures.level c.advance.ensures.ready);
     trying = trying-back c.args.forward.now c.loop-found.forward c.args.walk.now.level c.loop-found.walk c.loop-found.invariant.exploring.fronted (world c.args.fuel.now.amount (g.B.Bound.state c.args.bound.now) (g.H.Shared.state c.args.shared.now) c.args.log.now) (world c.advance.new.fuel.amount (g.B.Bound.state c.advance.new.bound) (g.H.Shared.state c.advance.new.shared) c.advance.new.log) c.advance.new.walk.nodes.items c.advance.new.forward.pushed (subst (λ o. IsAdvanced {E = AllocError} c.loop-found.forward.instance c.loop-found.walk.level c.args.forward.now.pushed (world c.args.fuel.now.amount (g.B.Bound.state c.args.bound.now) (g.H.Shared.state c.args.shared.now) c.args.log.now) c.advance.new.walk.nodes.items c.advance.new.forward.pushed (world c.advance.new.fuel.amount (g.B.Bound.state c.advance.new.bound) (g.H.Shared.state c.advance.new.shared) c.advance.new.log) (Ok o)) c.in_default-2.is (c.in_ok-found-2.ensures.advanced c.args.forward.now.pushed (world c.args.fuel.now.amount (g.B.Bound.state c.args.bound.now) (g.H.Shared.state c.args.shared.now) c.args.log.now) (prefix-here c.args.forward.now c.loop-found.forward c.args.walk.now.level c.loop-found.walk c.loop-found.invariant.exploring.fronted) (trying-here c.args.forward.now c.loop-found.forward c.args.walk.now.level c.loop-found.walk c.loop-found.invariant.exploring.fronted (world c.args.fuel.now.amount (g.B.Bound.state c.args.bound.now) (g.H.Shared.state c.args.shared.now) c.args.log.now) (world c.loop-found.fuel.amount (g.B.Bound.state c.loop-found.bound) (g.H.Shared.state c.loop-found.shared) c.loop-found.log) c.loop-found.walk.nodes.items c.loop-found.forward.pushed c.loop-found.invariant.exploring.trying)));
@@ -55,7 +56,7 @@ pub note-requires-clause-coming : goal.note-requires-clause-coming
 note-requires-clause-coming g c = (c.args.forward.now.pushed, (world c.args.fuel.now.amount (g.B.Bound.state c.args.bound.now) (g.H.Shared.state c.args.shared.now) c.args.log.now), (world c.advance.new.fuel.amount (g.B.Bound.state c.advance.new.bound) (g.H.Shared.state c.advance.new.shared) c.advance.new.log), prefix-here c.args.forward.now c.advance.new.forward c.args.walk.now.level c.advance.new.walk (fronted-on c.args.forward.now c.loop-found.forward c.args.walk.now.level c.loop-found.walk c.loop-found.invariant.exploring.fronted c.advance.new.forward c.advance.ensures.front c.advance.new.walk c.advance.ensures.level c.advance.ensures.ready), (comes-here c.args.forward.now c.advance.new.forward c.args.walk.now.level c.advance.new.walk (fronted-on c.args.forward.now c.loop-found.forward c.args.walk.now.level c.loop-found.walk c.loop-found.invariant.exploring.fronted c.advance.new.forward c.advance.ensures.front c.advance.new.walk c.advance.ensures.level c.advance.ensures.ready) (world c.args.fuel.now.amount (g.B.Bound.state c.args.bound.now) (g.H.Shared.state c.args.shared.now) c.args.log.now) (world c.advance.new.fuel.amount (g.B.Bound.state c.advance.new.bound) (g.H.Shared.state c.advance.new.shared) c.advance.new.log) {E = AllocError} c.advance.new.walk.nodes.items c.advance.new.forward.pushed (Ok c.in-Some-2.found) (comes-back c.args.forward.now c.loop-found.forward c.args.walk.now.level c.loop-found.walk c.loop-found.invariant.exploring.fronted (world c.args.fuel.now.amount (g.B.Bound.state c.args.bound.now) (g.H.Shared.state c.args.shared.now) c.args.log.now) (world c.advance.new.fuel.amount (g.B.Bound.state c.advance.new.bound) (g.H.Shared.state c.advance.new.shared) c.advance.new.log) {E = AllocError} c.advance.new.walk.nodes.items c.advance.new.forward.pushed (Ok c.in-Some-2.found) (subst (λ o. IsAdvanced {E = AllocError} c.loop-found.forward.instance c.loop-found.walk.level c.args.forward.now.pushed (world c.args.fuel.now.amount (g.B.Bound.state c.args.bound.now) (g.H.Shared.state c.args.shared.now) c.args.log.now) c.advance.new.walk.nodes.items c.advance.new.forward.pushed (world c.advance.new.fuel.amount (g.B.Bound.state c.advance.new.bound) (g.H.Shared.state c.advance.new.shared) c.advance.new.log) (Ok o)) c.in-Some-2.is (c.in_ok-found-2.ensures.advanced c.args.forward.now.pushed (world c.args.fuel.now.amount (g.B.Bound.state c.args.bound.now) (g.H.Shared.state c.args.shared.now) c.args.log.now) (prefix-here c.args.forward.now c.loop-found.forward c.args.walk.now.level c.loop-found.walk c.loop-found.invariant.exploring.fronted) (trying-here c.args.forward.now c.loop-found.forward c.args.walk.now.level c.loop-found.walk c.loop-found.invariant.exploring.fronted (world c.args.fuel.now.amount (g.B.Bound.state c.args.bound.now) (g.H.Shared.state c.args.shared.now) c.args.log.now) (world c.loop-found.fuel.amount (g.B.Bound.state c.loop-found.bound) (g.H.Shared.state c.loop-found.shared) c.loop-found.log) c.loop-found.walk.nodes.items c.loop-found.forward.pushed c.loop-found.invariant.exploring.trying))))))
 
 pub returns-in_err-end-clause-serves : goal.returns-in_err-end-clause-serves
-returns-in_err-end-clause-serves g c = subst (λ i. g.H.Shared.serves c.advance.new.shared i) (same-instance c.args.forward.now c.loop-found.forward c.args.walk.now.level c.loop-found.walk c.loop-found.invariant.exploring.fronted) c.advance.ensures.serves
+returns-in_err-end-clause-serves g c = serves-trans (g.H.Shared.serves c.args.shared.now) (g.H.Shared.serves c.loop-found.shared) (g.H.Shared.serves c.advance.new.shared) c.loop-found.invariant.serves c.advance.ensures.serves
 
 pub returns-in_err-end-clause-front : goal.returns-in_err-end-clause-front
 returns-in_err-end-clause-front g c = (fronted-on c.args.forward.now c.advance.new.forward c.args.walk.now.level c.advance.new.walk (fronted-on c.args.forward.now c.loop-found.forward c.args.walk.now.level c.loop-found.walk c.loop-found.invariant.exploring.fronted c.advance.new.forward c.advance.ensures.front c.advance.new.walk c.advance.ensures.level c.advance.ensures.ready) c.note.new.forward c.note.ensures.front c.note.new.walk c.note.ensures.level c.note.ensures.ready).front
@@ -65,7 +66,7 @@ returns-in_err-end-clause-searched g c = searched-err c.args.forward.now.instanc
     (λ e. searched-back c.args.forward.now c.advance.new.forward c.args.walk.now.level c.advance.new.walk (fronted-on c.args.forward.now c.loop-found.forward c.args.walk.now.level c.loop-found.walk c.loop-found.invariant.exploring.fronted c.advance.new.forward c.advance.ensures.front c.advance.new.walk c.advance.ensures.level c.advance.ensures.ready) (world c.args.fuel.now.amount (g.B.Bound.state c.args.bound.now) (g.H.Shared.state c.args.shared.now) c.args.log.now) (world c.advance.new.fuel.amount (g.B.Bound.state c.advance.new.bound) (g.H.Shared.state c.advance.new.shared) c.advance.new.log) (Err e) (err-any c.advance.new.forward.instance c.advance.new.walk.level c.args.forward.now.pushed (world c.args.fuel.now.amount (g.B.Bound.state c.args.bound.now) (g.H.Shared.state c.args.shared.now) c.args.log.now) (world c.advance.new.fuel.amount (g.B.Bound.state c.advance.new.bound) (g.H.Shared.state c.advance.new.shared) c.advance.new.log) c.in_err-end.field-0.0 (c.in_err-end.ensures.noted c.args.forward.now.pushed (world c.args.fuel.now.amount (g.B.Bound.state c.args.bound.now) (g.H.Shared.state c.args.shared.now) c.args.log.now) (world c.advance.new.fuel.amount (g.B.Bound.state c.advance.new.bound) (g.H.Shared.state c.advance.new.shared) c.advance.new.log) (prefix-here c.args.forward.now c.advance.new.forward c.args.walk.now.level c.advance.new.walk (fronted-on c.args.forward.now c.loop-found.forward c.args.walk.now.level c.loop-found.walk c.loop-found.invariant.exploring.fronted c.advance.new.forward c.advance.ensures.front c.advance.new.walk c.advance.ensures.level c.advance.ensures.ready)) (comes-here c.args.forward.now c.advance.new.forward c.args.walk.now.level c.advance.new.walk (fronted-on c.args.forward.now c.loop-found.forward c.args.walk.now.level c.loop-found.walk c.loop-found.invariant.exploring.fronted c.advance.new.forward c.advance.ensures.front c.advance.new.walk c.advance.ensures.level c.advance.ensures.ready) (world c.args.fuel.now.amount (g.B.Bound.state c.args.bound.now) (g.H.Shared.state c.args.shared.now) c.args.log.now) (world c.advance.new.fuel.amount (g.B.Bound.state c.advance.new.bound) (g.H.Shared.state c.advance.new.shared) c.advance.new.log) {E = AllocError} c.advance.new.walk.nodes.items c.advance.new.forward.pushed (Ok c.in-Some-2.found) (comes-back c.args.forward.now c.loop-found.forward c.args.walk.now.level c.loop-found.walk c.loop-found.invariant.exploring.fronted (world c.args.fuel.now.amount (g.B.Bound.state c.args.bound.now) (g.H.Shared.state c.args.shared.now) c.args.log.now) (world c.advance.new.fuel.amount (g.B.Bound.state c.advance.new.bound) (g.H.Shared.state c.advance.new.shared) c.advance.new.log) {E = AllocError} c.advance.new.walk.nodes.items c.advance.new.forward.pushed (Ok c.in-Some-2.found) (subst (λ o. IsAdvanced {E = AllocError} c.loop-found.forward.instance c.loop-found.walk.level c.args.forward.now.pushed (world c.args.fuel.now.amount (g.B.Bound.state c.args.bound.now) (g.H.Shared.state c.args.shared.now) c.args.log.now) c.advance.new.walk.nodes.items c.advance.new.forward.pushed (world c.advance.new.fuel.amount (g.B.Bound.state c.advance.new.bound) (g.H.Shared.state c.advance.new.shared) c.advance.new.log) (Ok o)) c.in-Some-2.is (c.in_ok-found-2.ensures.advanced c.args.forward.now.pushed (world c.args.fuel.now.amount (g.B.Bound.state c.args.bound.now) (g.H.Shared.state c.args.shared.now) c.args.log.now) (prefix-here c.args.forward.now c.loop-found.forward c.args.walk.now.level c.loop-found.walk c.loop-found.invariant.exploring.fronted) (trying-here c.args.forward.now c.loop-found.forward c.args.walk.now.level c.loop-found.walk c.loop-found.invariant.exploring.fronted (world c.args.fuel.now.amount (g.B.Bound.state c.args.bound.now) (g.H.Shared.state c.args.shared.now) c.args.log.now) (world c.loop-found.fuel.amount (g.B.Bound.state c.loop-found.bound) (g.H.Shared.state c.loop-found.shared) c.loop-found.log) c.loop-found.walk.nodes.items c.loop-found.forward.pushed c.loop-found.invariant.exploring.trying)))))) e))
 
 pub returns-in-Some-3-clause-serves : goal.returns-in-Some-3-clause-serves
-returns-in-Some-3-clause-serves g c = subst (λ i. g.H.Shared.serves c.advance.new.shared i) (same-instance c.args.forward.now c.loop-found.forward c.args.walk.now.level c.loop-found.walk c.loop-found.invariant.exploring.fronted) c.advance.ensures.serves
+returns-in-Some-3-clause-serves g c = serves-trans (g.H.Shared.serves c.args.shared.now) (g.H.Shared.serves c.loop-found.shared) (g.H.Shared.serves c.advance.new.shared) c.loop-found.invariant.serves c.advance.ensures.serves
 
 pub returns-in-Some-3-clause-front : goal.returns-in-Some-3-clause-front
 returns-in-Some-3-clause-front g c = (fronted-on c.args.forward.now c.advance.new.forward c.args.walk.now.level c.advance.new.walk (fronted-on c.args.forward.now c.loop-found.forward c.args.walk.now.level c.loop-found.walk c.loop-found.invariant.exploring.fronted c.advance.new.forward c.advance.ensures.front c.advance.new.walk c.advance.ensures.level c.advance.ensures.ready) c.note.new.forward c.note.ensures.front c.note.new.walk c.note.ensures.level c.note.ensures.ready).front
@@ -84,7 +85,7 @@ loop-found-smaller g c =
 
 pub loop-found-preserved : goal.loop-found-preserved
 loop-found-preserved g c = record {
-  serves = subst (λ i. g.H.Shared.serves c.advance.new.shared i) (same-instance c.args.forward.now c.loop-found.forward c.args.walk.now.level c.loop-found.walk c.loop-found.invariant.exploring.fronted) c.advance.ensures.serves;
+  serves = serves-trans (g.H.Shared.serves c.args.shared.now) (g.H.Shared.serves c.loop-found.shared) (g.H.Shared.serves c.advance.new.shared) c.loop-found.invariant.serves c.advance.ensures.serves;
   exploring = record {
     fronted = fronted-on c.args.forward.now c.advance.new.forward c.args.walk.now.level c.advance.new.walk (fronted-on c.args.forward.now c.loop-found.forward c.args.walk.now.level c.loop-found.walk c.loop-found.invariant.exploring.fronted c.advance.new.forward c.advance.ensures.front c.advance.new.walk c.advance.ensures.level c.advance.ensures.ready) c.note.new.forward c.note.ensures.front c.note.new.walk c.note.ensures.level c.note.ensures.ready;
     trying = trying-back c.args.forward.now c.advance.new.forward c.args.walk.now.level c.advance.new.walk (fronted-on c.args.forward.now c.loop-found.forward c.args.walk.now.level c.loop-found.walk c.loop-found.invariant.exploring.fronted c.advance.new.forward c.advance.ensures.front c.advance.new.walk c.advance.ensures.level c.advance.ensures.ready) (world c.args.fuel.now.amount (g.B.Bound.state c.args.bound.now) (g.H.Shared.state c.args.shared.now) c.args.log.now) (world c.advance.new.fuel.amount (g.B.Bound.state c.advance.new.bound) (g.H.Shared.state c.advance.new.shared) c.advance.new.log) c.note.new.walk.nodes.items c.note.new.forward.pushed (subst (λ o. IsNoted {E = AllocError} c.advance.new.forward.instance c.advance.new.walk.level c.args.forward.now.pushed (world c.args.fuel.now.amount (g.B.Bound.state c.args.bound.now) (g.H.Shared.state c.args.shared.now) c.args.log.now) c.note.new.walk.nodes.items c.note.new.forward.pushed (world c.advance.new.fuel.amount (g.B.Bound.state c.advance.new.bound) (g.H.Shared.state c.advance.new.shared) c.advance.new.log) (Ok o)) c.in_default-3.is (c.in_ok-end.ensures.noted c.args.forward.now.pushed (world c.args.fuel.now.amount (g.B.Bound.state c.args.bound.now) (g.H.Shared.state c.args.shared.now) c.args.log.now) (world c.advance.new.fuel.amount (g.B.Bound.state c.advance.new.bound) (g.H.Shared.state c.advance.new.shared) c.advance.new.log) (prefix-here c.args.forward.now c.advance.new.forward c.args.walk.now.level c.advance.new.walk (fronted-on c.args.forward.now c.loop-found.forward c.args.walk.now.level c.loop-found.walk c.loop-found.invariant.exploring.fronted c.advance.new.forward c.advance.ensures.front c.advance.new.walk c.advance.ensures.level c.advance.ensures.ready)) (comes-here c.args.forward.now c.advance.new.forward c.args.walk.now.level c.advance.new.walk (fronted-on c.args.forward.now c.loop-found.forward c.args.walk.now.level c.loop-found.walk c.loop-found.invariant.exploring.fronted c.advance.new.forward c.advance.ensures.front c.advance.new.walk c.advance.ensures.level c.advance.ensures.ready) (world c.args.fuel.now.amount (g.B.Bound.state c.args.bound.now) (g.H.Shared.state c.args.shared.now) c.args.log.now) (world c.advance.new.fuel.amount (g.B.Bound.state c.advance.new.bound) (g.H.Shared.state c.advance.new.shared) c.advance.new.log) {E = AllocError} c.advance.new.walk.nodes.items c.advance.new.forward.pushed (Ok c.in-Some-2.found) (comes-back c.args.forward.now c.loop-found.forward c.args.walk.now.level c.loop-found.walk c.loop-found.invariant.exploring.fronted (world c.args.fuel.now.amount (g.B.Bound.state c.args.bound.now) (g.H.Shared.state c.args.shared.now) c.args.log.now) (world c.advance.new.fuel.amount (g.B.Bound.state c.advance.new.bound) (g.H.Shared.state c.advance.new.shared) c.advance.new.log) {E = AllocError} c.advance.new.walk.nodes.items c.advance.new.forward.pushed (Ok c.in-Some-2.found) (subst (λ o. IsAdvanced {E = AllocError} c.loop-found.forward.instance c.loop-found.walk.level c.args.forward.now.pushed (world c.args.fuel.now.amount (g.B.Bound.state c.args.bound.now) (g.H.Shared.state c.args.shared.now) c.args.log.now) c.advance.new.walk.nodes.items c.advance.new.forward.pushed (world c.advance.new.fuel.amount (g.B.Bound.state c.advance.new.bound) (g.H.Shared.state c.advance.new.shared) c.advance.new.log) (Ok o)) c.in-Some-2.is (c.in_ok-found-2.ensures.advanced c.args.forward.now.pushed (world c.args.fuel.now.amount (g.B.Bound.state c.args.bound.now) (g.H.Shared.state c.args.shared.now) c.args.log.now) (prefix-here c.args.forward.now c.loop-found.forward c.args.walk.now.level c.loop-found.walk c.loop-found.invariant.exploring.fronted) (trying-here c.args.forward.now c.loop-found.forward c.args.walk.now.level c.loop-found.walk c.loop-found.invariant.exploring.fronted (world c.args.fuel.now.amount (g.B.Bound.state c.args.bound.now) (g.H.Shared.state c.args.shared.now) c.args.log.now) (world c.loop-found.fuel.amount (g.B.Bound.state c.loop-found.bound) (g.H.Shared.state c.loop-found.shared) c.loop-found.log) c.loop-found.walk.nodes.items c.loop-found.forward.pushed c.loop-found.invariant.exploring.trying)))))));

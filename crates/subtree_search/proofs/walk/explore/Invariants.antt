@@ -1,12 +1,14 @@
+use Rattle.std.specs.Prelude.{◌↔◌}
+use Rattle.fapp_model.specs.declared.instance.Instance.{Instance}
 use Rattle.settle_laws.specs.Worlds.{world}
 use Rattle.subtree_search.specs.Walks.{work_left}
 use Rattle.subtree_search.proofs.Exploring.{Exploring}
 use Rattle.subtree_search.proofs.walk.explore.Given as goal
 
--- the innermost node's choices before its own were tried, and the rows serve the instance
+-- the innermost node's choices before its own were tried, and the rows serve the same instances
 abbrev pub invariant-loop-found : goal.invariant-loop-found
 invariant-loop-found g l = record {
-  serves : g.H.Shared.serves l.shared l.fn.forward.instance;
+  serves : (instance : Instance) → g.H.Shared.serves l.fn.shared instance ↔ g.H.Shared.serves l.shared instance;
   exploring : Exploring l.fn.forward l.forward l.fn.walk.level
       (world l.fn.fuel.amount (g.B.Bound.state l.fn.bound) (g.H.Shared.state l.fn.shared) l.fn.log)
       (world l.fuel.amount (g.B.Bound.state l.bound) (g.H.Shared.state l.shared) l.log) l.walk;

@@ -1,4 +1,4 @@
-use Rattle.std.proofs.Common.{◌≡◌, length, get_or, Err, Ok, ap, ◌∙◌, refl, arith}
+use Rattle.std.proofs.Common.{◌≡◌, length, get_or, Err, Ok, ap, ◌∙◌, refl, inl, arith}
 use Rattle.fapp_model.specs.declared.instance.Instance.{Instance}
 use Rattle.fapp_model.specs.search.WorkOrder.{work_order}
 use Rattle.tries_laws.proofs.PrefixParts.{prefix-is_partial}
@@ -56,7 +56,7 @@ returns-in_err-push-clause-visited g c =
     let old = world c.args.fuel.now.amount (g.B.Bound.state c.args.bound.now) (g.H.Shared.state c.args.shared.now) c.args.log.now in
     let now = world c.enter.new.fuel.amount (g.B.Bound.state c.enter.new.bound) (g.H.Shared.state c.enter.new.shared) c.args.log.now in
     visited-err f.instance c.args.walk.now.level f.pushed c.args.walk.now.nodes.items c.push.new.self.items old now c.from_residual-in_err-push.result c.from_residual-in_err-push.ensures.0
-    (λ e. tick-ends f.instance c.requires.ready.valid c.args.walk.now.level c.requires.ready.level f.pushed c.requires.prefix old now c.in-Ticked.target (c.in-Ticked.ensures.entry c.args.log.now) now (keeps-same f.instance f.pushed now) refl refl e)
+    (λ e. tick-ends f.instance c.requires.ready.valid c.args.walk.now.level c.requires.ready.level f.pushed c.requires.prefix old now c.in-Ticked.target (c.in-Ticked.ensures.entry c.args.log.now) now (keeps-same f.instance now) refl refl (inl (c.in-Ticked.ensures.entry c.args.log.now).least) e)
 
 pub returns-clause-visited : goal.returns-clause-visited
 returns-clause-visited g c =

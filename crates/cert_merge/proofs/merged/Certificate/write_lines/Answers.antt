@@ -18,10 +18,12 @@ returns-in_default-clause-rest c =
 pub loop-preserved : goal.loop-preserved
 loop-preserved c =
     let room = room-one c.args.log c.in-Some.line c.args.self.now c.loop.self c.write_line.new.self c.in_ok-write_line.ensures c.loop.invariant.1 in
-    let inside : c.args.log < length c.write_line.new.self.own = omega (arith, room.own, c.requires) in
-    (inside, room,
-    way-more c.args.log c.args.count c.loop.counter c.args.rest.now c.args.self.now c.loop.rest c.loop.self c.loop.invariant.2
-    c.in-Some.line c.next.new.self c.write_line.new.self c.loop-test.true c.in-Some.ensures c.in_ok-write_line.ensures)
+    let inside : c.args.log < length c.write_line.new.self.own = omega (arith, room.own, c.requires) in (
+      inside,
+      room,
+      way-more c.args.log c.args.count c.loop.counter c.args.rest.now c.args.self.now c.loop.rest c.loop.self c.loop.invariant.2
+          c.in-Some.line c.next.new.self c.write_line.new.self c.loop-test.true c.in-Some.ensures c.in_ok-write_line.ensures,
+    )
 
 pub returns-clause-lines : goal.returns-clause-lines
 returns-clause-lines c = (way-end c.args.log c.args.count c.loop.counter c.args.rest.now c.args.self.now c.loop.rest c.loop.self c.loop.invariant.2 c.loop-test.false).0

@@ -9,3 +9,10 @@ overflow_mul-result c =
     omega (arith, c.self.invariant.count, c.self.invariant.few, prefixes-few c.self.inside.instance.now c.self.inside.split c.self.invariant.some) in
     let most = mul-le (c.levels.result + 1) c.self.inside.prefixes 12 4096 (omega (arith, c.levels.ensures.few)) few in
     omega arith
+
+pub returns-clause-few : goal.returns-clause-few
+returns-clause-few c =
+    let few : c.self.inside.prefixes ≤ 4096 =
+    omega (arith, c.self.invariant.count, c.self.invariant.few, prefixes-few c.self.inside.instance.now c.self.inside.split c.self.invariant.some) in
+    let most = mul-le (c.levels.result + 1) c.self.inside.prefixes 12 4096 (omega (arith, c.levels.ensures.few)) few in
+    omega arith

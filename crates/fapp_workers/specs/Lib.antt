@@ -1,0 +1,5 @@
+pub mod Ranges
+pub mod Decided
+pub mod Works
+pub mod Gathering
+pub mod Collections
