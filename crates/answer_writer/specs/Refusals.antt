@@ -11,7 +11,7 @@ use Rattle.cert_lines.specs.declared.reject.RejectCause.{RejectCause}
 use Rattle.cert_lines.specs.declared.reject.RejectCause.TheVariants.{TripleDiffers, RootTagTooLow}
 use Rattle.cert_lines.specs.Rejects.{reject_name}
 use Rattle.answer_writer.specs.declared.status.Status.{Status}
-use Rattle.answer_writer.specs.declared.status.Status.TheVariants.{Best, NoneFeasible, Accepted, Rejected, Usage, BadInput, BadAnswer, TooLong, NoAnswer, ReadFault, WriteFault, NoMemory}
+use Rattle.answer_writer.specs.declared.status.Status.TheVariants.{Best, NoneFeasible, Open, Accepted, Written, Rejected, Usage, BadInput, BadAnswer, TooLong, NoAnswer, ReadFault, WriteFault, NoMemory}
 
 -- a word, a line and a cause
 abbrev pub fault_line : List ℕ → ℕ → List ℕ → List ℕ
@@ -43,6 +43,8 @@ refusal_line ReadFault = codes "READFAULT" ++ line_feed ∷ []
 refusal_line (Rejected fault) = rejected_line fault
 refusal_line Best = []
 refusal_line NoneFeasible = []
+refusal_line Open = []
 refusal_line Accepted = []
+refusal_line Written = []
 refusal_line WriteFault = []
 refusal_line NoMemory = []

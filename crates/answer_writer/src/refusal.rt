@@ -26,7 +26,9 @@ fn refusal_line(alloc: Global, status: Status) -> Result<String, NoMemory>
         Status::ReadFault => "READFAULT\n",
         Status::Best
         | Status::NoneFeasible
+        | Status::Open
         | Status::Accepted
+        | Status::Written
         | Status::WriteFault
         | Status::NoMemory => "",
     };

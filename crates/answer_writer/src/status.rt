@@ -10,8 +10,12 @@ pub enum Status {
     Best,
     /// No plan meets the imperative records.
     NoneFeasible,
+    /// The fuel was spent before the least plan was found or shown to be none.
+    Open,
     /// The answer is accepted: what it claims is so.
     Accepted,
+    /// A network was made and written. Nothing was read.
+    Written,
     /// The answer is not accepted: its first fault.
     Rejected(Rejected),
     /// The words are none of those that the program takes. Nothing was read.
@@ -38,8 +42,9 @@ impl Status {
         ensures { result ≡ code_of self.now }
     {
         match self {
-            Status::Best | Status::Accepted => 0,
+            Status::Best | Status::Accepted | Status::Written => 0,
             Status::NoneFeasible => 1,
+            Status::Open => 2,
             Status::Rejected(_) => 3,
             Status::Usage => 64,
             Status::BadInput(_) | Status::BadAnswer(_) | Status::TooLong | Status::NoAnswer => 65,

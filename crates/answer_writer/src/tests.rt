@@ -4,10 +4,12 @@ use fapp_model::{Choice, Instance, Items, Path, Triple, tag_of};
 use std::test::Fail;
 
 // Statuses, with their codes and the lines that tell of them.
-const ENDS: [(Status, u8, &str); 13] = [
+const ENDS: [(Status, u8, &str); 15] = [
     (Status::Best, 0, ""),
     (Status::Accepted, 0, ""),
+    (Status::Written, 0, ""),
     (Status::NoneFeasible, 1, ""),
+    (Status::Open, 2, ""),
     (
         Status::Rejected(Rejected {
             line: 2,

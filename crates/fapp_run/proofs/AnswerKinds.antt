@@ -6,7 +6,7 @@ use Rattle.fapp_model.specs.Least.{IsFeasible}
 use Rattle.record_reader.specs.Texts.{instance_of_text}
 use Rattle.fapp_run.specs.declared.outcome.TheConstants.{MAX_INPUT}
 use Rattle.answer_writer.specs.declared.status.Status.{Status}
-use Rattle.answer_writer.specs.declared.status.Status.TheVariants.{Best, NoneFeasible, Accepted, Rejected, Usage, BadInput, BadAnswer, TooLong, NoAnswer, ReadFault, WriteFault, NoMemory}
+use Rattle.answer_writer.specs.declared.status.Status.TheVariants.{Best, NoneFeasible, Open, Accepted, Written, Rejected, Usage, BadInput, BadAnswer, TooLong, NoAnswer, ReadFault, WriteFault, NoMemory}
 use Rattle.fapp_run.specs.Answers.{Answers}
 
 pub record IsLong (bytes : List ℕ) (status : Status) : Type 0 where
@@ -49,6 +49,8 @@ kind bytes (BadAnswer bad) text a = absurd a.3
 kind bytes NoAnswer text a = absurd a.3
 kind bytes ReadFault text a = absurd a.3
 kind bytes WriteFault text a = absurd a.3
+kind bytes Open text a = absurd a.3
+kind bytes Written text a = absurd a.3
 kind bytes NoMemory text a = absurd a.3
 
 same_instance : (bytes : List ℕ) (i j : Instance) → instance_of_text bytes ≡ Ok i → instance_of_text bytes ≡ Ok j → i ≡ j

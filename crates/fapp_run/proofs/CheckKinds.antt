@@ -16,7 +16,7 @@ use Rattle.cert_lines.specs.acceptance.Accepts.{Accepts, answer_fault}
 use Rattle.cert_lines.proofs.AgainLaws.{reading_again}
 use Rattle.accept_laws.proofs.Accepting.{accepted-right}
 use Rattle.answer_writer.specs.declared.status.Status.{Status}
-use Rattle.answer_writer.specs.declared.status.Status.TheVariants.{Best, NoneFeasible, Accepted, Rejected, Usage, BadInput, BadAnswer, TooLong, NoAnswer, ReadFault, WriteFault, NoMemory}
+use Rattle.answer_writer.specs.declared.status.Status.TheVariants.{Best, NoneFeasible, Open, Accepted, Written, Rejected, Usage, BadInput, BadAnswer, TooLong, NoAnswer, ReadFault, WriteFault, NoMemory}
 use Rattle.fapp_run.specs.declared.judgement.TheConstants.{MAX_CHECK_INPUT}
 use Rattle.fapp_run.specs.AnswerLaws.{IsProved}
 use Rattle.fapp_run.specs.Halves.{Halves, halves}
@@ -58,6 +58,8 @@ is_by_fault instance answer TooLong text a = absurd a
 is_by_fault instance answer NoAnswer text a = absurd a
 is_by_fault instance answer ReadFault text a = absurd a
 is_by_fault instance answer WriteFault text a = absurd a
+is_by_fault instance answer Open text a = absurd a
+is_by_fault instance answer Written text a = absurd a
 is_by_fault instance answer NoMemory text a = absurd a
 
 found_is : (instance : Instance) (bytes : List ℕ) (r : Result Answer TextFault) (found : TextFault) → reading instance bytes ≡ r → fault_in r ≡ Some found → reading instance bytes ≡ Err found
@@ -85,6 +87,8 @@ is_by_reading instance valid bytes before TooLong text a = text_is instance vali
 is_by_reading instance valid bytes before NoAnswer text a = text_is instance valid bytes before NoAnswer text a.0 a.1 a.2 a.3
 is_by_reading instance valid bytes before ReadFault text a = text_is instance valid bytes before ReadFault text a.0 a.1 a.2 a.3
 is_by_reading instance valid bytes before WriteFault text a = text_is instance valid bytes before WriteFault text a.0 a.1 a.2 a.3
+is_by_reading instance valid bytes before Open text a = text_is instance valid bytes before Open text a.0 a.1 a.2 a.3
+is_by_reading instance valid bytes before Written text a = text_is instance valid bytes before Written text a.0 a.1 a.2 a.3
 is_by_reading instance valid bytes before NoMemory text a = text_is instance valid bytes before NoMemory text a.0 a.1 a.2 a.3
 
 input_is : (input : Halves) (status : Status) (text : List ℕ) (instance : Instance) → instance_of_text input.instance ≡ Ok instance → IsJudgedText instance input.answer input.divider status text
@@ -104,6 +108,8 @@ is_by_input input TooLong text a = input_is input TooLong text a.0 a.1 a.2
 is_by_input input NoAnswer text a = input_is input NoAnswer text a.0 a.1 a.2
 is_by_input input ReadFault text a = input_is input ReadFault text a.0 a.1 a.2
 is_by_input input WriteFault text a = input_is input WriteFault text a.0 a.1 a.2
+is_by_input input Open text a = input_is input Open text a.0 a.1 a.2
+is_by_input input Written text a = input_is input Written text a.0 a.1 a.2
 is_by_input input NoMemory text a = input_is input NoMemory text a.0 a.1 a.2
 
 is_by_whole : (bytes : List ℕ) (status : Status) (text : List ℕ) → IsJudgedAlone bytes status text → status ≡ by_whole (instance_of_text bytes)
@@ -118,6 +124,8 @@ is_by_whole bytes TooLong text a = absurd a
 is_by_whole bytes NoAnswer text a = sym (ap by_whole a.1)
 is_by_whole bytes ReadFault text a = absurd a
 is_by_whole bytes WriteFault text a = absurd a
+is_by_whole bytes Open text a = absurd a
+is_by_whole bytes Written text a = absurd a
 is_by_whole bytes NoMemory text a = absurd a
 
 is_by_halves : (bytes : List ℕ) (h : Option Halves) (status : Status) (text : List ℕ) → IsJudged bytes h status text → status ≡ by_halves bytes h
@@ -145,6 +153,8 @@ is_judged bytes TooLong text a = long_is bytes a.0
 is_judged bytes NoAnswer text a = judged_is bytes NoAnswer text a.0 a.1
 is_judged bytes ReadFault text a = judged_is bytes ReadFault text a.0 a.1
 is_judged bytes WriteFault text a = judged_is bytes WriteFault text a.0 a.1
+is_judged bytes Open text a = judged_is bytes Open text a.0 a.1
+is_judged bytes Written text a = judged_is bytes Written text a.0 a.1
 is_judged bytes NoMemory text a = judged_is bytes NoMemory text a.0 a.1
 
 pub one_check_status : (bytes : List ℕ) (one other : Status) (text more : List ℕ) → Judges bytes one text → Judges bytes other more → one ≡ other
@@ -185,4 +195,6 @@ as_judges bytes TooLong text short a = absurd (not_too_long bytes (halves bytes)
 as_judges bytes NoAnswer text short a = (short, a)
 as_judges bytes ReadFault text short a = (short, a)
 as_judges bytes WriteFault text short a = (short, a)
+as_judges bytes Open text short a = (short, a)
+as_judges bytes Written text short a = (short, a)
 as_judges bytes NoMemory text short a = (short, a)

@@ -11,7 +11,7 @@ use Rattle.record_reader.specs.Texts.{instance_of_text}
 use Rattle.cert_lines.specs.declared.answer.Answer.{Answer}
 use Rattle.cert_lines.specs.acceptance.Accepts.{Accepts}
 use Rattle.answer_writer.specs.declared.status.Status.{Status}
-use Rattle.answer_writer.specs.declared.status.Status.TheVariants.{Best, NoneFeasible, Accepted, Rejected, Usage, BadInput, BadAnswer, TooLong, NoAnswer, ReadFault, WriteFault, NoMemory}
+use Rattle.answer_writer.specs.declared.status.Status.TheVariants.{Best, NoneFeasible, Open, Accepted, Written, Rejected, Usage, BadInput, BadAnswer, TooLong, NoAnswer, ReadFault, WriteFault, NoMemory}
 use Rattle.fapp_run.specs.declared.judgement.TheConstants.{MAX_CHECK_INPUT}
 use Rattle.fapp_run.specs.declared.outcome.TheConstants.{MAX_INPUT}
 use Rattle.fapp_run.specs.declared.words.Command.{Command}
@@ -65,6 +65,8 @@ answer_ends bytes instance TooLong text short read a = absurd (omega (arith, a.0
 answer_ends bytes instance NoAnswer text short read a = absurd a.3
 answer_ends bytes instance ReadFault text short read a = absurd a.3
 answer_ends bytes instance WriteFault text short read a = absurd a.3
+answer_ends bytes instance Open text short read a = absurd a.3
+answer_ends bytes instance Written text short read a = absurd a.3
 answer_ends bytes instance NoMemory text short read a = absurd a.3
 
 -- on the words of solve and a text of an instance
@@ -82,6 +84,8 @@ solve_ends words source source' bytes instance TooLong text named left short rea
 solve_ends words source source' bytes instance NoAnswer text named left short read sound h = answer_ends bytes instance NoAnswer text short read (solved words h.0 bytes h.2.0 NoAnswer text named h.1 (taken source.left source'.left bytes h.2.0 left h.2.1) h.2.2)
 solve_ends words source source' bytes instance ReadFault text named left short read sound h = absurd (sound h.2.0)
 solve_ends words source source' bytes instance WriteFault text named left short read sound h = answer_ends bytes instance WriteFault text short read (solved words h.0 bytes h.2.0 WriteFault text named h.1 (taken source.left source'.left bytes h.2.0 left h.2.1) h.2.2)
+solve_ends words source source' bytes instance Open text named left short read sound h = answer_ends bytes instance Open text short read (solved words h.0 bytes h.2.0 Open text named h.1 (taken source.left source'.left bytes h.2.0 left h.2.1) h.2.2)
+solve_ends words source source' bytes instance Written text named left short read sound h = answer_ends bytes instance Written text short read (solved words h.0 bytes h.2.0 Written text named h.1 (taken source.left source'.left bytes h.2.0 left h.2.1) h.2.2)
 solve_ends words source source' bytes instance NoMemory text named left short read sound h = answer_ends bytes instance NoMemory text short read (solved words h.0 bytes h.2.0 NoMemory text named h.1 (taken source.left source'.left bytes h.2.0 left h.2.1) h.2.2)
 
 -- on the word of check and an answer that is to be accepted
@@ -99,6 +103,8 @@ check_ends words source source' bytes instance answer TooLong text named left sh
 check_ends words source source' bytes instance answer NoAnswer text named left short given accepts sound h = accepted bytes instance answer NoAnswer text short given accepts (checked words h.0 bytes h.2.0 NoAnswer text named h.1 (taken source.left source'.left bytes h.2.0 left h.2.1) h.2.2)
 check_ends words source source' bytes instance answer ReadFault text named left short given accepts sound h = absurd (sound h.2.0)
 check_ends words source source' bytes instance answer WriteFault text named left short given accepts sound h = accepted bytes instance answer WriteFault text short given accepts (checked words h.0 bytes h.2.0 WriteFault text named h.1 (taken source.left source'.left bytes h.2.0 left h.2.1) h.2.2)
+check_ends words source source' bytes instance answer Open text named left short given accepts sound h = accepted bytes instance answer Open text short given accepts (checked words h.0 bytes h.2.0 Open text named h.1 (taken source.left source'.left bytes h.2.0 left h.2.1) h.2.2)
+check_ends words source source' bytes instance answer Written text named left short given accepts sound h = accepted bytes instance answer Written text short given accepts (checked words h.0 bytes h.2.0 Written text named h.1 (taken source.left source'.left bytes h.2.0 left h.2.1) h.2.2)
 check_ends words source source' bytes instance answer NoMemory text named left short given accepts sound h = accepted bytes instance answer NoMemory text short given accepts (checked words h.0 bytes h.2.0 NoMemory text named h.1 (taken source.left source'.left bytes h.2.0 left h.2.1) h.2.2)
 
 proved_of : (command : Command) (given text : List ℕ) → AnswersTo command given Accepted text → IsProved given
