@@ -19,7 +19,7 @@ use Rattle.settle_laws.proofs.TagCodes.{code-back}
 use Rattle.fapp_plan.specs.VerdictRule.{top_code}
 use Rattle.outcome_laws.specs.Gathered.{IsLeastWord, KeepsCost}
 use Rattle.outcome_laws.proofs.Words.{cost-level}
-use Rattle.fapp_run.specs.Plans.{shown}
+use Rattle.accept_laws.specs.ShownPlans.{shown}
 use Rattle.fapp_run.specs.Solving.{IsKeptPlan, NoneKept}
 
 -- none of the first so many logs keeps an assignment of that cost

@@ -17,7 +17,7 @@ use Rattle.search_log.specs.LogStates.{LogState}
 use Rattle.fapp_plan.specs.Plans.{Split, split_of}
 use Rattle.merge_laws.specs.MergedLines.{HasNoCite}
 use Rattle.outcome_laws.specs.Laws.{IsEnough, IsOpenFor}
-use Rattle.fapp_run.specs.Plans.{shown}
+use Rattle.accept_laws.specs.ShownPlans.{shown}
 
 -- what an open verdict says of the jobs
 abbrev pub SaysOfJobs : Split → ℕ → Verdict → Type 0
