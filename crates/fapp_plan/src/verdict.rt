@@ -159,6 +159,9 @@ impl Collected {
     /// With r the greater of that tag and the least, over the prefixes, of the greatest tag at which the prefix is
     /// refuted: none feasible where the bound and r are (`levels + 1`, 0, 0), best where the bound is below and r is
     /// at least it, and else open, with the first prefix that is refuted below the bound only.
+    ///
+    /// The outcomes are those of this plan's jobs; a job that was not put counts as not refuted. The bound is one that
+    /// may be shown: (0, 0, 0), (`levels + 1`, 0, 0), or a tag with a number of violations. Both tags are the instance's.
     pub fn verdict(
         &self,
         alloc: Global,

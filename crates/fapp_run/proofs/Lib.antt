@@ -5,3 +5,4 @@ pub mod RunEnds
 pub mod Joining
 pub mod Shown
 pub mod Asked
+pub mod Solved

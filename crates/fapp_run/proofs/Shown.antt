@@ -61,8 +61,8 @@ module _ (instance : Instance) (logs : List LogState) (word : ℕ) (choices : Li
       (λ none. ⊎_elim
       (λ top. absurd (omega (arith, top.0, below)))
       (λ (k : KeepsCost logs word).
-          let none_there = All-contains (λ (log : LogState). (best : KeptPlan) → log.best ≡ Some best → best.cost ≢ triple_from word) logs k.log none.1 k.among in
-          absurd (none_there k.best k.kept (sym (kept-cost k))))
+      let none_there = All-contains (λ (log : LogState). (best : KeptPlan) → log.best ≡ Some best → best.cost ≢ triple_from word) logs k.log none.1 k.among in
+      absurd (none_there k.best k.kept (sym (kept-cost k))))
       least.is)
       (λ some. record { plan = some.0; feasible = some.1; costs = some.2; is = some.3 })
       kept

@@ -1,5 +1,5 @@
 -- What is counted afresh is what the definitions say.
-use Rattle.std.proofs.Common.{◌≡◌, ◌⊎◌, ◌↔◌, ℕ, ◌+◌, ◌*◌, ◌<◌, ◌≤◌, ◌/◌, suc, [], Bool, cond, true, false, ltb, min, Option, List, get_or, take, length, map, sym, ap, ◌∙◌, subst, arith, sum_by, IsTrue, Contains, zero-add}
+use Rattle.std.proofs.Common.{◌≡◌, ◌↔◌, ℕ, ◌+◌, ◌<◌, ◌≤◌, ◌/◌, suc, [], Bool, cond, true, false, ltb, min, Option, List, get_or, take, length, map, sym, ap, ◌∙◌, subst, arith, sum_by, IsTrue, zero-add}
 use Rattle.std.specs.List.{range_with_len}
 use Rattle.std.specs.Option.{is_some}
 use Rattle.std.proofs.lemmas.Bool.{both_ways, lt-ltb, ltb-true}
@@ -11,8 +11,7 @@ use Rattle.dead_laws.specs.ArcLaws.{IsArcs}
 use Rattle.dead_laws.proofs.DeadTests.{arcs-of}
 use Rattle.fapp_model.specs.declared.instance.Instance.{Instance}
 use Rattle.fapp_model.specs.declared.literal.Literal.{Literal}
-use Rattle.fapp_model.specs.Assignments.{count_at}
-use Rattle.fapp_model.specs.search.Partials.{literal, names}
+use Rattle.fapp_model.specs.search.Partials.{names}
 use Rattle.fapp_model.proofs.Members.{All-from_members}
 use Rattle.fapp_model.specs.search.Weights.{inside, over_open}
 use Rattle.fapp_tables.specs.Indexes.{neighbours_of}
@@ -25,7 +24,7 @@ use Rattle.count_laws.specs.ForwardStates.{ForwardState}
 use Rattle.count_laws.specs.Words.{least_of, least_part}
 use Rattle.count_laws.proofs.Bounds.{few_literals}
 use Rattle.count_laws.proofs.BySlots.{by_neighbours}
-use Rattle.count_laws.proofs.Least.{least_none, least_push}
+use Rattle.count_laws.proofs.Least.{least_push}
 use Rattle.count_laws.proofs.Calm.{bound_is, least_sum}
 use Rattle.count_laws.proofs.CalmPaths.{calm_stands, stands_calm, words_inside}
 use Rattle.count_laws.proofs.DeadByBound.{level_few}

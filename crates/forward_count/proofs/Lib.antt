@@ -1,4 +1,3 @@
-mod PairWords
 mod RowLaws
 mod Neighbours
 mod Added

@@ -1,25 +1,23 @@
 -- What a Forward's words say of its literals.
-use Rattle.std.proofs.Common.{◌≡◌, ◌↔◌, ℕ, ◌+◌, ◌*◌, ◌/◌, ◌%◌, ◌<◌, ◌≤◌, Bool, ltb, Option, Some, None, List, length, sym, ap, ◌∙◌, subst, arith, IsTrue}
+use Rattle.std.proofs.Common.{◌≡◌, ◌↔◌, ℕ, ◌%◌, ◌<◌, ◌≤◌, ltb, Option, Some, None, List, length, sym, ap, ◌∙◌, subst, arith, IsTrue}
 use Rattle.std.proofs.lemmas.Bool.{lt-ltb, ltb-true}
-use Rattle.std.proofs.lemmas.Nat.{div-mul-add}
 use Rattle.fapp_model.specs.declared.instance.Instance.{Instance}
 use Rattle.fapp_model.specs.declared.literal.Literal.{Literal}
 use Rattle.fapp_model.specs.Assignments.{count_at}
-use Rattle.fapp_model.specs.search.Partials.{literal, names}
-use Rattle.fapp_model.specs.search.Weights.{added, added_pair, inside}
-use Rattle.fapp_tables.specs.Measures.{coded_part, pair_code}
+use Rattle.fapp_model.specs.search.Partials.{literal}
+use Rattle.fapp_model.specs.search.Weights.{added_pair}
+use Rattle.fapp_tables.specs.Measures.{pair_code}
 use Rattle.count_laws.specs.declared.rows.Row.{Row}
 use Rattle.count_laws.specs.declared.rows.TheConstants.{HARD}
 use Rattle.count_laws.specs.declared.totals.Totals.{Totals}
 use Rattle.count_laws.specs.Counts.{word_of, words_of}
-use Rattle.count_laws.specs.CountedSums.{IsBound, IsCalm, IsLeastSum, RemainsAt}
+use Rattle.count_laws.specs.CountedSums.{IsLeastSum, RemainsAt}
 use Rattle.count_laws.specs.ForwardStates.{ForwardState}
-use Rattle.count_laws.specs.Totals.{AreRows}
 use Rattle.count_laws.specs.Words.{least_of, row_at, word_at}
 use Rattle.count_laws.proofs.Coded.{added_code}
 use Rattle.count_laws.proofs.DeadByBound.{level_few}
 use Rattle.count_laws.proofs.Remaining.{least-found, none-left, remains-word, word-low, word-remains}
-use Rattle.count_laws.proofs.RowMoves.{row_is, rows_are, word_is}
+use Rattle.count_laws.proofs.RowMoves.{row_is, word_is}
 use Rattle.forward_count.specs.Forwards.{IsForward}
 use Rattle.forward_count.specs.Starts.{AreShaped}
 use Rattle.forward_count.proofs.StepLaws.{forward_rows}

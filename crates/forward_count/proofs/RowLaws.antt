@@ -1,12 +1,12 @@
 -- Words that a loop writes in place, and the least of them.
-use Rattle.std.proofs.Common.{◌≡◌, ◌⊎◌, ℕ, ◌+◌, ◌<◌, ◌≤◌, min, List, [], ◌∷◌, ◌++◌, length, map, take, set, get_or, refl, sym, ap, ◌∙◌, subst, inl, inr, arith}
+use Rattle.std.proofs.Common.{◌≡◌, ℕ, ◌+◌, ◌<◌, ◌≤◌, min, List, length, map, take, set, refl, sym, ap, ◌∙◌, subst, inl, inr, arith}
 use Rattle.std.specs.List.{range_with_len}
 use Rattle.std.proofs.lemmas.Bool.{cases_eq, cases_lt}
 use Rattle.std.proofs.lemmas.List.{get_or-set_other, get_or-set_same, length-set, take_all, take_more_set}
 use Rattle.std.proofs.lemmas.List.FromFn.{fill_by_all}
 use Rattle.count_laws.specs.declared.rows.Row.{Row}
 use Rattle.count_laws.specs.Words.{least_of, row_by, word_at}
-use Rattle.count_laws.proofs.Least.{least_none, least_push}
+use Rattle.count_laws.proofs.Least.{least_push}
 
 -- the words so far are made from the old ones, and the others wait
 pub record IsMapped (f : ℕ → ℕ → ℕ) (old words : List ℕ) (index : ℕ) : Type 0 where

@@ -1,12 +1,13 @@
 -- What a Forward's own counts say of a step, in the words of the step.
-use Rattle.std.proofs.Common.{◌≡◌, ◌≢◌, ℕ, ◌+◌, ◌-◌, ◌*◌, ◌/◌, ◌%◌, ◌<◌, ◌≤◌, Bool, true, false, Option, Some, None, List, ◌∷◌, [], ◌++◌, length, get_or, set, refl, sym, ap, ◌∙◌, subst, arith, Contains}
+use Rattle.std.proofs.Common.{◌≡◌, ℕ, ◌*◌, ◌/◌, ◌%◌, ◌<◌, ◌≤◌, Bool, true, false, Option, List, ◌∷◌, [], ◌++◌, length, get_or, sym, ap, ◌∙◌, subst, arith, Contains}
 use Rattle.std.specs.List.{remove}
 use Rattle.std.specs.Option.{is_some}
 use Rattle.std.proofs.lemmas.List.Elements.{All-push, Contains-get_or}
 use Rattle.fapp_model.specs.declared.instance.Instance.{Instance}
 use Rattle.fapp_model.specs.declared.literal.Literal.{Literal}
+use Rattle.fapp_model.specs.declared.level.TheConstants.{MAX_LEVELS}
 use Rattle.fapp_model.specs.Assignments.{count_at}
-use Rattle.fapp_model.specs.search.Partials.{IsLiteral, IsPartial, literal, names}
+use Rattle.fapp_model.specs.search.Partials.{IsLiteral, literal, names}
 use Rattle.nogood.specs.Literals.{other_paths}
 use Rattle.nogood.specs.Partials.{choice_given}
 use Rattle.count_laws.specs.declared.rows.Row.{Row}
@@ -14,11 +15,11 @@ use Rattle.count_laws.specs.declared.rows.TheConstants.{HARD}
 use Rattle.count_laws.specs.declared.totals.Totals.{Totals}
 use Rattle.count_laws.specs.ForwardStates.{ForwardState}
 use Rattle.count_laws.specs.Kept.{AreKept}
-use Rattle.count_laws.specs.Moves.{CanMove, CanMoveAll, moved, rows_with}
+use Rattle.count_laws.specs.Moves.{CanMoveAll, moved, rows_with}
 use Rattle.count_laws.specs.Totals.{AreRows, IsOpen}
 use Rattle.count_laws.proofs.Bounds.{distinct_push}
 use Rattle.count_laws.proofs.DeadByBound.{level_few}
-use Rattle.count_laws.proofs.KeptLaws.{drop_can, drop_conflicts, drop_inside, drop_slot, kept_dropped, kept_pushed, kept_rows, own_word, push_can, push_conflicts, push_inside, push_slot}
+use Rattle.count_laws.proofs.KeptLaws.{drop_can, drop_conflicts, drop_inside, drop_slot, kept_dropped, kept_pushed, own_word, push_can, push_conflicts, push_inside, push_slot}
 use Rattle.count_laws.proofs.RowMoves.{rows_are}
 use Rattle.count_laws.proofs.Slots.{partial_drop, remove_is}
 use Rattle.forward_count.specs.Forwards.{IsForward}
@@ -44,7 +45,7 @@ pub placed : (i : Instance) (k : ℕ) (ls : List Literal) (st : ForwardState) (p
 placed i k ls st place e inside = subst (λ (s : ForwardState). place < length s.pushed) (sym e) inside
 
 module _ (instance : Instance) (level : ℕ) (pushed : List Literal) (slots : List (Option ℕ)) (rows : List Row) (totals : Totals) (room : ℕ) (f : IsForward instance level pushed slots rows totals room) where
-  low : level ≤ 11
+  low : level ≤ MAX_LEVELS
   low = level_few instance level f.low
 
   pub forward_rows : AreRows instance rows

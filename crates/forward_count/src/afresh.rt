@@ -127,6 +127,7 @@ impl<'a> Afresh<'a> {
         requires { IsLiteral self.now.instance literal }
         ensures { IsTrue result ↔ RemainsAt self.now.instance self.now.level self.now.pushed literal }
     {
+        // The proof opens the fields' invariant here.
         let _ = &self.tables;
         self.word(literal.path, literal.choice) < HARD
     }
@@ -216,11 +217,12 @@ impl<'a> Afresh<'a> {
     }
 
     /// The sum that a limit is compared with: the literals' pairs, and the least that each further path adds, as
-    /// violations one level below times `S_SPAN` and their sum further below.
+    /// violations one level below times `S_SPAN` and their sum further below, at level 0 violations there.
     pub fn sum(&self) -> u64
         requires { IsCalm self.now.instance self.now.level self.now.pushed }
         ensures { IsBound self.now.instance self.now.level self.now.pushed result }
     {
+        // The proof opens the fields' invariant here.
         let _ = &self.tables;
         self.twice_inside() / 2 + self.open_least()
     }

@@ -3,6 +3,7 @@ ghost use Rattle.std.specs.Option.{is_some};
 ghost use Rattle.count_laws.specs.Moves.{CanMove, CanMoveAll, moved, rows_with};
 ghost use Rattle.count_laws.specs.Totals.{AreRows, IsOpen};
 ghost use Rattle.count_laws.specs.Words.{row_at, word_at};
+ghost use Rattle.distance_words.specs.Tables.{words_at};
 ghost use Rattle.fapp_model.specs.Instances.{IsInstance};
 ghost use Rattle.forward_count.specs.Steps.{CanCount, slot_after, slots_after};
 ghost use Rattle.nogood.specs.Partials.{choice_given};
@@ -11,6 +12,7 @@ use crate::moves::move_all;
 use crate::rows::moved;
 use crate::step::Step;
 use count_laws::{HARD, Open, Row, Totals};
+use distance_words::WordTable;
 use nogood::Partial;
 
 /// Sets the literal's slot, or clears it.
@@ -61,7 +63,14 @@ fn own_word(step: &Step, rows: &[Row]) -> u64
 
 /// Counts a literal that is pushed, or takes back what is counted for one. The rows of its neighbours change, whether they
 /// have a literal or not; its own stays, since no record joins a path with itself.
-pub fn count_step(step: &Step, rows: &mut [Row], partial: &mut Partial, totals: Totals) -> Totals
+pub fn count_step(
+    step: &Step,
+    words: &WordTable,
+    rows: &mut [Row],
+    partial: &mut Partial,
+    totals: Totals,
+) -> Totals
+    requires words { words.now ≡ words_at step.now.tables.now step.now.level }
     requires instance { IsInstance step.now.tables.now }
     requires rows { AreRows step.now.tables.now rows.old }
     requires slots { length partial.old ≡ length step.now.tables.now.paths }
@@ -83,7 +92,7 @@ pub fn count_step(step: &Step, rows: &mut [Row], partial: &mut Partial, totals: 
     let conflicts = moved(step.taking, totals.conflicts, word / HARD * 2);
     let twice_inside = moved(step.taking, totals.twice_inside, word % HARD * 2);
     Totals {
-        open_paths: move_all(step, rows, partial, open_paths),
+        open_paths: move_all(step, words, rows, partial, open_paths),
         conflicts,
         twice_inside,
     }

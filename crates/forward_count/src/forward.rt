@@ -22,6 +22,7 @@ use crate::start::{blank_rows, start};
 use crate::step::Step;
 use arc_levels::ArcTable;
 use count_laws::{HARD, Row, Totals};
+use distance_words::WordTable;
 use fapp_model::{Literal, NoMemory, S_SPAN, Tag, Triple, level_of, levels, triple_of};
 use fapp_tables::Tables;
 use nogood::Partial;
@@ -35,6 +36,7 @@ pub struct Forward<'a> {
     tables: &'a Tables<'a>,
     arcs: &'a ArcTable<'a>,
     level: u32,
+    words: WordTable<'a>,
     pushed: Vec<Literal>,
     partial: Partial,
     rows: Vec<Row>,
@@ -44,18 +46,20 @@ pub struct Forward<'a> {
 impl<'a> Model for Forward<'a> {
     ghost use Rattle.std.specs.Prelude.{◌≡◌, vec_capacity};
     ghost use Rattle.count_laws.specs.ForwardStates.{ForwardState};
+    ghost use Rattle.distance_words.specs.Tables.{words_at};
     ghost use Rattle.forward_count.specs.Forwards.{IsForward};
 
     ghost Value = { ForwardState };
 
     ghost view = { λ f. record { instance = f.tables.now; level = f.level; pushed = f.pushed.items } };
 
-    ghost invariant = { λ f. (f.arcs.now ≡ f.tables.now) × IsForward f.tables.now f.level f.pushed.items f.partial f.rows.items f.totals (vec_capacity f.pushed) };
+    ghost invariant = { λ f. ((f.arcs.now ≡ f.tables.now) × (f.words ≡ words_at f.tables.now f.level)) × IsForward f.tables.now f.level f.pushed.items f.partial f.rows.items f.totals (vec_capacity f.pushed) };
 }
 
 impl<'a> Forward<'a> {
-    /// Starts with no literal, counting at the instance's highest level. It takes 8 bytes a choice and 40 a path; no other call
-    /// takes memory.
+    /// Starts with no literal, counting at the instance's highest level. It takes 8 bytes a choice, 64 a path and, seen from
+    /// each of two neighbouring paths, at most 32 cells of 24 bytes (12 for one record) and 40 bytes more; no other call takes
+    /// memory.
     pub fn new(
         alloc: Global,
         tables: &'a Tables<'a>,
@@ -67,6 +71,7 @@ impl<'a> Forward<'a> {
         let instance = tables.instance();
         let level = levels(instance);
         let paths = instance.paths.len();
+        let words = WordTable::new(alloc, tables, level)?;
         let mut rows = blank_rows(alloc, instance)?;
         let partial = Partial::new(alloc, paths as u32)?;
         let pushed = Vec::with_capacity(alloc, paths)?;
@@ -75,6 +80,7 @@ impl<'a> Forward<'a> {
             tables,
             arcs,
             level,
+            words,
             pushed,
             partial,
             rows,
@@ -126,16 +132,22 @@ impl<'a> Forward<'a> {
         self.partial.get(path).is_some()
     }
 
-    /// Counts at a level from now on. It costs a turn over all choices, and as much as to push each literal again.
+    /// Counts at a level from now on. It costs nothing where that level is kept already; else a turn over all choices, the
+    /// words of neighbours by their distances, and as much as to push each literal again.
     pub fn keep_level(&mut self, level: u32)
         requires { level ≤ levels_of self.old.instance }
         ensures { self.new ≡ at_level self.old level }
     {
+        if level == self.level {
+            return;
+        }
         let instance = self.tables.instance();
+        self.words.keep_level(level);
         clear_slots(&mut self.partial, instance.paths.len());
         let totals = start(instance, self.arcs, level, self.rows.as_mut_slice());
         self.totals = count_all(
             self.tables,
+            &self.words,
             level,
             self.pushed.as_slice(),
             self.rows.as_mut_slice(),
@@ -145,7 +157,8 @@ impl<'a> Forward<'a> {
         self.level = level;
     }
 
-    /// Adds a literal. It costs as much as the pairs of the choice and all choices of the neighbouring paths.
+    /// Adds a literal. It costs a look at each choice of the neighbouring paths, and a few cells of each of these paths; where
+    /// their cells would be too many, the records between the two paths for each choice.
     pub fn push(&mut self, path: u16, choice: u16)
         requires path { path < length self.old.instance.paths }
         requires choice { choice < count_at self.old.instance path }
@@ -156,6 +169,7 @@ impl<'a> Forward<'a> {
         let step = Step::new(self.tables, self.level, false, literal);
         self.totals = count_step(
             &step,
+            &self.words,
             self.rows.as_mut_slice(),
             &mut self.partial,
             self.totals,
@@ -191,7 +205,8 @@ impl<'a> Forward<'a> {
     }
 
     /// What a choice adds against the literals at the level that is kept, whether it remains or not: violations one level
-    /// below it times `S_SPAN`, and their sum further below.
+    /// below it times `S_SPAN`, and their sum further below. Below level 0 there is none: there it is violations at level 0
+    /// itself.
     pub fn sum_at(&self, path: u16, choice: u16) -> u64
         requires path { path < length self.now.instance.paths }
         requires choice { choice < count_at self.now.instance path }
@@ -256,7 +271,7 @@ impl<'a> Forward<'a> {
         }
     }
 
-    /// The sum that a limit is compared with, at the level that is kept.
+    /// The sum that a limit is compared with, at the level that is kept, by pairs as `sum_at` has them.
     pub fn sum(&self) -> u64
         requires { IsCalm self.now.instance self.now.level self.now.pushed }
         ensures { IsBound self.now.instance self.now.level self.now.pushed result }
@@ -265,8 +280,8 @@ impl<'a> Forward<'a> {
     }
 
     /// The sum that a limit is compared with at a level: the pairs of the records between the literals, and the least that
-    /// each further path adds, as violations one level below it times `S_SPAN` and their sum further below. It costs what
-    /// `is_calm` does.
+    /// each further path adds, as violations one level below it times `S_SPAN` and their sum further below, at level 0 as
+    /// `sum_at` has them. It costs what `is_calm` does.
     pub fn bound(&self, level: u32) -> u64
         requires level { level ≤ levels_of self.now.instance }
         requires calm { IsCalm self.now.instance level self.now.pushed }
@@ -285,6 +300,7 @@ impl<'a> Forward<'a> {
         requires { IsTagFor self.now.instance tag }
         ensures { IsTrue result ↔ Dead self.now.instance (triple_from tag.code) self.now.pushed }
     {
+        // The proof opens the fields' invariant here.
         let _ = &self.tables;
         if tag.code == 0 {
             return true;
@@ -306,6 +322,7 @@ impl<'a> Forward<'a> {
         let step = Step::new(self.tables, self.level, true, literal);
         self.totals = count_step(
             &step,
+            &self.words,
             self.rows.as_mut_slice(),
             &mut self.partial,
             self.totals,

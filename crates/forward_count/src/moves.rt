@@ -2,6 +2,8 @@ ghost use Rattle.std.specs.Prelude.{◌≡◌, ◌≢◌, ◌≤◌, ◌<◌, le
 ghost use Rattle.count_laws.specs.Moves.{CanMoveAll, CanMoveRow, rows_with, words_with};
 ghost use Rattle.count_laws.specs.Totals.{AreRows, IsOpen};
 ghost use Rattle.count_laws.specs.Words.{row_at, row_by};
+ghost use Rattle.distance_words.specs.Links.{IsLink};
+ghost use Rattle.distance_words.specs.Tables.{words_at};
 ghost use Rattle.fapp_model.specs.Assignments.{count_at};
 ghost use Rattle.fapp_model.specs.Instances.{IsInstance};
 ghost use Rattle.fapp_tables.specs.Indexes.{records_of};
@@ -9,6 +11,7 @@ ghost use Rattle.fapp_tables.specs.Indexes.{records_of};
 use crate::rows::move_row;
 use crate::step::Step;
 use count_laws::{Open, Row};
+use distance_words::{Link, WordTable};
 use nogood::Partial;
 
 /// A row's least word before a change and after it.
@@ -19,10 +22,12 @@ struct Change {
 }
 
 /// Changes the row of a neighbour by what a literal counts there.
-fn move_at(step: &Step, other: u16, positions: &[u32], rows: &mut [Row]) -> Change
+fn move_at(step: &Step, other: u16, positions: &[u32], link: &Link, rows: &mut [Row]) -> Change
+    requires instance { IsInstance step.now.tables.now }
     requires apart { step.now.literal.path ≢ other }
     requires other { other < length step.now.tables.now.paths }
     requires positions { positions.now ≡ records_of step.now.tables.now step.now.literal.path other }
+    requires link { IsLink step.now.tables.now step.now.level step.now.literal.path other link.now }
     requires rows { length rows.old ≡ length step.now.tables.now.paths }
     requires count { length (row_at rows.old other).words ≡ count_at step.now.tables.now other }
     requires can { CanMoveRow step.now.taking step.now.tables.now step.now.level step.now.literal other (row_at rows.old other).words }
@@ -33,7 +38,7 @@ fn move_at(step: &Step, other: u16, positions: &[u32], rows: &mut [Row]) -> Chan
 {
     let row = &mut rows[other as usize];
     let before = row.least;
-    move_row(step, row, positions, other);
+    move_row(step, row, positions, link, other);
     Change {
         before,
         after: row.least,
@@ -45,13 +50,16 @@ fn refresh(
     step: &Step,
     other: u16,
     positions: &[u32],
+    link: &Link,
     rows: &mut [Row],
     partial: &Partial,
     open_paths: Open,
 ) -> Open
+    requires instance { IsInstance step.now.tables.now }
     requires apart { step.now.literal.path ≢ other }
     requires other { other < length step.now.tables.now.paths }
     requires positions { positions.now ≡ records_of step.now.tables.now step.now.literal.path other }
+    requires link { IsLink step.now.tables.now step.now.level step.now.literal.path other link.now }
     requires rows { length rows.old ≡ length step.now.tables.now.paths }
     requires slots { length partial.now ≡ length step.now.tables.now.paths }
     requires count { length (row_at rows.old other).words ≡ count_at step.now.tables.now other }
@@ -61,7 +69,7 @@ fn refresh(
         (row_by (words_with step.now.taking step.now.tables.now step.now.level step.now.literal other (row_at rows.old other).words)) }
     ensures open { IsOpen partial.now rows.new result }
 {
-    let change = move_at(step, other, positions, rows);
+    let change = move_at(step, other, positions, link, rows);
     if partial.get(other).is_some() {
         return open_paths;
     }
@@ -70,7 +78,14 @@ fn refresh(
 
 /// Changes the rows of all neighbours by what a literal counts there, and answers what is counted for the open paths
 /// then.
-pub fn move_all(step: &Step, rows: &mut [Row], partial: &Partial, open_paths: Open) -> Open
+pub fn move_all(
+    step: &Step,
+    words: &WordTable,
+    rows: &mut [Row],
+    partial: &Partial,
+    open_paths: Open,
+) -> Open
+    requires words { words.now ≡ words_at step.now.tables.now step.now.level }
     requires instance { IsInstance step.now.tables.now }
     requires rows { AreRows step.now.tables.now rows.old }
     requires slots { length partial.now ≡ length step.now.tables.now.paths }
@@ -84,7 +99,16 @@ pub fn move_all(step: &Step, rows: &mut [Row], partial: &Partial, open_paths: Op
     let mut counted = open_paths;
     for place in 0..neighbours.len() {
         let positions = step.tables.records_at(path, place);
-        counted = refresh(step, neighbours[place], positions, rows, partial, counted);
+        let link = words.link(path, place);
+        counted = refresh(
+            step,
+            neighbours[place],
+            positions,
+            link,
+            rows,
+            partial,
+            counted,
+        );
     }
     counted
 }

@@ -1,5 +1,6 @@
 ghost use Rattle.std.specs.Prelude.{◌≡◌, ◌≤◌, [], None, length, replicate};
 ghost use Rattle.count_laws.specs.Kept.{AreKept};
+ghost use Rattle.distance_words.specs.Tables.{words_at};
 ghost use Rattle.fapp_model.specs.declared.limits.TheConstants.{MAX_PATHS};
 ghost use Rattle.fapp_model.specs.Instances.{IsInstance};
 ghost use Rattle.fapp_model.specs.Levels.{levels_of};
@@ -8,6 +9,7 @@ ghost use Rattle.fapp_model.specs.search.Partials.{IsPartial};
 use crate::counts::count_step;
 use crate::step::Step;
 use count_laws::{Row, Totals};
+use distance_words::WordTable;
 use fapp_model::Literal;
 use fapp_tables::Tables;
 use nogood::Partial;
@@ -26,6 +28,7 @@ pub fn clear_slots(partial: &mut Partial, paths: usize)
 /// Counts literals one after another, where none is counted yet.
 pub fn count_all<'a>(
     tables: &'a Tables<'a>,
+    words: &WordTable,
     level: u32,
     literals: &[Literal],
     rows: &mut [Row],
@@ -35,13 +38,14 @@ pub fn count_all<'a>(
     requires instance { IsInstance tables.now }
     requires level { level ≤ levels_of tables.now }
     requires literals { IsPartial tables.now literals.now }
+    requires words { words.now ≡ words_at tables.now level }
     requires kept { AreKept tables.now level [] partial.old rows.old totals }
     ensures { AreKept tables.now level literals.now partial.new rows.new result }
 {
     let mut counted = totals;
     for index in 0..literals.len() {
         let step = Step::new(tables, level, false, literals[index]);
-        counted = count_step(&step, rows, partial, counted);
+        counted = count_step(&step, words, rows, partial, counted);
     }
     counted
 }

@@ -7,9 +7,9 @@ ghost use Rattle.fapp_model.specs.Instances.{IsInstance, IsPath};
 ghost use Rattle.fapp_model.specs.search.Partials.{IsLiteral, choice_of, literal};
 ghost use Rattle.fapp_tables.specs.Indexes.{records_of};
 
-use count_laws::HARD;
+use distance_words::Pair;
 use fapp_model::{Choice, Instance, Literal, Path, choice_at, choice_count};
-use fapp_tables::{Tables, pair_counts};
+use fapp_tables::Tables;
 
 /// A literal that is pushed or taken back, with the choice that it stands for, and the level that counts are of.
 #[derive(Clone, Copy, Debug)]
@@ -76,6 +76,15 @@ impl<'a> Step<'a> {
         count(self.tables.instance(), other)
     }
 
+    /// A choice of another path.
+    pub fn choice_at(&self, other: u16, index: u32) -> Choice
+        requires other { other < length self.now.tables.now.paths }
+        requires index { index < count_at self.now.tables.now other }
+        ensures { result ≡ choice_of self.now.tables.now (literal other index) }
+    {
+        choice_at(path_at(self.tables.instance(), other), index)
+    }
+
     /// What the literal counts in the word of a neighbour's choice, by the positions of the records between the two.
     pub fn pair_word(&self, positions: &[u32], other: u16, index: u32) -> u64
         requires apart { self.now.literal.path ≢ other }
@@ -85,22 +94,14 @@ impl<'a> Step<'a> {
         ensures word { result ≡ pair_word self.now.tables.now self.now.level (literal other index) self.now.literal }
         ensures small { result ≤ 2 ^ 49 }
     {
-        let instance = self.tables.instance();
-        let path = self.literal.path;
-        let second = choice_at(path_at(instance, other), index);
-        let counts = pair_counts(
-            instance,
-            positions,
-            self.level,
-            path,
+        let second = self.choice_at(other, index);
+        let pair = Pair {
+            instance: self.tables.instance(),
+            level: self.level,
+            path: self.literal.path,
             other,
-            self.choice,
-            second,
-        );
-        if counts.hard > 0 {
-            HARD + counts.sum
-        } else {
-            counts.sum
-        }
+            positions,
+        };
+        pair.word(self.choice, second)
     }
 }

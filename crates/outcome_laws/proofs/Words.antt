@@ -132,7 +132,7 @@ shown-cost instance plan valid = and_from (is_tag (levels_of instance) (cost ins
     (or_left (eqb (cost instance plan).k 0) (eqb (cost instance plan).k (levels_of instance + 1)) (eq-eqb (cost instance plan).k 0 (omega (arith, none)))))
     (cases_lt 0 (cost instance plan).k))
 
-top-back : (instance : Instance) → triple_from (top_code instance) ≡ top_tag instance
+pub top-back : (instance : Instance) → triple_from (top_code instance) ≡ top_tag instance
 top-back instance = same-triple (triple_from (top_code instance)).k (triple_from (top_code instance)).v (triple_from (top_code instance)).s (levels_of instance + 1) 0 0 (omega arith) (omega arith) (omega arith)
 
 shown-top : (instance : Instance) → IsTrue (is_shown (levels_of instance) (top_tag instance))

@@ -1,3 +1,5 @@
 mod arcs;
+mod counts;
 mod jobs;
+mod plans;
 mod tables;

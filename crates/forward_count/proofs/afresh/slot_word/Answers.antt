@@ -1,7 +1,6 @@
-use Rattle.std.proofs.Common.{◌≡◌, ◌<◌, ◌∙◌, ℕ, List, Option, Some, ap, get_or, length, subst, sym}
+use Rattle.std.proofs.Common.{◌≡◌, ◌<◌, ◌∙◌, ℕ, List, Some, ap, get_or, length, subst, sym}
 use Rattle.fapp_model.specs.Assignments.{count_at}
 use Rattle.fapp_model.specs.search.Partials.{literal}
-use Rattle.fapp_tables.specs.Indexes.{neighbours_of}
 use Rattle.nogood.specs.Partials.{choice_given}
 use Rattle.count_laws.specs.Counts.{pair_word, slot_part}
 use Rattle.count_laws.proofs.Clash.{pair_turned}

@@ -1,11 +1,10 @@
-use Rattle.std.proofs.Common.{◌≡◌, ◌≤◌, ◌<◌, ◌^◌, ◌+◌, Bool, true, false, ℕ, Option, List, length, set, sym, ap, ◌∙◌, subst, arith}
+use Rattle.std.proofs.Common.{◌≡◌, ◌<◌, Bool, true, false, length, sym, ap, ◌∙◌, subst, arith}
 use Rattle.std.specs.Option.{is_some}
 use Rattle.nogood.specs.Partials.{choice_given}
 use Rattle.count_laws.specs.declared.rows.Row.{Row}
 use Rattle.count_laws.specs.declared.rows.TheConstants.{HARD}
-use Rattle.count_laws.specs.declared.totals.Open.{Open}
-use Rattle.count_laws.specs.Totals.{IsOpen, open_sum}
-use Rattle.count_laws.specs.Words.{least_part, row_at, stuck_part}
+use Rattle.count_laws.specs.Totals.{IsOpen}
+use Rattle.count_laws.specs.Words.{least_part, stuck_part}
 use Rattle.count_laws.proofs.OpenSums.{least_most, open_freed, open_most, open_part, open_taken, stuck_most}
 use Rattle.forward_count.specs.Steps.{slots_after}
 use Rattle.forward_count.proofs.counts.reopened.Goals as goal

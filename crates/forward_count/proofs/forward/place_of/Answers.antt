@@ -1,8 +1,7 @@
-use Rattle.std.proofs.Common.{◌≡◌, ◌<◌, ◌∙◌, ℕ, ap, arith, get_or, Bool, eqb, true, false}
-use Rattle.std.proofs.lemmas.Bool.{both_ways, eqb-true, ne_eqb}
+use Rattle.std.proofs.Common.{◌∙◌, ap, arith}
 use Rattle.std.proofs.lemmas.List.{get_or_default}
 use Rattle.fapp_model.specs.declared.literal.Literal.{Literal}
-use Rattle.fapp_model.specs.search.Partials.{literal, names}
+use Rattle.fapp_model.specs.search.Partials.{literal}
 use Rattle.dead_laws.proofs.Picks.{names-at}
 use Rattle.forward_count.proofs.forward.place_of.Goals as goal
 

@@ -1,4 +1,4 @@
-use Rattle.std.proofs.Common.{◌≡◌, ◌≤◌, ◌+◌, false, ℕ, List, length, set, sym, ap, ◌∙◌, arith}
+use Rattle.std.proofs.Common.{◌≡◌, false, true, List, set, sym, ap, ◌∙◌, arith}
 use Rattle.std.specs.Option.{is_some}
 use Rattle.std.proofs.lemmas.List.{get_or-set_same}
 use Rattle.nogood.specs.Partials.{choice_given}
@@ -7,7 +7,7 @@ use Rattle.count_laws.specs.declared.rows.TheConstants.{HARD}
 use Rattle.count_laws.specs.Moves.{words_with}
 use Rattle.count_laws.specs.Totals.{open_sum}
 use Rattle.count_laws.specs.Words.{least_part, no_row, row_at, row_by, stuck_part}
-use Rattle.count_laws.proofs.OpenSums.{least_most, open_changed, open_most, open_part, stuck_most}
+use Rattle.count_laws.proofs.OpenSums.{least_most, open_changed, open_kept, open_most, open_part, stuck_most}
 use Rattle.forward_count.proofs.moves.refresh.Goals as goal
 
 pub without-requires-clause-stuck : goal.without-requires-clause-stuck
@@ -43,4 +43,18 @@ returns-clause-open c =
     record {
       stuck = omega (arith, stuck, ap (open_sum stuck_part slots) new, ap stuck_part c.move_at-change.ensures.before, ap stuck_part after, c.without.ensures.stuck, c.with.ensures.stuck, c.requires.open.stuck);
       least = omega (arith, least, ap (open_sum least_part slots) new, ap least_part c.move_at-change.ensures.before, ap least_part after, c.without.ensures.least, c.with.ensures.least, c.requires.open.least);
+    }
+
+pub returns-then-is_some-clause-open : goal.returns-then-is_some-clause-open
+returns-then-is_some-clause-open c =
+    let rows = c.args.rows.now in
+    let slots = c.args.partial.now in
+    let other = c.args.other in
+    let step = c.args.step.now in
+    let taken : is_some (choice_given slots other) ≡ true = sym (c.is_some.ensures ∙ ap is_some c.get.ensures) ∙ c.if-is_some.true in
+    let row : Row = row_by (words_with step.taking step.tables.now step.level step.literal other (row_at rows other).words) in
+    let new : c.move_at-change.new.rows ≡ set rows other row = c.move_at-change.ensures.rows in
+    record {
+      stuck = c.requires.open.stuck ∙ sym (ap (open_sum stuck_part slots) new ∙ open_kept stuck_part slots rows other row taken);
+      least = c.requires.open.least ∙ sym (ap (open_sum least_part slots) new ∙ open_kept least_part slots rows other row taken);
     }

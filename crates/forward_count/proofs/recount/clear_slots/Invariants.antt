@@ -1,4 +1,4 @@
-use Rattle.std.proofs.Common.{◌≡◌, ◌<◌, ◌≤◌, ℕ, None, length}
+use Rattle.std.proofs.Common.{◌≡◌, ◌<◌, ℕ, None, length}
 use Rattle.nogood.specs.Partials.{choice_given}
 use Rattle.forward_count.proofs.recount.clear_slots.Given as goal
 

@@ -1,4 +1,4 @@
-use Rattle.std.proofs.Common.{◌≡◌, ◌+◌, ◌*◌, ◌<◌, ◌≤◌, ℕ, List, get_or, length, take, sum_by, arith}
+use Rattle.std.proofs.Common.{get_or, take, arith}
 use Rattle.std.proofs.lemmas.List.{length-take-le}
 use Rattle.std.proofs.lemmas.List.Sums.{sum_by-le}
 use Rattle.count_laws.specs.declared.rows.Row.{Row}

@@ -1,7 +1,6 @@
-use Rattle.std.proofs.Common.{◌≡◌, ◌∙◌, [], sym, ap, subst, arith, Bool, true, false, IsTrue}
+use Rattle.std.proofs.Common.{ap, arith}
 use Rattle.std.proofs.lemmas.Bool.{both_ways}
 use Rattle.fapp_model.specs.search.Partials.{literal}
-use Rattle.count_laws.specs.declared.rows.TheConstants.{HARD}
 use Rattle.count_laws.proofs.Remaining.{away, kept-inside, outside-away}
 use Rattle.forward_count.proofs.start.outside_word.Goals as goal
 

@@ -1,5 +1,5 @@
-use Rattle.std.proofs.Common.{◌≡◌, ◌<◌, ◌+◌, ◌∙◌, ℕ, false, ap, arith, get_or, inl, inr, length, refl, subst, sym}
-use Rattle.std.proofs.lemmas.Bool.{cases_eq, cases_lt, true_from_ne_false, both_ways}
+use Rattle.std.proofs.Common.{ℕ, ap, arith, get_or, inl, inr, length, refl, subst, sym}
+use Rattle.std.proofs.lemmas.Bool.{cases_eq, cases_lt}
 use Rattle.std.proofs.lemmas.List.{get_or_default}
 use Rattle.fapp_model.specs.declared.literal.Literal.{Literal}
 use Rattle.fapp_model.specs.search.Partials.{literal}

@@ -1,4 +1,3 @@
-use Rattle.std.proofs.Common.{refl, sym, ◌∙◌}
 use Rattle.std.proofs.lemmas.Bool.{both_ways}
 use Rattle.forward_count.proofs.AfreshLaws.{calm_both, calm_left, calm_stand}
 use Rattle.forward_count.proofs.afresh.Afresh.is_calm.Goals as goal

@@ -1,4 +1,4 @@
-use Rattle.std.proofs.Common.{◌≡◌, sym}
+use Rattle.std.proofs.Common.{sym}
 use Rattle.fapp_model.specs.search.Partials.{literal}
 use Rattle.count_laws.specs.Counts.{word_of}
 use Rattle.count_laws.proofs.Least.{least_none}

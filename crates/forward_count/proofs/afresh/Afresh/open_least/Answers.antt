@@ -1,4 +1,4 @@
-use Rattle.std.proofs.Common.{◌≤◌, ◌*◌, ◌+◌, ◌^◌, arith, cond}
+use Rattle.std.proofs.Common.{arith, cond}
 use Rattle.fapp_model.specs.search.Partials.{names}
 use Rattle.count_laws.specs.Counts.{words_of}
 use Rattle.count_laws.specs.Words.{least_of, least_part}

@@ -1,7 +1,5 @@
-use Rattle.std.proofs.Common.{◌≡◌, ◌≤◌, ◌+◌, ◌∙◌, [], ℕ, Bool, Fits, List, ap, arith, length, subst, sym, sum_by, take, w64}
+use Rattle.std.proofs.Common.{◌≡◌, ◌≤◌, ◌+◌, ◌∙◌, [], ℕ, Fits, List, ap, arith, length, sum_by, w64}
 use Rattle.std.proofs.lemmas.List.{take_all}
-use Rattle.dead_laws.specs.ArcLaws.{IsArcs}
-use Rattle.fapp_model.specs.declared.literal.Literal.{Literal}
 use Rattle.fapp_model.specs.search.Partials.{literal}
 use Rattle.fapp_tables.specs.Indexes.{neighbours_of}
 use Rattle.nogood.specs.Partials.{choice_given}

@@ -1,5 +1,4 @@
-use Rattle.std.proofs.Common.{eqb}
-use Rattle.std.proofs.lemmas.Bool.{both_ways, eq-eqb, eqb-true}
+use Rattle.std.proofs.lemmas.Bool.{eq-eqb, eqb-true}
 use Rattle.forward_count.proofs.DeadLaws.{calm_here, here_calm, seen}
 use Rattle.forward_count.proofs.forward.Forward.is_calm_here.Goals as goal
 

@@ -1,4 +1,4 @@
-use Rattle.std.proofs.Common.{◌≡◌, ◌<◌, ◌∙◌, ap, false, refl, subst, sym, ℕ, IsTrue}
+use Rattle.std.proofs.Common.{◌<◌, ◌∙◌, ap, refl, subst, sym, ℕ}
 use Rattle.std.proofs.lemmas.Bool.{both_ways}
 use Rattle.fapp_model.specs.declared.triple.Triple.{Triple}
 use Rattle.fapp_model.specs.Tags.{mode_level, triple_from}

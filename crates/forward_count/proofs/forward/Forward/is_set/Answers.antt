@@ -1,4 +1,4 @@
-use Rattle.std.proofs.Common.{◌≡◌, ◌∙◌, ap}
+use Rattle.std.proofs.Common.{◌∙◌, ap}
 use Rattle.std.specs.Option.{is_some}
 use Rattle.fapp_model.specs.search.Partials.{names}
 use Rattle.count_laws.specs.ForwardStates.{ForwardState}

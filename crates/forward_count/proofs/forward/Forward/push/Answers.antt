@@ -1,16 +1,14 @@
-use Rattle.std.proofs.Common.{◌≡◌, ◌≤◌, ◌<◌, ◌∙◌, ◌++◌, ◌∷◌, [], ◌+◌, ◌*◌, ◌/◌, ◌%◌, take, drop, ℕ, Bool, false, true, cond, List, Option, ap, length, subst, sym, arith, refl}
+use Rattle.std.proofs.Common.{◌≡◌, ◌<◌, ◌∙◌, ◌++◌, ◌∷◌, [], ◌+◌, ◌*◌, ◌/◌, ◌%◌, take, drop, false, List, ap, length, subst, sym, arith}
 use Rattle.std.specs.Option.{is_some}
 use Rattle.std.specs.Result.{is_ok}
 use Rattle.std.proofs.lemmas.Bool.{cond-true}
 use Rattle.std.proofs.lemmas.List.{length_push, take_at}
 use Rattle.std.proofs.lemmas.List.Elements.{All-push}
 use Rattle.nogood.specs.Partials.{choice_given}
-use Rattle.fapp_model.specs.declared.instance.Instance.{Instance}
 use Rattle.fapp_model.specs.declared.literal.Literal.{Literal}
-use Rattle.fapp_model.specs.search.Partials.{literal, names, IsLiteral}
-use Rattle.fapp_model.specs.Assignments.{count_at}
+use Rattle.fapp_model.specs.search.Partials.{literal, IsLiteral}
 use Rattle.count_laws.specs.declared.rows.Row.{Row}
-use Rattle.count_laws.specs.ForwardStates.{ForwardState, with_literals, with_pushed}
+use Rattle.count_laws.specs.ForwardStates.{ForwardState, with_pushed}
 use Rattle.count_laws.specs.Moves.{CanMoveAll, moved, rows_with}
 use Rattle.count_laws.specs.Totals.{AreRows}
 use Rattle.count_laws.specs.declared.rows.TheConstants.{HARD}

@@ -1,4 +1,4 @@
-use Rattle.std.proofs.Common.{◌≡◌, ◌<◌, ◌∙◌, List, ap, length, subst, sym}
+use Rattle.std.proofs.Common.{◌<◌, ◌∙◌, List, ap, length, subst, sym}
 use Rattle.count_laws.specs.declared.rows.Row.{Row}
 use Rattle.count_laws.specs.Words.{row_at, word_at}
 use Rattle.forward_count.proofs.ReadLaws.{sum_read, row_there, word_there}

@@ -1,4 +1,4 @@
-use Rattle.std.proofs.Common.{◌≡◌, ◌≤◌, ◌<◌, ◌∙◌, ◌++◌, ◌+◌, ◌*◌, ◌/◌, ◌%◌, take, drop, ℕ, Bool, true, List, Option, ap, get_or, length, subst, sym, arith, refl}
+use Rattle.std.proofs.Common.{◌≡◌, ◌∙◌, ◌++◌, ◌*◌, ◌/◌, ◌%◌, take, drop, true, List, ap, get_or, length, subst, sym, arith}
 use Rattle.std.specs.List.{remove}
 use Rattle.std.specs.Option.{is_some}
 use Rattle.std.proofs.lemmas.List.{take_at}
@@ -6,14 +6,13 @@ use Rattle.nogood.specs.Partials.{choice_given}
 use Rattle.fapp_model.specs.declared.literal.Literal.{Literal}
 use Rattle.count_laws.specs.declared.rows.Row.{Row}
 use Rattle.count_laws.specs.declared.rows.TheConstants.{HARD}
-use Rattle.count_laws.specs.ForwardStates.{ForwardState, with_literals}
 use Rattle.count_laws.specs.Moves.{CanMoveAll, moved, rows_with}
 use Rattle.count_laws.specs.Totals.{AreRows}
 use Rattle.count_laws.proofs.DeadByBound.{level_few}
 use Rattle.count_laws.proofs.KeptLaws.{own_word}
 use Rattle.forward_count.specs.Forwards.{IsForward}
 use Rattle.forward_count.specs.Steps.{CanCount, slots_after}
-use Rattle.forward_count.proofs.StepLaws.{IsCounted, drops, drops_can, drops_fit, drops_home, drops_slot, forward_rows, placed, same_step}
+use Rattle.forward_count.proofs.StepLaws.{IsCounted, drops, drops_can, drops_fit, drops_slot, forward_rows, placed, same_step}
 use Rattle.forward_count.proofs.forward.Forward.take_back.Goals as goal
 
 pub new-step-requires-clause-level : goal.new-step-requires-clause-level

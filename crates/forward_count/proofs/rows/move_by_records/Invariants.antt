@@ -4,7 +4,7 @@ use Rattle.count_laws.specs.Counts.{pair_word}
 use Rattle.count_laws.specs.Moves.{moved}
 use Rattle.count_laws.specs.Words.{least_of}
 use Rattle.forward_count.proofs.RowLaws.{IsMapped}
-use Rattle.forward_count.proofs.rows.move_row.Given as goal
+use Rattle.forward_count.proofs.rows.move_by_records.Given as goal
 
 abbrev pub invariant-loop-index : goal.invariant-loop-index
 invariant-loop-index l = record {

@@ -5,7 +5,7 @@ use Rattle.count_laws.specs.Moves.{moved, words_with}
 use Rattle.count_laws.specs.Words.{least_of, word_at}
 use Rattle.count_laws.proofs.Least.{least_none}
 use Rattle.forward_count.proofs.RowLaws.{IsMapped, least_all, least_write, mapped_all, mapped_more, mapped_none, row_made}
-use Rattle.forward_count.proofs.rows.move_row.Goals as goal
+use Rattle.forward_count.proofs.rows.move_by_records.Goals as goal
 
 pub loop-index-init : goal.loop-index-init
 loop-index-init c = record { mapped = mapped_none _ _; least = sym least_none }

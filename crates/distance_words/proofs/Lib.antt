@@ -1,0 +1,6 @@
+pub mod BreakLaws
+pub mod WordLaws
+pub mod CellLaws
+pub mod NeighbourLaws
+pub mod TableLaws
+pub mod LinkLaws
