@@ -1,11 +1,12 @@
-//! Plans a radio network, or checks an answer to one: reads it from standard input, and writes its least plan, or
-//! whether the answer is accepted, to standard output.
+//! Plans a radio network, or checks an answer to one: reads it from standard input, and writes an answer with its
+//! certificate, or whether an answer is accepted, to standard output. It also makes networks.
 #![tactic(auto)]
 
 use fapp_io::{StdSink, StdSource};
-use fapp_run::{Status, run};
+use fapp_run::{OpenGate, Status, run};
 use std::process::ExitCode;
 use std::rt::Env;
+use std::thread::Threads;
 use std::{env, io};
 
 fn main(rt: HostRuntime) -> ExitCode {
@@ -13,7 +14,7 @@ fn main(rt: HostRuntime) -> ExitCode {
 }
 
 /// Runs the program over the standard streams. A word that is no text is none of those that it takes, as is no word.
-fn status<R: Env + Input + Print + AllocGlobal>(rt: &R) -> Status {
+fn status<R: Env + Input + Print + AllocGlobal + Threads + Sync>(rt: &R) -> Status {
     let alloc = rt.alloc();
     let words = match words(rt) {
         Ok(words) => words,
@@ -22,7 +23,7 @@ fn status<R: Env + Input + Print + AllocGlobal>(rt: &R) -> Status {
     };
     let mut source = StdSource::new(rt.reader());
     let mut sink = StdSink::new(io::writer(rt));
-    run(alloc, &words, &mut source, &mut sink)
+    run(rt, alloc, &words, &mut source, &mut sink, &OpenGate)
 }
 
 /// The words after the program's name.

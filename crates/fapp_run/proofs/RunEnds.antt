@@ -1,32 +1,94 @@
 -- How a run ends where nothing fails, and what Accepted tells.
-use Rattle.std.proofs.Common.{◌≡◌, ℕ, ◌+◌, ◌≤◌, List, length, Option, Some, Ok, refl, sym, ap, ◌∙◌, subst, inl, inr, arith}
+use Rattle.std.proofs.Common.{◌≡◌, ◌≢◌, ◌⊎◌, ℕ, ◌+◌, ◌≤◌, List, [], ◌∷◌, length, drop, get_or, Option, None, Some, Ok, refl, sym, ap, ◌∙◌, subst, inl, inr, arith}
 use Rattle.std.specs.Prelude.{String}
 use Rattle.std.specs.Global.{Global}
 use Rattle.fapp_io.specs.Counts.{Rose}
 use Rattle.fapp_io.specs.Known.{Drops}
 use Rattle.fapp_io.specs.Moments.{SourceMoment}
-use Rattle.fapp_io.specs.Whole.{IsAllOf}
+use Rattle.fapp_io.specs.Whole.{DropsUpTo, IsAllOf}
 use Rattle.fapp_model.specs.declared.instance.Instance.{Instance}
 use Rattle.record_reader.specs.Texts.{instance_of_text}
 use Rattle.cert_lines.specs.declared.answer.Answer.{Answer}
+use Rattle.cert_lines.specs.declared.answer.Verdict.{Verdict}
+use Rattle.cert_lines.specs.declared.answer.Verdict.TheVariants as verdicts
 use Rattle.cert_lines.specs.acceptance.Accepts.{Accepts}
 use Rattle.answer_writer.specs.declared.status.Status.{Status}
 use Rattle.answer_writer.specs.declared.status.Status.TheVariants.{Best, NoneFeasible, Open, Accepted, Written, Rejected, Usage, BadInput, BadAnswer, TooLong, NoAnswer, ReadFault, WriteFault, NoMemory}
+use Rattle.fapp_plan.specs.Plans.{split_of}
+use Rattle.fapp_words.specs.declared.options.SolveOptions.{SolveOptions}
+use Rattle.fapp_words.specs.declared.request.Request.{Request}
+use Rattle.fapp_words.specs.declared.request.Request.TheVariants as requests
+use Rattle.fapp_words.specs.declared.request.Seed.{Seed}
+use Rattle.outcome_laws.specs.Laws.{IsEnough}
+use Rattle.fapp_run.specs.declared.command.Command.{Command}
+use Rattle.fapp_run.specs.declared.command.Command.TheVariants.{Solve, Check}
 use Rattle.fapp_run.specs.declared.judgement.TheConstants.{MAX_CHECK_INPUT}
 use Rattle.fapp_run.specs.declared.outcome.TheConstants.{MAX_INPUT}
-use Rattle.fapp_run.specs.declared.words.Command.{Command}
-use Rattle.fapp_run.specs.declared.words.Command.TheVariants.{Solve, Check}
 use Rattle.fapp_run.specs.AnswerLaws.{IsProved}
-use Rattle.fapp_run.specs.Answers.{Answers}
-use Rattle.fapp_run.specs.Judgements.{Judges, IsCheckInput}
-use Rattle.fapp_run.specs.Outcomes.{limit_of, AnswersTo, IsOutcome}
-use Rattle.fapp_run.specs.Runs.{IsAnswer}
-use Rattle.fapp_run.specs.Words.{Names}
+use Rattle.fapp_run.specs.Answers.{Answers, IsSolved, fuel_of, status_of}
+use Rattle.fapp_run.specs.Judgements.{IsCheckInput}
+use Rattle.fapp_run.specs.Made.{Demonstrates, IsDemonstrated}
+use Rattle.fapp_run.specs.Outcomes.{AnswersTo, Asks, IsOutcome, IsOutcomeFor, IsOutcomeOf, Names, limit_of}
+use Rattle.fapp_run.specs.Runs.{IsAnswer, IsEnoughFor}
+use Rattle.fapp_run.specs.Solving.{IsClosed}
 use Rattle.fapp_run.proofs.CheckKinds.{accepted, accepted_proved}
 
--- words name one command
-names_one : (words : List (String Global)) → Names words Solve → Names words Check → ⊥
-names_one words a b = let e = ap length (sym a ∙ b) in absurd (omega (arith, e))
+-- ---- words ask for one thing
+
+abbrev first_letter : List (List ℕ) → ℕ
+first_letter words = get_or (get_or words 0 []) 0 0
+
+module _ (words : List (String Global)) where
+  solve_only : (options : SolveOptions) (asked : Option Request) → Names words (requests.Solve options) → Asks words asked → (other : SolveOptions) × (asked ≡ Some (requests.Solve other))
+  solve_only options None named h = absurd (h (requests.Solve options) named)
+  solve_only options (Some (requests.Solve other)) named h = (other, refl)
+  solve_only options (Some requests.Check) named h = absurd (let e = ap first_letter (sym named.spelled ∙ h) in omega arith)
+  solve_only options (Some (requests.Gen seed)) named h = absurd (let e = ap first_letter (sym named.spelled ∙ h.spelled) in omega arith)
+  solve_only options (Some (requests.Demo seed)) named h = absurd (let e = ap first_letter (sym named.spelled ∙ h.spelled) in omega arith)
+
+  check_only : (asked : Option Request) → Names words requests.Check → Asks words asked → asked ≡ Some requests.Check
+  check_only None named h = absurd (h requests.Check named)
+  check_only (Some (requests.Solve other)) named h = absurd (let e = ap first_letter (sym named ∙ h.spelled) in omega arith)
+  check_only (Some requests.Check) named h = refl
+  check_only (Some (requests.Gen seed)) named h = absurd (let e = ap first_letter (sym named ∙ h.spelled) in omega arith)
+  check_only (Some (requests.Demo seed)) named h = absurd (let e = ap first_letter (sym named ∙ h.spelled) in omega arith)
+
+  gen_only : (seed : Seed) (asked : Option Request) → Names words (requests.Gen seed) → Asks words asked → (other : Seed) × (asked ≡ Some (requests.Gen other))
+  gen_only seed None named h = absurd (h (requests.Gen seed) named)
+  gen_only seed (Some (requests.Solve options)) named h = absurd (let e = ap first_letter (sym named.spelled ∙ h.spelled) in omega arith)
+  gen_only seed (Some requests.Check) named h = absurd (let e = ap first_letter (sym named.spelled ∙ h) in omega arith)
+  gen_only seed (Some (requests.Gen other)) named h = (other, refl)
+  gen_only seed (Some (requests.Demo other)) named h = absurd (let e = ap first_letter (sym named.spelled ∙ h.spelled) in omega arith)
+
+-- ---- how a command ends
+
+record IsWhole (command : Command) (source source' : SourceMoment) (status : Status) (text : List ℕ) : Type 0 where
+  pub bytes : List ℕ
+  pub all : IsAllOf source.left source'.left bytes
+  pub answers : AnswersTo command bytes status text
+
+abbrev IsEnd : Command → SourceMoment → SourceMoment → Status → List ℕ → Type 0
+IsEnd command source source' status text =
+    Rose source.faults source'.faults ⊎ (Drops source.left source'.left (limit_of command + 1) ⊎ IsWhole command source source' status text)
+
+whole_end : (command : Command) (source source' : SourceMoment) (status : Status) (text : List ℕ) → ((bytes : List ℕ) × IsAllOf source.left source'.left bytes × AnswersTo command bytes status text) → IsEnd command source source' status text
+whole_end command source source' status text h = inr (inr (record { bytes = h.0; all = h.1; answers = h.2 }))
+
+end_of : (command : Command) (source source' : SourceMoment) (status : Status) (text : List ℕ) → IsOutcomeOf command source source' status text → IsEnd command source source' status text
+end_of command source source' Best text h = whole_end command source source' Best text h
+end_of command source source' NoneFeasible text h = whole_end command source source' NoneFeasible text h
+end_of command source source' Open text h = whole_end command source source' Open text h
+end_of command source source' Accepted text h = whole_end command source source' Accepted text h
+end_of command source source' Written text h = whole_end command source source' Written text h
+end_of command source source' (Rejected fault) text h = whole_end command source source' (Rejected fault) text h
+end_of command source source' Usage text h = absurd h
+end_of command source source' (BadInput bad) text h = whole_end command source source' (BadInput bad) text h
+end_of command source source' (BadAnswer bad) text h = whole_end command source source' (BadAnswer bad) text h
+end_of command source source' TooLong text h = inr (inl h.0)
+end_of command source source' NoAnswer text h = whole_end command source source' NoAnswer text h
+end_of command source source' ReadFault text h = inl h.0
+end_of command source source' WriteFault text h = whole_end command source source' WriteFault text h
+end_of command source source' NoMemory text h = whole_end command source source' NoMemory text h
 
 taken : (left left' : Option (List ℕ)) (bytes given : List ℕ) → left ≡ Some bytes → IsAllOf left left' given → given ≡ bytes
 taken left left' bytes given e h = let g = rw e at h in g.0
@@ -34,86 +96,97 @@ taken left left' bytes given e h = let g = rw e at h in g.0
 dropped : (left left' : Option (List ℕ)) (bytes : List ℕ) (n : ℕ) → left ≡ Some bytes → Drops left left' n → n ≤ length bytes
 dropped left left' bytes n e h = let g = rw e at h in g.0
 
--- the command that the words name answers to the bytes
-solved : (words : List (String Global)) (command : Command) (bytes given : List ℕ) (status : Status) (text : List ℕ) → Names words Solve → Names words command → given ≡ bytes
-    → AnswersTo command given status text → Answers bytes status text
-solved words Solve bytes given status text a named e h = rw e at h
-solved words Check bytes given status text a named e h = absurd (names_one words a named)
+-- ---- what an instance's answer is
 
-checked : (words : List (String Global)) (command : Command) (bytes given : List ℕ) (status : Status) (text : List ℕ) → Names words Check → Names words command → given ≡ bytes
-    → AnswersTo command given status text → Judges bytes status text
-checked words Solve bytes given status text a named e h = absurd (names_one words named a)
-checked words Check bytes given status text a named e h = rw e at h
+record IsEnded (options : SolveOptions) (instance : Instance) (status : Status) : Type 0 where
+  pub verdict : Verdict
+  pub is : status ≡ status_of verdict
+  pub closed : IsEnough (split_of instance options.split) (fuel_of options instance) → IsClosed verdict
 
-solve_limit : (words : List (String Global)) (command : Command) → Names words Solve → Names words command → limit_of command ≡ MAX_INPUT
-solve_limit words Solve a named = refl
-solve_limit words Check a named = absurd (names_one words a named)
+same_instance : (bytes : List ℕ) (i j : Instance) → instance_of_text bytes ≡ Ok i → instance_of_text bytes ≡ Ok j → i ≡ j
+same_instance bytes i j p q = cc
 
-check_limit : (words : List (String Global)) (command : Command) → Names words Check → Names words command → limit_of command ≡ MAX_CHECK_INPUT
-check_limit words Solve a named = absurd (names_one words named a)
-check_limit words Check a named = refl
+from_solved : (options : SolveOptions) (bytes : List ℕ) (instance : Instance) (status : Status) (text : List ℕ) → instance_of_text bytes ≡ Ok instance → ((other : Instance) × (instance_of_text bytes ≡ Ok other) × IsSolved other options status text) → IsEnded options instance status
+from_solved options bytes instance status text read h =
+    subst (λ i. IsEnded options i status) (same_instance bytes h.0 instance h.1 read) (record { verdict = h.2.answer.verdict; is = h.2.status_is; closed = h.2.answers.enough })
 
-answer_ends : (bytes : List ℕ) (instance : Instance) (status : Status) (text : List ℕ) → length bytes ≤ MAX_INPUT → instance_of_text bytes ≡ Ok instance → Answers bytes status text → IsAnswer status
-answer_ends bytes instance Best text short read a = inl refl
-answer_ends bytes instance NoneFeasible text short read a = inr (inl refl)
-answer_ends bytes instance Accepted text short read a = absurd a.3
-answer_ends bytes instance (Rejected fault) text short read a = absurd a.3
-answer_ends bytes instance Usage text short read a = absurd a.3
-answer_ends bytes instance (BadInput bad) text short read a = let e = sym a.1 ∙ read in absurd cc
-answer_ends bytes instance (BadAnswer bad) text short read a = absurd a.3
-answer_ends bytes instance TooLong text short read a = absurd (omega (arith, a.0))
-answer_ends bytes instance NoAnswer text short read a = absurd a.3
-answer_ends bytes instance ReadFault text short read a = absurd a.3
-answer_ends bytes instance WriteFault text short read a = absurd a.3
-answer_ends bytes instance Open text short read a = absurd a.3
-answer_ends bytes instance Written text short read a = absurd a.3
-answer_ends bytes instance NoMemory text short read a = absurd a.3
+ended : (options : SolveOptions) (bytes : List ℕ) (instance : Instance) (status : Status) (text : List ℕ) → length bytes ≤ MAX_INPUT → instance_of_text bytes ≡ Ok instance → Answers options bytes status text → IsEnded options instance status
+ended options bytes instance Best text short read a = from_solved options bytes instance Best text read a.1
+ended options bytes instance NoneFeasible text short read a = from_solved options bytes instance NoneFeasible text read a.1
+ended options bytes instance Open text short read a = from_solved options bytes instance Open text read a.1
+ended options bytes instance Accepted text short read a = from_solved options bytes instance Accepted text read a.1
+ended options bytes instance Written text short read a = from_solved options bytes instance Written text read a.1
+ended options bytes instance (Rejected fault) text short read a = from_solved options bytes instance (Rejected fault) text read a.1
+ended options bytes instance Usage text short read a = from_solved options bytes instance Usage text read a.1
+ended options bytes instance (BadInput bad) text short read a = let e = sym a.1 ∙ read in absurd cc
+ended options bytes instance (BadAnswer bad) text short read a = from_solved options bytes instance (BadAnswer bad) text read a.1
+ended options bytes instance TooLong text short read a = absurd (omega (arith, a.0))
+ended options bytes instance NoAnswer text short read a = from_solved options bytes instance NoAnswer text read a.1
+ended options bytes instance ReadFault text short read a = from_solved options bytes instance ReadFault text read a.1
+ended options bytes instance WriteFault text short read a = from_solved options bytes instance WriteFault text read a.1
+ended options bytes instance NoMemory text short read a = from_solved options bytes instance NoMemory text read a.1
 
--- on the words of solve and a text of an instance
-pub solve_ends : (words : List (String Global)) (source source' : SourceMoment) (bytes : List ℕ) (instance : Instance) (status : Status) (text : List ℕ)
-    → Names words Solve → source.left ≡ Some bytes → length bytes ≤ MAX_INPUT → instance_of_text bytes ≡ Ok instance → (Rose source.faults source'.faults → ⊥)
-    → IsOutcome words source source' status text → IsAnswer status
-solve_ends words source source' bytes instance Best text named left short read sound h = answer_ends bytes instance Best text short read (solved words h.0 bytes h.2.0 Best text named h.1 (taken source.left source'.left bytes h.2.0 left h.2.1) h.2.2)
-solve_ends words source source' bytes instance NoneFeasible text named left short read sound h = answer_ends bytes instance NoneFeasible text short read (solved words h.0 bytes h.2.0 NoneFeasible text named h.1 (taken source.left source'.left bytes h.2.0 left h.2.1) h.2.2)
-solve_ends words source source' bytes instance Accepted text named left short read sound h = answer_ends bytes instance Accepted text short read (solved words h.0 bytes h.2.0 Accepted text named h.1 (taken source.left source'.left bytes h.2.0 left h.2.1) h.2.2)
-solve_ends words source source' bytes instance (Rejected fault) text named left short read sound h = answer_ends bytes instance (Rejected fault) text short read (solved words h.0 bytes h.2.0 (Rejected fault) text named h.1 (taken source.left source'.left bytes h.2.0 left h.2.1) h.2.2)
-solve_ends words source source' bytes instance Usage text named left short read sound h = absurd (h.0 Solve named)
-solve_ends words source source' bytes instance (BadInput bad) text named left short read sound h = answer_ends bytes instance (BadInput bad) text short read (solved words h.0 bytes h.2.0 (BadInput bad) text named h.1 (taken source.left source'.left bytes h.2.0 left h.2.1) h.2.2)
-solve_ends words source source' bytes instance (BadAnswer bad) text named left short read sound h = answer_ends bytes instance (BadAnswer bad) text short read (solved words h.0 bytes h.2.0 (BadAnswer bad) text named h.1 (taken source.left source'.left bytes h.2.0 left h.2.1) h.2.2)
-solve_ends words source source' bytes instance TooLong text named left short read sound h = absurd (omega (arith, short, dropped source.left source'.left bytes (limit_of h.0 + 1) left h.2.0, solve_limit words h.0 named h.1))
-solve_ends words source source' bytes instance NoAnswer text named left short read sound h = answer_ends bytes instance NoAnswer text short read (solved words h.0 bytes h.2.0 NoAnswer text named h.1 (taken source.left source'.left bytes h.2.0 left h.2.1) h.2.2)
-solve_ends words source source' bytes instance ReadFault text named left short read sound h = absurd (sound h.2.0)
-solve_ends words source source' bytes instance WriteFault text named left short read sound h = answer_ends bytes instance WriteFault text short read (solved words h.0 bytes h.2.0 WriteFault text named h.1 (taken source.left source'.left bytes h.2.0 left h.2.1) h.2.2)
-solve_ends words source source' bytes instance Open text named left short read sound h = answer_ends bytes instance Open text short read (solved words h.0 bytes h.2.0 Open text named h.1 (taken source.left source'.left bytes h.2.0 left h.2.1) h.2.2)
-solve_ends words source source' bytes instance Written text named left short read sound h = answer_ends bytes instance Written text short read (solved words h.0 bytes h.2.0 Written text named h.1 (taken source.left source'.left bytes h.2.0 left h.2.1) h.2.2)
-solve_ends words source source' bytes instance NoMemory text named left short read sound h = answer_ends bytes instance NoMemory text short read (solved words h.0 bytes h.2.0 NoMemory text named h.1 (taken source.left source'.left bytes h.2.0 left h.2.1) h.2.2)
+is_answer : (status : Status) (v : Verdict) → status ≡ status_of v → IsAnswer status
+is_answer status (verdicts.Best t) e = inl e
+is_answer status verdicts.NoneFeasible e = inr (inl e)
+is_answer status (verdicts.Open best lower level prefix) e = inr (inr (inl e))
 
--- on the word of check and an answer that is to be accepted
-pub check_ends : (words : List (String Global)) (source source' : SourceMoment) (bytes : List ℕ) (instance : Instance) (answer : Answer) (status : Status) (text : List ℕ)
-    → Names words Check → source.left ≡ Some bytes → length bytes ≤ MAX_CHECK_INPUT → IsCheckInput bytes instance answer → Accepts instance answer → (Rose source.faults source'.faults → ⊥)
-    → IsOutcome words source source' status text → status ≡ Accepted
-check_ends words source source' bytes instance answer Best text named left short given accepts sound h = accepted bytes instance answer Best text short given accepts (checked words h.0 bytes h.2.0 Best text named h.1 (taken source.left source'.left bytes h.2.0 left h.2.1) h.2.2)
-check_ends words source source' bytes instance answer NoneFeasible text named left short given accepts sound h = accepted bytes instance answer NoneFeasible text short given accepts (checked words h.0 bytes h.2.0 NoneFeasible text named h.1 (taken source.left source'.left bytes h.2.0 left h.2.1) h.2.2)
-check_ends words source source' bytes instance answer Accepted text named left short given accepts sound h = accepted bytes instance answer Accepted text short given accepts (checked words h.0 bytes h.2.0 Accepted text named h.1 (taken source.left source'.left bytes h.2.0 left h.2.1) h.2.2)
-check_ends words source source' bytes instance answer (Rejected fault) text named left short given accepts sound h = accepted bytes instance answer (Rejected fault) text short given accepts (checked words h.0 bytes h.2.0 (Rejected fault) text named h.1 (taken source.left source'.left bytes h.2.0 left h.2.1) h.2.2)
-check_ends words source source' bytes instance answer Usage text named left short given accepts sound h = absurd (h.0 Check named)
-check_ends words source source' bytes instance answer (BadInput bad) text named left short given accepts sound h = accepted bytes instance answer (BadInput bad) text short given accepts (checked words h.0 bytes h.2.0 (BadInput bad) text named h.1 (taken source.left source'.left bytes h.2.0 left h.2.1) h.2.2)
-check_ends words source source' bytes instance answer (BadAnswer bad) text named left short given accepts sound h = accepted bytes instance answer (BadAnswer bad) text short given accepts (checked words h.0 bytes h.2.0 (BadAnswer bad) text named h.1 (taken source.left source'.left bytes h.2.0 left h.2.1) h.2.2)
-check_ends words source source' bytes instance answer TooLong text named left short given accepts sound h = absurd (omega (arith, short, dropped source.left source'.left bytes (limit_of h.0 + 1) left h.2.0, check_limit words h.0 named h.1))
-check_ends words source source' bytes instance answer NoAnswer text named left short given accepts sound h = accepted bytes instance answer NoAnswer text short given accepts (checked words h.0 bytes h.2.0 NoAnswer text named h.1 (taken source.left source'.left bytes h.2.0 left h.2.1) h.2.2)
-check_ends words source source' bytes instance answer ReadFault text named left short given accepts sound h = absurd (sound h.2.0)
-check_ends words source source' bytes instance answer WriteFault text named left short given accepts sound h = accepted bytes instance answer WriteFault text short given accepts (checked words h.0 bytes h.2.0 WriteFault text named h.1 (taken source.left source'.left bytes h.2.0 left h.2.1) h.2.2)
-check_ends words source source' bytes instance answer Open text named left short given accepts sound h = accepted bytes instance answer Open text short given accepts (checked words h.0 bytes h.2.0 Open text named h.1 (taken source.left source'.left bytes h.2.0 left h.2.1) h.2.2)
-check_ends words source source' bytes instance answer Written text named left short given accepts sound h = accepted bytes instance answer Written text short given accepts (checked words h.0 bytes h.2.0 Written text named h.1 (taken source.left source'.left bytes h.2.0 left h.2.1) h.2.2)
-check_ends words source source' bytes instance answer NoMemory text named left short given accepts sound h = accepted bytes instance answer NoMemory text short given accepts (checked words h.0 bytes h.2.0 NoMemory text named h.1 (taken source.left source'.left bytes h.2.0 left h.2.1) h.2.2)
+not_open : (status : Status) (v : Verdict) → status ≡ status_of v → IsClosed v → status ≢ Open
+not_open status (verdicts.Best t) e closed same = cc
+not_open status verdicts.NoneFeasible e closed same = cc
+not_open status (verdicts.Open best lower level prefix) e closed same = absurd closed
 
-proved_of : (command : Command) (given text : List ℕ) → AnswersTo command given Accepted text → IsProved given
-proved_of Solve given text a = absurd a.3
-proved_of Check given text a = accepted_proved given text a
+not_accepted : (v : Verdict) → Accepted ≡ status_of v → ⊥
+not_accepted (verdicts.Best t) e = cc
+not_accepted verdicts.NoneFeasible e = cc
+not_accepted (verdicts.Open best lower level prefix) e = cc
+
+-- ---- runs
+
+module _ (words : List (String Global)) (source source' : SourceMoment) (bytes : List ℕ) (instance : Instance) (status : Status) (text : List ℕ) (left : source.left ≡ Some bytes) where
+  -- on the words of solve and a text of an instance
+  by_options : (options : SolveOptions) → Names words (requests.Solve options) → length bytes ≤ MAX_INPUT → instance_of_text bytes ≡ Ok instance → (Rose source.faults source'.faults → ⊥) → IsOutcomeOf (Solve options) source source' status text →
+      IsAnswer status × (IsEnoughFor words instance → status ≢ Open)
+  by_options options named short read sound h = elim (end_of (Solve options) source source' status text h) [
+    | inl risen ↦ absurd (sound risen)
+    | inr (inl long) ↦ absurd (let l = dropped source.left source'.left bytes (MAX_INPUT + 1) left long in omega arith)
+    | inr (inr whole) ↦ (let e = ended options bytes instance status text short read (subst (λ b. Answers options b status text) (taken source.left source'.left bytes whole.bytes left whole.all) whole.answers) in
+      (is_answer status e.verdict e.is, λ enough. not_open status e.verdict e.is (e.closed (enough options named))))
+  ]
+
+  pub solve_ends : (options : SolveOptions) → Names words (requests.Solve options) → length bytes ≤ MAX_INPUT → instance_of_text bytes ≡ Ok instance → (Rose source.faults source'.faults → ⊥) → IsOutcome words source source' status text →
+      IsAnswer status × (IsEnoughFor words instance → status ≢ Open)
+  solve_ends options named short read sound (asked, asks, out) =
+      let only = solve_only words options asked named asks in
+      by_options only.0 (subst (Asks words) only.1 asks) short read sound (subst (λ a. IsOutcomeFor a source source' status text) only.1 out)
+
+  -- on the word of check and an answer that is to be accepted
+  pub check_ends : (answer : Answer) → Names words requests.Check → length bytes ≤ MAX_CHECK_INPUT → IsCheckInput bytes instance answer → Accepts instance answer → (Rose source.faults source'.faults → ⊥) → IsOutcome words source source' status text → status ≡ Accepted
+  check_ends answer named short given accepts sound (asked, asks, out) =
+      let h : IsOutcomeOf Check source source' status text = subst (λ a. IsOutcomeFor a source source' status text) (check_only words asked named asks) out in
+      elim (end_of Check source source' status text h) [
+        | inl risen ↦ absurd (sound risen)
+        | inr (inl long) ↦ absurd (let l = dropped source.left source'.left bytes (MAX_CHECK_INPUT + 1) left long in omega arith)
+        | inr (inr whole) ↦ accepted bytes instance answer status text short given accepts (subst (λ b. AnswersTo Check b status text) (taken source.left source'.left bytes whole.bytes left whole.all) whole.answers)
+      ]
+
+-- on the words of gen
+pub gen_ends : (words : List (String Global)) (source source' : SourceMoment) (status : Status) (text : List ℕ) (seed : Seed) → Names words (requests.Gen seed) → IsOutcome words source source' status text → status ≡ Written
+gen_ends words source source' status text seed named (asked, asks, out) =
+    let only = gen_only words seed asked named asks in
+    (subst (λ a. IsOutcomeFor a source source' status text) only.1 out).1
 
 -- what was accepted is right
+accepted_by : (source source' : SourceMoment) (bytes text : List ℕ) (asked : Option Request) → source.left ≡ Some bytes → IsOutcomeFor asked source source' Accepted text → IsProved bytes
+accepted_by source source' bytes text None left h = absurd (let e = h.1 in cc)
+accepted_by source source' bytes text (Some (requests.Gen seed)) left h = absurd (let e = h.1 in cc)
+accepted_by source source' bytes text (Some (requests.Demo seed)) left h = absurd (not_accepted h.1.3.answer.verdict h.1.3.status_is)
+accepted_by source source' bytes text (Some (requests.Solve options)) left h = absurd (not_accepted h.2.3.answer.verdict h.2.3.status_is)
+accepted_by source source' bytes text (Some requests.Check) left h =
+    subst IsProved (taken source.left source'.left bytes h.0 left h.1) (accepted_proved h.0 text h.2)
+
 pub accepted_ends : (words : List (String Global)) (source source' : SourceMoment) (bytes : List ℕ) (status : Status) (text : List ℕ)
     → source.left ≡ Some bytes → status ≡ Accepted → IsOutcome words source source' status text → IsProved bytes
 accepted_ends words source source' bytes status text left e h =
     let g : IsOutcome words source source' Accepted text = subst (λ s. IsOutcome words source source' s text) e h in
-    subst IsProved (taken source.left source'.left bytes g.2.0 left g.2.1) (proved_of g.0 g.2.0 text g.2.2)
+    accepted_by source source' bytes text g.0 left g.2

@@ -5,14 +5,7 @@ use Rattle.cert_lines.specs.declared.answer.Answer.{Answer}
 use Rattle.accept_laws.specs.Answers.{IsRight}
 use Rattle.answer_writer.specs.declared.status.Status.{Status}
 use Rattle.answer_writer.specs.declared.status.Status.TheVariants.{Accepted}
-use Rattle.fapp_run.specs.Answers.{Answers}
 use Rattle.fapp_run.specs.Judgements.{Judges, IsCheckInput}
-
--- an input has one status
-abbrev pub OneStatus : Type 0
-OneStatus =
-    (bytes : List ℕ) (one other : Status) (text more : List ℕ)
-    → Answers bytes one text → Answers bytes other more → one ≡ other
 
 -- an input of a check has one status
 abbrev pub OneCheckStatus : Type 0

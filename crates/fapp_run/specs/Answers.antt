@@ -1,27 +1,50 @@
--- What is answered to the bytes of an input.
-use Rattle.std.specs.Prelude.{◌≡◌, ℕ, ◌<◌, ◌≤◌, List, [], length, Ok, Err}
+-- What is answered to the bytes of an input that is to be solved.
+use Rattle.std.specs.Prelude.{◌≡◌, ℕ, ◌+◌, ◌<◌, ◌≤◌, List, length, unwrap_or, IfSome, Ok, Err}
 use Rattle.fapp_model.specs.declared.instance.Instance.{Instance}
-use Rattle.fapp_model.specs.Least.{IsFeasible, Least}
 use Rattle.record_reader.specs.Texts.{instance_of_text}
-use Rattle.fapp_run.specs.declared.outcome.TheConstants.{MAX_INPUT}
+use Rattle.cert_lines.specs.declared.answer.Answer.{Answer}
+use Rattle.cert_lines.specs.declared.answer.Verdict.{Verdict}
+use Rattle.cert_lines.specs.declared.answer.Verdict.TheVariants as verdicts
 use Rattle.answer_writer.specs.declared.status.Status.{Status}
-use Rattle.answer_writer.specs.declared.status.Status.TheVariants.{Best, NoneFeasible, BadInput, TooLong}
+use Rattle.answer_writer.specs.declared.status.Status.TheVariants.{Best, NoneFeasible, Open, BadInput, TooLong}
 use Rattle.answer_writer.specs.Refusals.{refusal_line}
-use Rattle.answer_writer.specs.Texts.{plan_text}
-use Rattle.fapp_run.specs.Plans.{shown}
+use Rattle.answer_writer.specs.Texts.{written_text}
+use Rattle.fapp_words.specs.declared.options.SolveOptions.{SolveOptions}
+use Rattle.fapp_run.specs.declared.outcome.TheConstants.{MAX_INPUT}
+use Rattle.fapp_run.specs.Solving.{IsAnswerFor}
 
--- an instance's answer: its least plan in lines, or nothing where no plan is feasible
-abbrev pub IsPlanOf : Instance → Status → List ℕ → Type 0
-IsPlanOf instance Best text = (plan : List ℕ) × Least instance plan × (text ≡ plan_text instance (shown instance plan))
-IsPlanOf instance NoneFeasible text = ((plan : List ℕ) → IsFeasible instance plan → ⊥) × (text ≡ [])
-IsPlanOf instance _ text = ⊥
+-- options in their ranges
+pub record AreOptions (options : SolveOptions) : Type 0 where
+  pub some_workers : 1 ≤ options.workers
+  pub few_workers : options.workers ≤ 32
+  pub fuel : IfSome options.fuel (λ fuel. fuel ≤ 1000000)
+  pub some_prefixes : 1 ≤ options.split
+  pub few_prefixes : options.split ≤ 4096
+  pub rows : options.pool ≤ 65536
 
--- the answer to an input: that it is longer than the limit, or its first refused line, or that of the instance whose
+-- the fuel of each job: what is named, else 1,000 and the number of paths
+abbrev pub fuel_of : SolveOptions → Instance → ℕ
+fuel_of options instance = unwrap_or options.fuel (1000 + length instance.paths)
+
+-- the status that tells of a verdict
+abbrev pub status_of : Verdict → Status
+status_of (verdicts.Best t) = Best
+status_of verdicts.NoneFeasible = NoneFeasible
+status_of (verdicts.Open best lower level prefix) = Open
+
+-- an answer to an instance, written whole or as its plan alone
+pub record IsSolved (instance : Instance) (options : SolveOptions) (status : Status) (text : List ℕ) : Type 0 where
+  pub answer : Answer
+  pub answers : IsAnswerFor instance options.split (fuel_of options instance) answer
+  pub status_is : status ≡ status_of answer.verdict
+  pub text_is : text ≡ written_text instance answer options.answer_only
+
+-- the answer to an input: that it is longer than the limit, or its first refused line, or that to the instance whose
 -- text it is
-abbrev pub Answers : List ℕ → Status → List ℕ → Type 0
-Answers bytes TooLong text = (MAX_INPUT < length bytes) × (text ≡ refusal_line TooLong)
-Answers bytes (BadInput refused) text =
+abbrev pub Answers : SolveOptions → List ℕ → Status → List ℕ → Type 0
+Answers options bytes TooLong text = (MAX_INPUT < length bytes) × (text ≡ refusal_line TooLong)
+Answers options bytes (BadInput refused) text =
     (length bytes ≤ MAX_INPUT) × (instance_of_text bytes ≡ Err refused) × (text ≡ refusal_line (BadInput refused))
-Answers bytes status text =
+Answers options bytes status text =
     (length bytes ≤ MAX_INPUT)
-    × (instance : Instance) × (instance_of_text bytes ≡ Ok instance) × IsPlanOf instance status text
+    × (instance : Instance) × (instance_of_text bytes ≡ Ok instance) × IsSolved instance options status text

@@ -1,8 +1,6 @@
-pub mod Plans
-pub mod Incumbents
-pub mod Words
 pub mod Solving
 pub mod Answers
+pub mod Made
 pub mod Halves
 pub mod Judgements
 pub mod AnswerLaws

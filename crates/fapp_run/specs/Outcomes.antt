@@ -1,29 +1,46 @@
 -- What is answered to the words and a source, and how the source is left.
-use Rattle.std.specs.Prelude.{◌≡◌, ◌+◌, ℕ, List, String}
+use Rattle.std.specs.Prelude.{◌≡◌, ◌⊎◌, ◌+◌, ℕ, List, String, map, string_bytes, Option, Some, None}
 use Rattle.std.specs.Global.{Global}
 use Rattle.fapp_io.specs.Counts.{Rose}
 use Rattle.fapp_io.specs.Known.{Drops}
 use Rattle.fapp_io.specs.Moments.{SourceMoment}
 use Rattle.fapp_io.specs.Whole.{IsAllOf, DropsUpTo}
 use Rattle.answer_writer.specs.declared.status.Status.{Status}
-use Rattle.answer_writer.specs.declared.status.Status.TheVariants.{Usage, TooLong, ReadFault}
+use Rattle.answer_writer.specs.declared.status.Status.TheVariants.{Usage, Written, TooLong, ReadFault}
 use Rattle.answer_writer.specs.Refusals.{refusal_line}
+use Rattle.fapp_gen.specs.Generated.{network_text}
+use Rattle.fapp_words.specs.declared.request.Request.{Request}
+use Rattle.fapp_words.specs.declared.request.Request.TheVariants as requests
+use Rattle.fapp_words.specs.Promises.{ArePromised, ReadsWords}
+use Rattle.fapp_run.specs.declared.command.Command.{Command}
+use Rattle.fapp_run.specs.declared.command.Command.TheVariants.{Solve, Check}
 use Rattle.fapp_run.specs.declared.judgement.TheConstants.{MAX_CHECK_INPUT}
 use Rattle.fapp_run.specs.declared.outcome.TheConstants.{MAX_INPUT}
-use Rattle.fapp_run.specs.declared.words.Command.{Command}
-use Rattle.fapp_run.specs.declared.words.Command.TheVariants.{Solve, Check}
-use Rattle.fapp_run.specs.Answers.{Answers}
+use Rattle.fapp_run.specs.Answers.{Answers, AreOptions}
 use Rattle.fapp_run.specs.Judgements.{Judges}
-use Rattle.fapp_run.specs.Words.{Names, NamesNone}
+use Rattle.fapp_run.specs.Made.{Demonstrates}
+
+-- the words ask for this
+abbrev pub Names : List (String Global) → Request → Type 0
+Names words request = ArePromised (map string_bytes words) request
+
+-- what the words ask for, or that they ask for nothing
+abbrev pub Asks : List (String Global) → Option Request → Type 0
+Asks words asked = ReadsWords (map string_bytes words) asked
 
 -- the most bytes of a command's input
 abbrev pub limit_of : Command → ℕ
-limit_of Solve = MAX_INPUT
+limit_of (Solve options) = MAX_INPUT
 limit_of Check = MAX_CHECK_INPUT
+
+-- options in their ranges
+abbrev pub AreGiven : Command → Type 0
+AreGiven (Solve options) = AreOptions options
+AreGiven Check = Unit {0}
 
 -- what a command answers to the bytes of its input
 abbrev pub AnswersTo : Command → List ℕ → Status → List ℕ → Type 0
-AnswersTo Solve bytes status text = Answers bytes status text
+AnswersTo (Solve options) bytes status text = Answers options bytes status text
 AnswersTo Check bytes status text = Judges bytes status text
 
 -- The status and the text for a command and what the source had left. A fault stops within the limit, and an input
@@ -38,14 +55,29 @@ IsOutcomeOf command source source' TooLong text =
 IsOutcomeOf command source source' status text =
     (bytes : List ℕ) × IsAllOf source.left source'.left bytes × AnswersTo command bytes status text
 
--- the status and the text for the words: Usage, which reads nothing, or those of the command that they name
-abbrev pub IsOutcome : List (String Global) → SourceMoment → SourceMoment → Status → List ℕ → Type 0
-IsOutcome words source source' Usage text =
-    NamesNone words × (source' ≡ source) × (text ≡ refusal_line Usage)
-IsOutcome words source source' status text =
-    (command : Command) × Names words command × IsOutcomeOf command source source' status text
+-- The status and the text for what the words ask for: Usage where they ask for nothing, a made network, the verdict on
+-- one, and for these three nothing is read; or the outcome of a command for the input.
+abbrev pub IsOutcomeFor : Option Request → SourceMoment → SourceMoment → Status → List ℕ → Type 0
+IsOutcomeFor None source source' status text = (source' ≡ source) × (status ≡ Usage) × (text ≡ refusal_line Usage)
+IsOutcomeFor (Some (requests.Gen seed)) source source' status text =
+    (source' ≡ source) × (status ≡ Written) × (text ≡ network_text seed.number seed.paths)
+IsOutcomeFor (Some (requests.Demo seed)) source source' status text =
+    (source' ≡ source) × Demonstrates (network_text seed.number seed.paths) status text
+IsOutcomeFor (Some (requests.Solve options)) source source' status text = IsOutcomeOf (Solve options) source source' status text
+IsOutcomeFor (Some requests.Check) source source' status text = IsOutcomeOf Check source source' status text
 
--- where there was no memory: a front was read, up to one byte past the command's limit, and nothing for other words
-pub record ReadsFront (words : List (String Global)) (source source' : SourceMoment) : Type 0 where
-  pub front : (command : Command) → Names words command → DropsUpTo source.left source'.left (limit_of command + 1)
-  pub nothing : NamesNone words → source' ≡ source
+-- the status and the text for the words
+abbrev pub IsOutcome : List (String Global) → SourceMoment → SourceMoment → Status → List ℕ → Type 0
+IsOutcome words source source' status text =
+    (asked : Option Request) × Asks words asked × IsOutcomeFor asked source source' status text
+
+-- where there was no memory: a front was read, up to one byte past the command's limit, and nothing for what reads none
+abbrev pub ReadsFor : Request → SourceMoment → SourceMoment → Type 0
+ReadsFor (requests.Solve options) source source' = DropsUpTo source.left source'.left (MAX_INPUT + 1)
+ReadsFor requests.Check source source' = DropsUpTo source.left source'.left (MAX_CHECK_INPUT + 1)
+ReadsFor (requests.Gen seed) source source' = source' ≡ source
+ReadsFor (requests.Demo seed) source source' = source' ≡ source
+
+abbrev pub ReadsFront : List (String Global) → SourceMoment → SourceMoment → Type 0
+ReadsFront words source source' =
+    (source' ≡ source) ⊎ ((request : Request) × Names words request × ReadsFor request source source')

@@ -1,5 +1,5 @@
 -- Whole runs of the program.
-use Rattle.std.specs.Prelude.{◌≡◌, ◌⊎◌, ℕ, ◌≤◌, List, [], length, Some, Ok, String}
+use Rattle.std.specs.Prelude.{◌≡◌, ◌≢◌, ◌⊎◌, ℕ, ◌≤◌, List, [], length, Some, Ok, String}
 use Rattle.std.specs.Global.{Global}
 use Rattle.fapp_io.specs.Counts.{Rose}
 use Rattle.fapp_io.specs.Known.{Grows}
@@ -10,14 +10,18 @@ use Rattle.record_reader.specs.Texts.{instance_of_text}
 use Rattle.cert_lines.specs.declared.answer.Answer.{Answer}
 use Rattle.cert_lines.specs.acceptance.Accepts.{Accepts}
 use Rattle.answer_writer.specs.declared.status.Status.{Status}
-use Rattle.answer_writer.specs.declared.status.Status.TheVariants.{Best, NoneFeasible, Accepted, WriteFault, NoMemory}
+use Rattle.answer_writer.specs.declared.status.Status.TheVariants.{Best, NoneFeasible, Open, Accepted, Written, WriteFault, NoMemory}
+use Rattle.fapp_plan.specs.Plans.{split_of}
+use Rattle.fapp_words.specs.declared.options.SolveOptions.{SolveOptions}
+use Rattle.fapp_words.specs.declared.request.Request.TheVariants as requests
+use Rattle.fapp_words.specs.declared.request.Seed.{Seed}
+use Rattle.outcome_laws.specs.Laws.{IsEnough}
 use Rattle.fapp_run.specs.declared.judgement.TheConstants.{MAX_CHECK_INPUT}
 use Rattle.fapp_run.specs.declared.outcome.TheConstants.{MAX_INPUT}
-use Rattle.fapp_run.specs.declared.words.Command.TheVariants.{Solve, Check}
 use Rattle.fapp_run.specs.AnswerLaws.{IsProved}
+use Rattle.fapp_run.specs.Answers.{fuel_of}
 use Rattle.fapp_run.specs.Judgements.{IsCheckInput}
-use Rattle.fapp_run.specs.Outcomes.{IsOutcome, ReadsFront}
-use Rattle.fapp_run.specs.Words.{Names}
+use Rattle.fapp_run.specs.Outcomes.{IsOutcome, Names, ReadsFront}
 
 -- the whole text was taken, an empty one by no call
 abbrev pub TakesWhole : SinkMoment → SinkMoment → List ℕ → Type 0
@@ -34,30 +38,41 @@ IsRun words source source' sink sink' WriteFault =
 IsRun words source source' sink sink' status =
     (text : List ℕ) × IsOutcome words source source' status text × TakesWhole sink sink' text
 
--- a plan, or none, or no memory
+-- an answer, or no memory
 abbrev pub IsAnswer : Status → Type 0
-IsAnswer status = (status ≡ Best) ⊎ ((status ≡ NoneFeasible) ⊎ (status ≡ NoMemory))
+IsAnswer status = (status ≡ Best) ⊎ ((status ≡ NoneFeasible) ⊎ ((status ≡ Open) ⊎ (status ≡ NoMemory)))
+
+-- each job of one level that decides has tries within the fuel that the words name
+abbrev pub IsEnoughFor : List (String Global) → Instance → Type 0
+IsEnoughFor words instance = (options : SolveOptions) → Names words (requests.Solve options) →
+    IsEnough (split_of instance options.split) (fuel_of options instance)
 
 -- neither the source nor the sink failed
 abbrev pub IsUnfailing : SourceMoment → SourceMoment → SinkMoment → SinkMoment → Type 0
 IsUnfailing source source' sink sink' =
     (Rose source.faults source'.faults → ⊥) × (Rose sink.faults sink'.faults → ⊥)
 
--- on the words of solve, a text of an instance within the limit, and no fault, the run ends with an answer
+-- on the words of solve, a text of an instance within the limit, and no fault, the run ends with an answer, and with fuel
+-- enough it is not open
 abbrev pub Completes : List (String Global) → SourceMoment → SourceMoment → SinkMoment → SinkMoment → Status → Type 0
 Completes words source source' sink sink' status =
-    (bytes : List ℕ) (instance : Instance) → Names words Solve
+    (bytes : List ℕ) (instance : Instance) (options : SolveOptions) → Names words (requests.Solve options)
     → source.left ≡ Some bytes → length bytes ≤ MAX_INPUT → instance_of_text bytes ≡ Ok instance
-    → IsUnfailing source source' sink sink' → IsAnswer status
+    → IsUnfailing source source' sink sink' → IsAnswer status × (IsEnoughFor words instance → status ≢ Open)
 
 -- on the word of check, an instance with an answer that is to be accepted, within the limit, and no fault, the answer
 -- is accepted, or there was no memory
 abbrev pub CompletesCheck : List (String Global) → SourceMoment → SourceMoment → SinkMoment → SinkMoment → Status →
     Type 0
 CompletesCheck words source source' sink sink' status =
-    (bytes : List ℕ) (instance : Instance) (answer : Answer) → Names words Check
+    (bytes : List ℕ) (instance : Instance) (answer : Answer) → Names words requests.Check
     → source.left ≡ Some bytes → length bytes ≤ MAX_CHECK_INPUT → IsCheckInput bytes instance answer
     → Accepts instance answer → IsUnfailing source source' sink sink' → (status ≡ Accepted) ⊎ (status ≡ NoMemory)
+
+-- on the words of gen and no fault of the sink, the network is written, or there was no memory
+abbrev pub CompletesGen : List (String Global) → SinkMoment → SinkMoment → Status → Type 0
+CompletesGen words sink sink' status = (seed : Seed) → Names words (requests.Gen seed) → (Rose sink.faults sink'.faults → ⊥)
+    → (status ≡ Written) ⊎ (status ≡ NoMemory)
 
 -- where a source that tells its bytes was read and the status is Accepted, what the answer in them claims is so
 abbrev pub ProvesAccepted : SourceMoment → Status → Type 0

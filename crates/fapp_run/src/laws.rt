@@ -1,10 +1,5 @@
 // What answers say, as laws over their definitions: nothing runs here.
-ghost use Rattle.fapp_run.specs.AnswerLaws.{OneStatus, OneCheckStatus, AcceptedIsRight};
-
-/// An input has one status: whatever answers it ends alike.
-pub fn an_input_has_one_status()
-    ensures { OneStatus }
-{}
+ghost use Rattle.fapp_run.specs.AnswerLaws.{OneCheckStatus, AcceptedIsRight};
 
 /// An input of a check has one status.
 pub fn a_check_has_one_status()

@@ -2,18 +2,20 @@
 #![tactic(auto)]
 
 mod check_input;
-mod enumeration;
+mod command;
 mod judgement;
 mod laws;
+mod made;
 mod outcome;
 mod plan;
 mod solving;
 mod top;
-mod words;
 
 pub use answer_writer::Status;
+pub use fapp_words::SolveOptions;
+pub use fapp_workers::{Gate, OpenGate};
 pub use judgement::{MAX_CHECK_INPUT, judge};
-pub use laws::{a_check_has_one_status, an_input_has_one_status, what_is_accepted_is_right};
+pub use laws::{a_check_has_one_status, what_is_accepted_is_right};
 pub use outcome::{MAX_INPUT, Outcome, answer};
 pub use solving::solve_answer;
 pub use top::run;

@@ -1,20 +1,22 @@
-// What is answered to the bytes of an input.
+// What is answered to the bytes of an input that is to be solved.
 ghost use Rattle.std.specs.Prelude.{◌≡◌, IfOk};
-ghost use Rattle.fapp_model.specs.Assignments.{IsAssignment};
 ghost use Rattle.fapp_model.specs.Instances.{IsInstance};
+ghost use Rattle.cert_lines.specs.WellFormed.{IsWellFormed};
 ghost use Rattle.answer_writer.specs.Refusals.{refusal_line};
-ghost use Rattle.answer_writer.specs.Texts.{plan_text};
-ghost use Rattle.fapp_run.specs.Answers.{Answers, IsPlanOf};
-ghost use Rattle.fapp_run.specs.Plans.{shown};
+ghost use Rattle.answer_writer.specs.Texts.{written_text};
+ghost use Rattle.fapp_workers.specs.Ranges.{AreInRange};
+ghost use Rattle.fapp_run.specs.Answers.{Answers, AreOptions, IsSolved, fuel_of, status_of};
 
-use crate::enumeration::least_plan;
-use crate::plan::shown;
-use answer_writer::{Status, refusal_text};
-use cert_lines::plan_text;
+use crate::solving::solve_answer;
+use answer_writer::{Status, answer_text, refusal_text};
+use cert_lines::{Answer, Verdict};
 use fapp_io::NoMemory;
 use fapp_model::Instance;
+use fapp_words::SolveOptions;
+use fapp_workers::{Gate, Settings};
 use record_reader::{ReadError, read_instance};
 use std::alloc::Global;
+use std::thread::Threads;
 
 /// The most bytes of an input.
 pub const MAX_INPUT: usize = 67_108_864;
@@ -28,44 +30,92 @@ pub struct Outcome {
     pub text: Vec<u8>,
 }
 
-/// The outcome for an input, given as its bytes: the least plan of the instance whose text it is, or that no plan meets
-/// the instance, the first refused line of another text, or `TooLong` for more than `MAX_INPUT` bytes. `run` answers
-/// just so to what it reads.
-pub fn answer(alloc: Global, bytes: &[u8]) -> Result<Outcome, NoMemory>
-    ensures { IfOk result (λ outcome. Answers bytes.now outcome.status outcome.text.items) }
+/// The outcome for an input, given as its bytes: the answer to the instance whose text it is, the first refused line of
+/// another text, or `TooLong` for more than `MAX_INPUT` bytes. `run` answers just so to what it reads.
+pub fn answer<R: Threads + Sync, G: Gate>(
+    rt: &R,
+    alloc: Global,
+    bytes: &[u8],
+    options: &SolveOptions,
+    gate: &G,
+) -> Result<Outcome, NoMemory>
+    requires { AreOptions options.now }
+    ensures { IfOk result (λ outcome. Answers options.now bytes.now outcome.status outcome.text.items) }
 {
     if bytes.len() > MAX_INPUT {
         return refusal(alloc, Status::TooLong);
     }
     match read_instance(alloc, bytes) {
-        Ok(instance) => plan_outcome(alloc, &instance),
+        Ok(instance) => solved(rt, alloc, &instance, options, gate),
         Err(ReadError::Bad(bad)) => refusal(alloc, Status::BadInput(bad)),
         Err(ReadError::NoMemory) => Err(NoMemory),
     }
 }
 
-/// The least plan of an instance, as an outcome.
-fn plan_outcome(alloc: Global, instance: &Instance) -> Result<Outcome, NoMemory>
-    requires { IsInstance instance.now }
-    ensures { IfOk result (λ outcome. IsPlanOf instance.now outcome.status outcome.text.items) }
+/// The answer to an instance, as an outcome.
+fn solved<R: Threads + Sync, G: Gate>(
+    rt: &R,
+    alloc: Global,
+    instance: &Instance,
+    options: &SolveOptions,
+    gate: &G,
+) -> Result<Outcome, NoMemory>
+    requires instance { IsInstance instance.now }
+    requires options { AreOptions options.now }
+    ensures { IfOk result (λ outcome. IsSolved instance.now options.now outcome.status outcome.text.items) }
 {
-    match least_plan(alloc, instance)? {
-        Some(plan) => Ok(Outcome {
-            status: Status::Best,
-            text: lines_of(alloc, instance, plan.as_slice())?,
-        }),
-        None => refusal(alloc, Status::NoneFeasible),
+    let settings = settings_for(instance, options);
+    let answer = solve_answer(rt, alloc, instance, &settings, gate)?;
+    told(alloc, instance, &answer, options.answer_only)
+}
+
+/// An answer with its status.
+fn told(
+    alloc: Global,
+    instance: &Instance,
+    answer: &Answer,
+    answer_only: bool,
+) -> Result<Outcome, NoMemory>
+    requires { IsWellFormed instance.now answer.now }
+    ensures status { IfOk result (λ outcome. outcome.status ≡ status_of answer.now.verdict) }
+    ensures text { IfOk result (λ outcome. outcome.text.items ≡ written_text instance.now answer.now answer_only) }
+{
+    let text = answer_text(alloc, instance, answer, answer_only)?;
+    Ok(Outcome {
+        status: status_of(&answer.verdict),
+        text,
+    })
+}
+
+/// The status that tells of a verdict.
+pub fn status_of(verdict: &Verdict) -> Status
+    ensures { result ≡ status_of verdict.now }
+{
+    match verdict {
+        Verdict::Best(_) => Status::Best,
+        Verdict::NoneFeasible => Status::NoneFeasible,
+        Verdict::Open { .. } => Status::Open,
     }
 }
 
-/// A line for each path.
-fn lines_of(alloc: Global, instance: &Instance, plan: &[u16]) -> Result<Vec<u8>, NoMemory>
+/// The settings of the workers: where no fuel is named, it is 1,000 and the number of paths.
+pub fn settings_for(instance: &Instance, options: &SolveOptions) -> Settings
     requires instance { IsInstance instance.now }
-    requires plan { IsAssignment instance.now plan.now }
-    ensures { IfOk result (λ text. text.items ≡ plan_text instance.now (shown instance.now plan.now)) }
+    requires options { AreOptions options.now }
+    ensures range { AreInRange result }
+    ensures fuel { result.fuel ≡ fuel_of options.now instance.now }
+    ensures split { result.split ≡ options.now.split }
 {
-    let choices = shown(alloc, instance, plan)?;
-    plan_text(alloc, instance, &choices)
+    let fuel = match options.fuel {
+        Some(fuel) => fuel,
+        None => 1000 + instance.paths.len() as u32,
+    };
+    Settings {
+        workers: options.workers,
+        fuel: u64::from(fuel),
+        split: options.split,
+        pool: options.pool,
+    }
 }
 
 /// A status with the line that tells of it.

@@ -1,7 +1,7 @@
 ghost use Rattle.std.specs.Prelude.{◌≡◌, IfOk};
 ghost use Rattle.fapp_model.specs.Instances.{IsInstance};
 ghost use Rattle.fapp_model.specs.Assignments.{IsAssignment};
-ghost use Rattle.fapp_run.specs.Plans.{shown};
+ghost use Rattle.accept_laws.specs.ShownPlans.{shown};
 
 use fapp_io::NoMemory;
 use fapp_model::{Choice, Instance, chosen};

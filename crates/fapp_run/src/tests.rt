@@ -3,18 +3,17 @@ ghost use Rattle.std.specs.Prelude.{◌≤◌};
 mod checks;
 
 use super::*;
-use crate::enumeration::least_plan;
-use fapp_cost::cost;
 use fapp_io::{MemSink, MemSource};
-use fapp_model::Triple;
-use record_reader::read_instance;
 use std::alloc::Global;
 use std::test::Fail;
-use worked_networks::{ALIKE, CHAIN, FALLING, FREE, PLAIN, SMALL, TIED, TORN};
+use std::thread::Threads;
+use worked_networks::{CHAIN, FALLING, FREE, PLAIN, SMALL, TIED, TORN};
 
 const WORDS: &str = "solve --answer-only";
 
 const PLAIN_PLAN: &str = "AL 1 10 1\nAL 2 30 1\n";
+
+const PLAIN_ANSWER: &str = "AL 1 10 1\nAL 2 30 1\n--\nBEST 0 0 0\nC 0 0 0 0 0\nEND\n";
 
 const CHECKED: &str = "--\n--\nBEST 0 0 0\nC 0 0 0 0 0\nEND\n";
 
@@ -22,7 +21,7 @@ const LENIENT: &str =
     "TR 1 1 1\r\nTR\t2 2 1\r\n\r\nCE  1 2 20 20 20 20 20 20 20 20 20 20 20\r\nDM 2 30\nDM 2 10\nDM 2 020\nDM 2 30\nDM 1 10";
 
 // Words, an input, the exit status and what is written. Each plan is the only one that costs the least.
-const ENDS: [(&str, &str, u8, &str); 34] = [
+const ENDS: [(&str, &str, u8, &str); 36] = [
     (WORDS, PLAIN, 0, PLAIN_PLAN),
     (WORDS, CHAIN, 0, "AL 1 10 1\nAL 2 20 1\n"),
     (WORDS, "", 0, ""),
@@ -43,7 +42,9 @@ const ENDS: [(&str, &str, u8, &str); 34] = [
     ),
     (WORDS, LENIENT, 0, PLAIN_PLAN),
     (WORDS, TORN, 1, ""),
-    ("solve", PLAIN, 64, "USAGE\n"),
+    ("solve", PLAIN, 0, PLAIN_ANSWER),
+    ("solve --split 1 --answer-only --workers=1", PLAIN, 0, PLAIN_PLAN),
+    ("solve --answer-only --answer-only", PLAIN, 64, "USAGE\n"),
     ("solve --workers 0", PLAIN, 64, "USAGE\n"),
     ("solve --workers 33", PLAIN, 64, "USAGE\n"),
     ("solve --", PLAIN, 64, "USAGE\n"),
@@ -115,15 +116,6 @@ const FAULTS: [(&str, &str, usize, u64, u64, u8, &str); 6] = [
     ("check", CHECKED, 4, 0, 3, 67, "ACCEPTED"),
 ];
 
-// Networks, and what their least plans cost.
-const COSTS: [(&str, Triple); 5] = [
-    (FALLING, Triple { k: 5, v: 1, s: 4 }),
-    (ALIKE, Triple { k: 11, v: 1, s: 10 }),
-    (FREE, Triple { k: 0, v: 0, s: 0 }),
-    (TIED, Triple { k: 11, v: 1, s: 10 }),
-    (SMALL, Triple { k: 4, v: 1, s: 3 }),
-];
-
 fn words_of(alloc: Global, line: &str) -> Result<Vec<String>, Fail> {
     let mut words = Vec::new(alloc);
     for word in line.split(' ') {
@@ -133,7 +125,8 @@ fn words_of(alloc: Global, line: &str) -> Result<Vec<String>, Fail> {
 }
 
 /// How the program ends on these words and this input, given and taken in pieces, one call failing (0: none).
-fn end_of(
+fn end_of<R: Threads + Sync>(
+    rt: &R,
     alloc: Global,
     words: &str,
     input: &[u8],
@@ -147,7 +140,7 @@ fn end_of(
     let mut source = MemSource::new(bytes, pieces, vec![in alloc; failing_read]?);
     let mut sink = MemSink::new(alloc, 100_000, pieces, vec![in alloc; failing_write]?)?;
     let words = words_of(alloc, words)?;
-    let status = run(alloc, &words, &mut source, &mut sink);
+    let status = run(rt, alloc, &words, &mut source, &mut sink, &OpenGate);
     Ok((status, Vec::from_slice(alloc, sink.taken())?))
 }
 
@@ -155,7 +148,7 @@ fn end_of(
 fn each_input_has_its_end(rt: HostRuntime) -> Result<(), Fail> {
     for (words, input, code, output) in ENDS.iter() {
         for pieces in [1, 3, 4096] {
-            let (status, written) = end_of(rt.alloc(), words, input.as_bytes(), pieces, 0, 0)?;
+            let (status, written) = end_of(&rt, rt.alloc(), words, input.as_bytes(), pieces, 0, 0)?;
             assert_eq!(rt; status.code(), *code, "at {words} {input}");
             assert_eq!(rt; written.as_slice(), output.as_bytes(), "at {words} {input}");
         }
@@ -165,7 +158,14 @@ fn each_input_has_its_end(rt: HostRuntime) -> Result<(), Fail> {
 
 #[test]
 fn bytes_alone_have_their_answer(rt: HostRuntime) -> Result<(), Fail> {
-    let outcome = answer(rt.alloc(), PLAIN.as_bytes())?;
+    let options = SolveOptions {
+        workers: 2,
+        fuel: None,
+        split: 64,
+        pool: 0,
+        answer_only: true,
+    };
+    let outcome = answer(&rt, rt.alloc(), PLAIN.as_bytes(), &options, &OpenGate)?;
     assert_eq!(rt; outcome.status, Status::Best);
     assert_eq!(rt; outcome.text.as_slice(), PLAIN_PLAN.as_bytes());
     Ok(())
@@ -175,6 +175,7 @@ fn bytes_alone_have_their_answer(rt: HostRuntime) -> Result<(), Fail> {
 fn each_fault_has_its_end(rt: HostRuntime) -> Result<(), Fail> {
     for (words, input, most, failing_read, failing_write, code, output) in FAULTS.iter() {
         let (status, written) = end_of(
+            &rt,
             rt.alloc(),
             words,
             input.as_bytes(),
@@ -201,7 +202,7 @@ fn any_call_may_fail(rt: HostRuntime) -> Result<(), Fail> {
     let input = PLAIN.as_bytes();
     // The 90 bytes are read by seven calls, the last of which finds the end.
     for call in 1..8 {
-        let (status, written) = end_of(rt.alloc(), WORDS, input, 16, call, 0)?;
+        let (status, written) = end_of(&rt, rt.alloc(), WORDS, input, 16, call, 0)?;
         assert_eq!(rt; status, Status::ReadFault, "at call {call}");
         assert_eq!(rt;
             written.as_slice(),
@@ -211,7 +212,7 @@ fn any_call_may_fail(rt: HostRuntime) -> Result<(), Fail> {
     }
     // The 20 bytes are written by five.
     for call in 1..6 {
-        let (status, written) = end_of(rt.alloc(), WORDS, input, 4, 0, call)?;
+        let (status, written) = end_of(&rt, rt.alloc(), WORDS, input, 4, 0, call)?;
         assert_eq!(rt; status, Status::WriteFault, "at call {call}");
         let front = PLAIN_PLAN.as_bytes().get(..4 * (call as usize - 1));
         assert_eq!(rt; Some(written.as_slice()), front, "at call {call}");
@@ -226,7 +227,7 @@ fn the_longest_input_is_read(rt: HostRuntime) -> Result<(), Fail> {
         (MAX_INPUT + 1, 65, "BADINPUT 0 TooLong\n"),
     ] {
         let feeds = vec![in rt.alloc(); b'\n'; length]?;
-        let (status, written) = end_of(rt.alloc(), WORDS, &feeds, 4096, 0, 0)?;
+        let (status, written) = end_of(&rt, rt.alloc(), WORDS, &feeds, 4096, 0, 0)?;
         assert_eq!(rt; status.code(), code);
         assert_eq!(rt; written.as_slice(), output.as_bytes());
     }
@@ -241,32 +242,15 @@ fn the_most_paths_are_planned(rt: HostRuntime) -> Result<(), Fail> {
         writeln!(text, "TR {number} 1 1")?;
         writeln!(lines, "AL {number} 5 1")?;
     }
-    let (status, written) = end_of(rt.alloc(), WORDS, text.as_bytes(), 4096, 0, 0)?;
+    let (status, written) = end_of(&rt, rt.alloc(), WORDS, text.as_bytes(), 4096, 0, 0)?;
     assert_eq!(rt; status, Status::Best);
     assert!(rt; written.as_slice() == lines.as_bytes());
     writeln!(text, "TR 8193 1 1")?;
-    let (status, written) = end_of(rt.alloc(), WORDS, text.as_bytes(), 4096, 0, 0)?;
+    let (status, written) = end_of(&rt, rt.alloc(), WORDS, text.as_bytes(), 4096, 0, 0)?;
     assert_eq!(rt; status.code(), 65);
     assert_eq!(rt;
         written.as_slice(),
         b"BADINPUT 8194 TooManyPaths\n".as_slice()
     );
-    Ok(())
-}
-
-#[test]
-fn least_plans_have_their_costs(rt: HostRuntime) -> Result<(), Fail> {
-    for (input, triple) in COSTS.iter() {
-        assert!(rt; input.len() < 1000);
-        let instance = read_instance(rt.alloc(), input.as_bytes())
-            .ok()
-            .ok_or("unread")?;
-        let plan = least_plan(rt.alloc(), &instance)?.ok_or("no plan")?;
-        assert_eq!(rt;
-            cost(&instance, plan.as_slice()),
-            Some(*triple),
-            "at {input}"
-        );
-    }
     Ok(())
 }

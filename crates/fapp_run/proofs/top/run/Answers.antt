@@ -1,16 +1,20 @@
 use Rattle.std.proofs.Common.{inl}
-use Rattle.fapp_run.proofs.RunEnds.{solve_ends, check_ends, accepted_ends}
+use Rattle.fapp_run.proofs.RunEnds.{solve_ends, check_ends, gen_ends, accepted_ends}
 use Rattle.fapp_run.proofs.top.run.Goals as goal
 
 pub returns-in-Ok-write_all-clause-completes : goal.returns-in-Ok-write_all-clause-completes
-returns-in-Ok-write_all-clause-completes g c = λ bytes instance named left short read sound.
+returns-in-Ok-write_all-clause-completes g c = λ bytes instance options named left short read sound.
     solve_ends c.args.words.now (g.S.Source.moment c.args.source.now) (g.S.Source.moment c.outcome_of.new.source) bytes instance c.in-Ok.outcome.status c.in-Ok.outcome.text.items
-    named left short read sound.0 c.in-Ok.ensures.outcome
+    left options named short read sound.0 c.in-Ok.ensures.outcome
 
 pub returns-in-Ok-write_all-clause-completes_check : goal.returns-in-Ok-write_all-clause-completes_check
 returns-in-Ok-write_all-clause-completes_check g c = λ bytes instance answer named left short given accepts sound.
-    inl (check_ends c.args.words.now (g.S.Source.moment c.args.source.now) (g.S.Source.moment c.outcome_of.new.source) bytes instance answer c.in-Ok.outcome.status
-    c.in-Ok.outcome.text.items named left short given accepts sound.0 c.in-Ok.ensures.outcome)
+    inl (check_ends c.args.words.now (g.S.Source.moment c.args.source.now) (g.S.Source.moment c.outcome_of.new.source) bytes instance c.in-Ok.outcome.status
+    c.in-Ok.outcome.text.items left answer named short given accepts sound.0 c.in-Ok.ensures.outcome)
+
+pub returns-in-Ok-write_all-clause-completes_gen : goal.returns-in-Ok-write_all-clause-completes_gen
+returns-in-Ok-write_all-clause-completes_gen g c = λ seed named sound.
+    inl (gen_ends c.args.words.now (g.S.Source.moment c.args.source.now) (g.S.Source.moment c.outcome_of.new.source) c.in-Ok.outcome.status c.in-Ok.outcome.text.items seed named c.in-Ok.ensures.outcome)
 
 pub returns-in-Ok-write_all-clause-right : goal.returns-in-Ok-write_all-clause-right
 returns-in-Ok-write_all-clause-right g c = λ bytes left e.

@@ -1,0 +1,78 @@
+-- What the words ask for is in its ranges.
+use Rattle.std.proofs.Common.{◌≡◌, ℕ, ◌≤◌, Bool, true, false, ◌&&◌, List, Option, None, Some, Result, Ok, Err, refl, sym, ap, ◌∙◌, subst, arith, leb, cond}
+use Rattle.std.specs.Prelude.{IfSome, option_and_then, unwrap_or}
+use Rattle.std.proofs.lemmas.Bool.{and_parts, leb-true}
+use Rattle.clap.specs.Words.{Text}
+use Rattle.fapp_text.specs.Numbers.{number_of}
+use Rattle.fapp_text.specs.declared.numeral.NumFault.{NumFault}
+use Rattle.fapp_words.specs.declared.options.SolveOptions.{SolveOptions}
+use Rattle.fapp_words.specs.declared.request.Request.{Request}
+use Rattle.fapp_words.specs.declared.request.Request.TheVariants.{Solve, Check, Gen, Demo}
+use Rattle.fapp_words.specs.declared.request.Seed.{Seed}
+use Rattle.fapp_words.specs.Options.{IsPromised, options_in, ranged, within}
+use Rattle.fapp_words.specs.Promises.{ArePromised, IsSeed}
+use Rattle.fapp_run.specs.Answers.{AreOptions}
+use Rattle.fapp_run.specs.Made.{AreRequested, AreSeed}
+
+-- a number in a range, where there is one
+abbrev IsIn : ℕ → ℕ → Option ℕ → Type 0
+IsIn low high o = IfSome o (λ n. (low ≤ n) × (n ≤ high))
+
+within-in : (low high : ℕ) (r : Result ℕ NumFault) (o : Option ℕ) → within low high r ≡ Some o → IsIn low high o
+within-in low high (Err fault) o e = absurd (cc)
+within-in low high (Ok n) o e = by_range (leb low n && leb n high) refl e
+  where
+    some-is : (a b : Option ℕ) → Some a ≡ Some b → a ≡ b
+    some-is a b e = cc
+
+    by_range : (b : Bool) → (leb low n && leb n high) ≡ b → cond b (Some (Some n)) None ≡ Some o → IsIn low high o
+    by_range true h e =
+        let parts = and_parts (leb low n) (leb n high) h in
+        subst (IsIn low high) (some-is (Some n) o e) (leb-true low n parts.0, leb-true n high parts.1)
+    by_range false h e = absurd (cc)
+
+ranged-in : (low high : ℕ) (text : Option Text) (o : Option ℕ) → ranged low high text ≡ Some o → IsIn low high o
+ranged-in low high None None e = tt
+ranged-in low high None (Some n) e = absurd (cc)
+ranged-in low high (Some text) o e = within-in low high (number_of text) o e
+
+or-in : (low high d : ℕ) (o : Option ℕ) → low ≤ d → d ≤ high → IsIn low high o → (low ≤ unwrap_or o d) × (unwrap_or o d ≤ high)
+or-in low high d None least most h = (least, most)
+or-in low high d (Some n) least most h = h
+
+fuel-in : (o : Option ℕ) → IsIn 0 1000000 o → IfSome o (λ n. n ≤ 1000000)
+fuel-in None h = tt
+fuel-in (Some n) h = h.1
+
+options-given : (w f s p : Option (Option ℕ)) (only : Bool) (options : SolveOptions) → ((o : Option ℕ) → w ≡ Some o → IsIn 1 32 o) → ((o : Option ℕ) → f ≡ Some o → IsIn 0 1000000 o) → ((o : Option ℕ) → s ≡ Some o → IsIn 1 4096 o) → ((o : Option ℕ) → p ≡ Some o → IsIn 0 65536 o) →
+    option_and_then (λ w'. option_and_then (λ f'. option_and_then (λ s'. option_and_then (λ p'. Some (record { workers = unwrap_or w' 4; fuel = f'; split = unwrap_or s' 64; pool = unwrap_or p' 4096; answer_only = only })) p) s) f) w ≡ Some options → AreOptions options
+options-given None f s p only options hw hf hs hp e = absurd (cc)
+options-given (Some w) None s p only options hw hf hs hp e = absurd (cc)
+options-given (Some w) (Some f) None p only options hw hf hs hp e = absurd (cc)
+options-given (Some w) (Some f) (Some s) None only options hw hf hs hp e = absurd (cc)
+options-given (Some w) (Some f) (Some s) (Some p) only options hw hf hs hp e = subst AreOptions (some-is _ options e) (record {
+  some_workers = (or-in 1 32 4 w (omega arith) (omega arith) (hw w refl)).0;
+  few_workers = (or-in 1 32 4 w (omega arith) (omega arith) (hw w refl)).1;
+  fuel = fuel-in f (hf f refl);
+  some_prefixes = (or-in 1 4096 64 s (omega arith) (omega arith) (hs s refl)).0;
+  few_prefixes = (or-in 1 4096 64 s (omega arith) (omega arith) (hs s refl)).1;
+  rows = (or-in 0 65536 4096 p (omega arith) (omega arith) (hp p refl)).1;
+})
+  where
+    some-is : (a b : SolveOptions) → Some a ≡ Some b → a ≡ b
+    some-is a b e = cc
+
+solve-in : (words : List Text) (options : SolveOptions) → IsPromised words options → AreOptions options
+solve-in words options h = options-given _ _ _ _ _ options (ranged-in 1 32 _) (ranged-in 0 1000000 _) (ranged-in 1 4096 _) (ranged-in 0 65536 _) h.values
+
+seed-in : (name : Text) (words : List Text) (seed : Seed) → IsSeed name words seed → AreSeed seed
+seed-in name words seed h =
+    let number = ranged-in 0 1000000000 (Some h.number) (Some seed.number) h.number_value in
+    let paths = ranged-in 2 2000 (Some h.paths) (Some seed.paths) h.paths_value in
+    record { number = number.1; some_paths = paths.0; few_paths = paths.1 }
+
+pub asked-in : (words : List Text) (request : Request) → ArePromised words request → AreRequested request
+asked-in words (Solve options) h = solve-in words options h
+asked-in words Check h = tt
+asked-in words (Gen seed) h = seed-in _ words seed h
+asked-in words (Demo seed) h = seed-in _ words seed h

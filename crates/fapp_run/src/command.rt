@@ -1,0 +1,10 @@
+use fapp_words::SolveOptions;
+
+/// What is done with an input that is read.
+#[derive(Clone, Copy, Debug, PartialEq, Eq)]
+pub enum Command {
+    /// The instance is solved.
+    Solve(SolveOptions),
+    /// The answer behind the instance is checked.
+    Check,
+}

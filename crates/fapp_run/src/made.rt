@@ -1,0 +1,84 @@
+// What is answered where the network is made and none is read.
+ghost use Rattle.std.specs.Prelude.{◌≡◌, ◌≤◌, IfOk};
+ghost use Rattle.fapp_model.specs.Instances.{IsInstance};
+ghost use Rattle.fapp_gen.specs.Generated.{network_text};
+ghost use Rattle.fapp_run.specs.Made.{AreSeed, Demonstrates, IsDemonstrated, demo_options};
+
+use crate::outcome::{MAX_INPUT, Outcome, refusal, settings_for, status_of};
+use crate::solving::solve_answer;
+use answer_writer::Status;
+use cert_lines::verdict_text;
+use fapp_gen::generate;
+use fapp_io::NoMemory;
+use fapp_model::Instance;
+use fapp_words::{Seed, SolveOptions};
+use fapp_workers::Gate;
+use record_reader::{ReadError, read_instance};
+use std::alloc::Global;
+use std::thread::Threads;
+
+/// The text of the network that a seed makes.
+pub fn generated(alloc: Global, seed: Seed) -> Result<Outcome, NoMemory>
+    requires { AreSeed seed }
+    ensures status { IfOk result (λ outcome. outcome.status ≡ Status.Written) }
+    ensures text { IfOk result (λ outcome. outcome.text.items ≡ network_text seed.number seed.paths) }
+{
+    let text = generate(alloc, seed.number, seed.paths)?;
+    Ok(Outcome {
+        status: Status::Written,
+        text,
+    })
+}
+
+/// The verdict on the network that a seed makes.
+pub fn demonstrated<R: Threads + Sync, G: Gate>(
+    rt: &R,
+    alloc: Global,
+    seed: Seed,
+    gate: &G,
+) -> Result<Outcome, NoMemory>
+    requires { AreSeed seed }
+    ensures { IfOk result (λ outcome. Demonstrates (network_text seed.number seed.paths) outcome.status outcome.text.items) }
+{
+    let bytes = generate(alloc, seed.number, seed.paths)?;
+    if bytes.len() > MAX_INPUT {
+        return refusal(alloc, Status::TooLong);
+    }
+    match read_instance(alloc, &bytes) {
+        Ok(instance) => shown_verdict(rt, alloc, &instance, gate),
+        Err(ReadError::Bad(bad)) => refusal(alloc, Status::BadInput(bad)),
+        Err(ReadError::NoMemory) => Err(NoMemory),
+    }
+}
+
+/// How a made network is solved.
+fn demo_options() -> SolveOptions
+    ensures { result ≡ demo_options }
+{
+    SolveOptions {
+        workers: 4,
+        fuel: Some(40_000),
+        split: 64,
+        pool: 4096,
+        answer_only: false,
+    }
+}
+
+/// The verdict on an instance.
+fn shown_verdict<R: Threads + Sync, G: Gate>(
+    rt: &R,
+    alloc: Global,
+    instance: &Instance,
+    gate: &G,
+) -> Result<Outcome, NoMemory>
+    requires { IsInstance instance.now }
+    ensures { IfOk result (λ outcome. IsDemonstrated instance.now outcome.status outcome.text.items) }
+{
+    let settings = settings_for(instance, &demo_options());
+    let answer = solve_answer(rt, alloc, instance, &settings, gate)?;
+    let text = verdict_text(alloc, &answer.verdict)?;
+    Ok(Outcome {
+        status: status_of(&answer.verdict),
+        text,
+    })
+}
