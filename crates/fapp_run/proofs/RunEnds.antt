@@ -151,7 +151,7 @@ module _ (words : List (String Global)) (source source' : SourceMoment) (bytes :
     | inl risen ↦ absurd (sound risen)
     | inr (inl long) ↦ absurd (let l = dropped source.left source'.left bytes (MAX_INPUT + 1) left long in omega arith)
     | inr (inr whole) ↦ (let e = ended options bytes instance status text short read (subst (λ b. Answers options b status text) (taken source.left source'.left bytes whole.bytes left whole.all) whole.answers) in
-      (is_answer status e.verdict e.is, λ enough. not_open status e.verdict e.is (e.closed (enough options named))))
+        (is_answer status e.verdict e.is, λ enough. not_open status e.verdict e.is (e.closed (enough options named))))
   ]
 
   pub solve_ends : (options : SolveOptions) → Names words (requests.Solve options) → length bytes ≤ MAX_INPUT → instance_of_text bytes ≡ Ok instance → (Rose source.faults source'.faults → ⊥) → IsOutcome words source source' status text →

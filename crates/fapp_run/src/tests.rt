@@ -43,7 +43,12 @@ const ENDS: [(&str, &str, u8, &str); 36] = [
     (WORDS, LENIENT, 0, PLAIN_PLAN),
     (WORDS, TORN, 1, ""),
     ("solve", PLAIN, 0, PLAIN_ANSWER),
-    ("solve --split 1 --answer-only --workers=1", PLAIN, 0, PLAIN_PLAN),
+    (
+        "solve --split 1 --answer-only --workers=1",
+        PLAIN,
+        0,
+        PLAIN_PLAN,
+    ),
     ("solve --answer-only --answer-only", PLAIN, 64, "USAGE\n"),
     ("solve --workers 0", PLAIN, 64, "USAGE\n"),
     ("solve --workers 33", PLAIN, 64, "USAGE\n"),

@@ -110,7 +110,10 @@ fn counts_are_those_of_the_literals_left(rt: HostRuntime) -> Result<(), Fail> {
         let mut fresh = Forward::new(rt.alloc(), &tables, &arcs)?;
         assert!(rt; push_and_take(&mut kept, level), "at {level}");
         assert!(rt; set_level(&mut fresh, level), "at {level}");
-        assert!(rt; add(&mut fresh, 1, 0) && add(&mut fresh, 2, 1), "at {level}");
+        assert!(rt;
+            add(&mut fresh, 1, 0) && add(&mut fresh, 2, 1),
+            "at {level}"
+        );
         assert!(rt; is_same(&kept, &fresh), "at {level}");
     }
     Ok(())

@@ -86,7 +86,10 @@ fn jobs_stand_by_their_numbers(rt: HostRuntime) -> Result<(), Fail> {
         assert_eq!(rt; job.level, *level, "at {text}");
         assert_eq!(rt; job.prefix.len(), prefix.len(), "at {text}");
         for (literal, (path, choice)) in job.prefix.as_slice().iter().zip(prefix.iter()) {
-            assert!(rt; literal.path == *path && literal.choice == *choice, "at {text}");
+            assert!(rt;
+                literal.path == *path && literal.choice == *choice,
+                "at {text}"
+            );
         }
     }
     Ok(())
