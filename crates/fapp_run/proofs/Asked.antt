@@ -2,7 +2,6 @@
 use Rattle.std.proofs.Common.{◌≡◌, ℕ, ◌≤◌, Bool, true, false, ◌&&◌, List, Option, None, Some, Result, Ok, Err, refl, sym, ap, ◌∙◌, subst, arith, leb, cond}
 use Rattle.std.specs.Prelude.{IfSome, option_and_then, unwrap_or}
 use Rattle.std.proofs.lemmas.Bool.{and_parts, leb-true}
-use Rattle.clap.specs.Words.{Text}
 use Rattle.fapp_text.specs.Numbers.{number_of}
 use Rattle.fapp_text.specs.declared.numeral.NumFault.{NumFault}
 use Rattle.fapp_words.specs.declared.options.SolveOptions.{SolveOptions}
@@ -31,7 +30,7 @@ within-in low high (Ok n) o e = by_range (leb low n && leb n high) refl e
         subst (IsIn low high) (some-is (Some n) o e) (leb-true low n parts.0, leb-true n high parts.1)
     by_range false h e = absurd (cc)
 
-ranged-in : (low high : ℕ) (text : Option Text) (o : Option ℕ) → ranged low high text ≡ Some o → IsIn low high o
+ranged-in : (low high : ℕ) (text : Option (List ℕ)) (o : Option ℕ) → ranged low high text ≡ Some o → IsIn low high o
 ranged-in low high None None e = tt
 ranged-in low high None (Some n) e = absurd (cc)
 ranged-in low high (Some text) o e = within-in low high (number_of text) o e
@@ -62,16 +61,16 @@ options-given (Some w) (Some f) (Some s) (Some p) only options hw hf hs hp e = s
     some-is : (a b : SolveOptions) → Some a ≡ Some b → a ≡ b
     some-is a b e = cc
 
-solve-in : (words : List Text) (options : SolveOptions) → IsPromised words options → AreOptions options
+solve-in : (words : List (List ℕ)) (options : SolveOptions) → IsPromised words options → AreOptions options
 solve-in words options h = options-given _ _ _ _ _ options (ranged-in 1 32 _) (ranged-in 0 1000000 _) (ranged-in 1 4096 _) (ranged-in 0 65536 _) h.values
 
-seed-in : (name : Text) (words : List Text) (seed : Seed) → IsSeed name words seed → AreSeed seed
+seed-in : (name : List ℕ) (words : List (List ℕ)) (seed : Seed) → IsSeed name words seed → AreSeed seed
 seed-in name words seed h =
     let number = ranged-in 0 1000000000 (Some h.number) (Some seed.number) h.number_value in
     let paths = ranged-in 2 2000 (Some h.paths) (Some seed.paths) h.paths_value in
     record { number = number.1; some_paths = paths.0; few_paths = paths.1 }
 
-pub asked-in : (words : List Text) (request : Request) → ArePromised words request → AreRequested request
+pub asked-in : (words : List (List ℕ)) (request : Request) → ArePromised words request → AreRequested request
 asked-in words (Solve options) h = solve-in words options h
 asked-in words Check h = tt
 asked-in words (Gen seed) h = seed-in _ words seed h

@@ -6,3 +6,4 @@ pub mod Joining
 pub mod Shown
 pub mod Asked
 pub mod Solved
+pub mod Told

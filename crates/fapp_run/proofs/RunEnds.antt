@@ -106,25 +106,25 @@ record IsEnded (options : SolveOptions) (instance : Instance) (status : Status) 
 same_instance : (bytes : List ℕ) (i j : Instance) → instance_of_text bytes ≡ Ok i → instance_of_text bytes ≡ Ok j → i ≡ j
 same_instance bytes i j p q = cc
 
-from_solved : (options : SolveOptions) (bytes : List ℕ) (instance : Instance) (status : Status) (text : List ℕ) → instance_of_text bytes ≡ Ok instance → ((other : Instance) × (instance_of_text bytes ≡ Ok other) × IsSolved other options status text) → IsEnded options instance status
-from_solved options bytes instance status text read h =
-    subst (λ i. IsEnded options i status) (same_instance bytes h.0 instance h.1 read) (record { verdict = h.2.answer.verdict; is = h.2.status_is; closed = h.2.answers.enough })
+from_solved : (options : SolveOptions) (bytes : List ℕ) (instance : Instance) (status : Status) (text : List ℕ) → instance_of_text bytes ≡ Ok instance → (other : Instance) → instance_of_text bytes ≡ Ok other → IsSolved other options status text → IsEnded options instance status
+from_solved options bytes instance status text read other e h =
+    subst (λ i. IsEnded options i status) (same_instance bytes other instance e read) (record { verdict = h.answer.verdict; is = h.status_is; closed = h.answers.enough })
 
 ended : (options : SolveOptions) (bytes : List ℕ) (instance : Instance) (status : Status) (text : List ℕ) → length bytes ≤ MAX_INPUT → instance_of_text bytes ≡ Ok instance → Answers options bytes status text → IsEnded options instance status
-ended options bytes instance Best text short read a = from_solved options bytes instance Best text read a.1
-ended options bytes instance NoneFeasible text short read a = from_solved options bytes instance NoneFeasible text read a.1
-ended options bytes instance Open text short read a = from_solved options bytes instance Open text read a.1
-ended options bytes instance Accepted text short read a = from_solved options bytes instance Accepted text read a.1
-ended options bytes instance Written text short read a = from_solved options bytes instance Written text read a.1
-ended options bytes instance (Rejected fault) text short read a = from_solved options bytes instance (Rejected fault) text read a.1
-ended options bytes instance Usage text short read a = from_solved options bytes instance Usage text read a.1
+ended options bytes instance Best text short read a = from_solved options bytes instance Best text read a.1 a.2 a.3
+ended options bytes instance NoneFeasible text short read a = from_solved options bytes instance NoneFeasible text read a.1 a.2 a.3
+ended options bytes instance Open text short read a = from_solved options bytes instance Open text read a.1 a.2 a.3
+ended options bytes instance Accepted text short read a = from_solved options bytes instance Accepted text read a.1 a.2 a.3
+ended options bytes instance Written text short read a = from_solved options bytes instance Written text read a.1 a.2 a.3
+ended options bytes instance (Rejected fault) text short read a = from_solved options bytes instance (Rejected fault) text read a.1 a.2 a.3
+ended options bytes instance Usage text short read a = from_solved options bytes instance Usage text read a.1 a.2 a.3
 ended options bytes instance (BadInput bad) text short read a = let e = sym a.1 ∙ read in absurd cc
-ended options bytes instance (BadAnswer bad) text short read a = from_solved options bytes instance (BadAnswer bad) text read a.1
+ended options bytes instance (BadAnswer bad) text short read a = from_solved options bytes instance (BadAnswer bad) text read a.1 a.2 a.3
 ended options bytes instance TooLong text short read a = absurd (omega (arith, a.0))
-ended options bytes instance NoAnswer text short read a = from_solved options bytes instance NoAnswer text read a.1
-ended options bytes instance ReadFault text short read a = from_solved options bytes instance ReadFault text read a.1
-ended options bytes instance WriteFault text short read a = from_solved options bytes instance WriteFault text read a.1
-ended options bytes instance NoMemory text short read a = from_solved options bytes instance NoMemory text read a.1
+ended options bytes instance NoAnswer text short read a = from_solved options bytes instance NoAnswer text read a.1 a.2 a.3
+ended options bytes instance ReadFault text short read a = from_solved options bytes instance ReadFault text read a.1 a.2 a.3
+ended options bytes instance WriteFault text short read a = from_solved options bytes instance WriteFault text read a.1 a.2 a.3
+ended options bytes instance NoMemory text short read a = from_solved options bytes instance NoMemory text read a.1 a.2 a.3
 
 is_answer : (status : Status) (v : Verdict) → status ≡ status_of v → IsAnswer status
 is_answer status (verdicts.Best t) e = inl e

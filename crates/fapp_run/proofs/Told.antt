@@ -1,0 +1,30 @@
+-- An answer to an instance is that to its text.
+use Rattle.std.proofs.Common.{◌≡◌, ℕ, ◌≤◌, List, length, Ok, sym, subst}
+use Rattle.fapp_model.specs.declared.instance.Instance.{Instance}
+use Rattle.record_reader.specs.Texts.{instance_of_text}
+use Rattle.cert_lines.specs.declared.answer.Verdict.{Verdict}
+use Rattle.cert_lines.specs.declared.answer.Verdict.TheVariants as verdicts
+use Rattle.answer_writer.specs.declared.status.Status.{Status}
+use Rattle.fapp_words.specs.declared.options.SolveOptions.{SolveOptions}
+use Rattle.fapp_run.specs.declared.outcome.TheConstants.{MAX_INPUT}
+use Rattle.fapp_run.specs.Answers.{Answers, IsSolved, status_of}
+use Rattle.fapp_run.specs.Made.{Demonstrates, IsDemonstrated}
+
+module _ (bytes : List ℕ) (instance : Instance) (short : length bytes ≤ MAX_INPUT) (read : instance_of_text bytes ≡ Ok instance) where
+  solved_by : (options : SolveOptions) (v : Verdict) (text : List ℕ) → IsSolved instance options (status_of v) text → Answers options bytes (status_of v) text
+  solved_by options (verdicts.Best t) text h = (short, instance, read, h)
+  solved_by options verdicts.NoneFeasible text h = (short, instance, read, h)
+  solved_by options (verdicts.Open best lower level prefix) text h = (short, instance, read, h)
+
+  pub solved_answers : (options : SolveOptions) (status : Status) (text : List ℕ) → IsSolved instance options status text → Answers options bytes status text
+  solved_answers options status text h =
+      subst (λ s. Answers options bytes s text) (sym h.status_is) (solved_by options h.answer.verdict text (subst (λ s. IsSolved instance options s text) h.status_is h))
+
+  shown_by : (v : Verdict) (text : List ℕ) → IsDemonstrated instance (status_of v) text → Demonstrates bytes (status_of v) text
+  shown_by (verdicts.Best t) text h = (short, instance, read, h)
+  shown_by verdicts.NoneFeasible text h = (short, instance, read, h)
+  shown_by (verdicts.Open best lower level prefix) text h = (short, instance, read, h)
+
+  pub shown_demonstrates : (status : Status) (text : List ℕ) → IsDemonstrated instance status text → Demonstrates bytes status text
+  shown_demonstrates status text h =
+      subst (λ s. Demonstrates bytes s text) (sym h.status_is) (shown_by h.answer.verdict text (subst (λ s. IsDemonstrated instance s text) h.status_is h))
