@@ -1,6 +1,6 @@
 -- What the words ask for is in its ranges.
 use Rattle.std.proofs.Common.{◌≡◌, ℕ, ◌≤◌, Bool, true, false, ◌&&◌, List, Option, None, Some, Result, Ok, Err, refl, sym, ap, ◌∙◌, subst, arith, leb, cond}
-use Rattle.std.specs.Prelude.{IfSome, option_and_then, unwrap_or}
+use Rattle.std.specs.Prelude.{IfSome, codes, option_and_then, unwrap_or}
 use Rattle.std.proofs.lemmas.Bool.{and_parts, leb-true}
 use Rattle.fapp_text.specs.Numbers.{number_of}
 use Rattle.fapp_text.specs.declared.numeral.NumFault.{NumFault}
@@ -8,6 +8,7 @@ use Rattle.fapp_words.specs.declared.options.SolveOptions.{SolveOptions}
 use Rattle.fapp_words.specs.declared.request.Request.{Request}
 use Rattle.fapp_words.specs.declared.request.Request.TheVariants.{Solve, Check, Gen, Demo}
 use Rattle.fapp_words.specs.declared.request.Seed.{Seed}
+use Rattle.fapp_words.specs.Solving.{fuel, given, names, pool, split, text_of, workers}
 use Rattle.fapp_words.specs.Options.{IsPromised, options_in, ranged, within}
 use Rattle.fapp_words.specs.Promises.{ArePromised, IsSeed}
 use Rattle.fapp_run.specs.Answers.{AreOptions}
@@ -62,7 +63,13 @@ options-given (Some w) (Some f) (Some s) (Some p) only options hw hf hs hp e = s
     some-is a b e = cc
 
 solve-in : (words : List (List ℕ)) (options : SolveOptions) → IsPromised words options → AreOptions options
-solve-in words options h = options-given _ _ _ _ _ options (ranged-in 1 32 _) (ranged-in 0 1000000 _) (ranged-in 1 4096 _) (ranged-in 0 65536 _) h.values
+solve-in words options h =
+    let w = given (text_of workers) h.pieces in
+    let f = given (text_of fuel) h.pieces in
+    let s = given (text_of split) h.pieces in
+    let p = given (text_of pool) h.pieces in
+    options-given (ranged 1 32 w) (ranged 0 1000000 f) (ranged 1 4096 s) (ranged 0 65536 p) (names (codes "answer-only") h.pieces) options
+    (ranged-in 1 32 w) (ranged-in 0 1000000 f) (ranged-in 1 4096 s) (ranged-in 0 65536 p) h.values
 
 seed-in : (name : List ℕ) (words : List (List ℕ)) (seed : Seed) → IsSeed name words seed → AreSeed seed
 seed-in name words seed h =

@@ -1,5 +1,5 @@
 -- An answer to an instance is that to its text.
-use Rattle.std.proofs.Common.{◌≡◌, ℕ, ◌≤◌, List, length, Ok, sym, subst}
+use Rattle.std.proofs.Common.{◌≡◌, ℕ, ◌≤◌, List, length, Result, Ok, Err, IfOk, sym, subst}
 use Rattle.fapp_model.specs.declared.instance.Instance.{Instance}
 use Rattle.record_reader.specs.Texts.{instance_of_text}
 use Rattle.cert_lines.specs.declared.answer.Verdict.{Verdict}
@@ -7,7 +7,11 @@ use Rattle.cert_lines.specs.declared.answer.Verdict.TheVariants as verdicts
 use Rattle.answer_writer.specs.declared.status.Status.{Status}
 use Rattle.fapp_words.specs.declared.options.SolveOptions.{SolveOptions}
 use Rattle.fapp_run.specs.declared.outcome.TheConstants.{MAX_INPUT}
-use Rattle.fapp_run.specs.Answers.{Answers, IsSolved, status_of}
+use Rattle.cert_lines.specs.declared.answer.Answer.{Answer}
+use Rattle.answer_writer.specs.Texts.{written_text}
+use Rattle.fapp_run.specs.declared.outcome.Outcome.{Outcome}
+use Rattle.fapp_run.specs.Solving.{IsAnswerFor}
+use Rattle.fapp_run.specs.Answers.{Answers, IsSolved, fuel_of, status_of}
 use Rattle.fapp_run.specs.Made.{Demonstrates, IsDemonstrated}
 
 module _ (bytes : List ℕ) (instance : Instance) (short : length bytes ≤ MAX_INPUT) (read : instance_of_text bytes ≡ Ok instance) where
@@ -28,3 +32,15 @@ module _ (bytes : List ℕ) (instance : Instance) (short : length bytes ≤ MAX_
   pub shown_demonstrates : (status : Status) (text : List ℕ) → IsDemonstrated instance status text → Demonstrates bytes status text
   shown_demonstrates status text h =
       subst (λ s. Demonstrates bytes s text) (sym h.status_is) (shown_by h.answer.verdict text (subst (λ s. IsDemonstrated instance s text) h.status_is h))
+
+-- an answer that was told answers the instance
+pub told_solved : {E : Type 0} (instance : Instance) (options : SolveOptions) (split fuel : ℕ) (answer : Answer) (r : Result Outcome E) → split ≡ options.split → fuel ≡ fuel_of options instance →
+    IsAnswerFor instance split fuel answer → IfOk r (λ outcome. outcome.status ≡ status_of answer.verdict) → IfOk r (λ outcome. outcome.text.items ≡ written_text instance answer options.answer_only) →
+    IfOk r (λ outcome. IsSolved instance options outcome.status outcome.text.items)
+told_solved instance options split fuel answer (Ok outcome) split_is fuel_is answers status_is text_is = record {
+  answer = answer;
+  answers = subst (λ n. IsAnswerFor instance options.split n answer) fuel_is (subst (λ n. IsAnswerFor instance n fuel answer) split_is answers);
+  status_is = status_is;
+  text_is = text_is;
+}
+told_solved instance options split fuel answer (Err e) split_is fuel_is answers status_is text_is = tt

@@ -105,6 +105,8 @@ pub fn settings_for(instance: &Instance, options: &SolveOptions) -> Settings
     ensures range { AreInRange result }
     ensures fuel { result.fuel ≡ fuel_of options.now instance.now }
     ensures split { result.split ≡ options.now.split }
+    ensures workers { result.workers ≡ options.now.workers }
+    ensures pool { result.pool ≡ options.now.pool }
 {
     let fuel = match options.fuel {
         Some(fuel) => fuel,
