@@ -1,0 +1,6 @@
+mod Cutting
+mod Says
+mod Passing
+mod Stages
+mod Refusing
+mod Networks
