@@ -15,7 +15,7 @@ use Rattle.search_log.specs.LogStates.{LogState}
 use Rattle.settle_laws.specs.Founds.{IsRefuted}
 use Rattle.settle_laws.specs.Lined.{IsAtMostCount}
 use Rattle.settle_laws.specs.Settling.{IsOutcome, Settles}
-use Rattle.settle_laws.specs.Worlds.{Gains, world}
+use Rattle.settle_laws.specs.Worlds.{Gains, World, world}
 use Rattle.settle_laws.proofs.TagCodes.{tag-small}
 use Rattle.settle_laws.proofs.Tried.{cites-grow}
 use Rattle.fapp_model.specs.search.Jobs.{job_level, job_prefix}
@@ -58,22 +58,22 @@ module _ (instance : Instance) (level : ℕ) (prefix : List Literal) (fuel ticks
 
   pub found-settled : level ≤ levels_of instance → (outcome : Outcome) → Is outcome → IsSettledBy instance level prefix fuel [] longer.lines (lowest after.began after.least) outcome
   found-settled valid (Refuted line tag) h = (
-    tag-small instance level tag valid (omega (arith, h.0.low)),
-    omega (arith, h.0.high, lowest-low after.began after.told after.least low),
+    tag-small instance level tag valid (omega (arith, h.0.target)),
+    omega (arith, h.0.target, lowest-low after.began after.told after.least low),
     h.0.refuted,
   )
   found-settled valid (Moot seen) h = (omega (arith, h.0, low), omega (arith, h.0, h.1))
   found-settled valid Spent h = h.tries
 
-  one-count : (old new : List LogLine) → IsAtMostCount instance prefix old new → branches_in new ≡ branches_in old
+  one-count : (old new : World) → IsAtMostCount instance prefix old new → branches_in new.log.lines ≡ branches_in old.log.lines
   one-count old new (inl same) = ap branches_in same
   one-count old new (inr one) =
       let none : branches_in (one.line ∷ []) ≡ 0 = ap (λ (p : Option ℕ). count_by (λ (q : Option ℕ). is_some q) (p ∷ [])) one.count in
-      ap branches_in one.added ∙ omega (arith, branches-append old (one.line ∷ []), none)
+      ap branches_in one.added ∙ omega (arith, branches-append old.log.lines (one.line ∷ []), none)
 
   -- where no tick was taken, no Branch line was added
   pub none-added : ticks ≡ 0 → (outcome : Outcome) → Is outcome → branches_in longer.lines ≡ branches_in log.lines
-  none-added none (Refuted line tag) h = one-count log.lines longer.lines (h.2 (omega (arith, none)))
+  none-added none (Refuted line tag) h = one-count (world fuel bound no_rows log) (world (fuel - ticks) after no_rows longer) (h.2 (omega (arith, none)))
   none-added none (Moot seen) h = ap branches_in h.2
   none-added none Spent h = ap branches_in h.cut
 

@@ -36,20 +36,22 @@ use Rattle.search_log.specs.Shares.{SharedState, known}
 use Rattle.settle_laws.specs.declared.found.Found.{Found}
 use Rattle.settle_laws.specs.declared.found.Found.TheVariants.{Settled}
 use Rattle.settle_laws.specs.declared.node.Node.{Node}
-use Rattle.settle_laws.specs.Founds.{IsHigh, IsLow, IsRefuted, Searched}
+use Rattle.settle_laws.specs.Founds.{IsRefuted, IsTarget, Searched}
 use Rattle.settle_laws.specs.Lines.{AddsLine, AreSorted, Concludes, IsConcluded, IsLined, Offered}
+use Rattle.settle_laws.specs.Stops.{stop_at}
 use Rattle.settle_laws.specs.Ticked.{IsTicked}
 use Rattle.settle_laws.specs.Ticks.{OffersCost, Ticks, TicksBelow}
 use Rattle.settle_laws.specs.Trying.{AreTriedChoices, IsChild, Trying}
 use Rattle.settle_laws.specs.Worlds.{IsKeptRight, IsLeastOffered, IsPlain, Keeps, KeepsAtMost, World, world}
-use Rattle.settle_laws.proofs.Adding.{gains-none, gains-one, gains-trans}
-use Rattle.settle_laws.proofs.FullPrefixes.{cost-low, cost-own, dead-at-cost}
+use Rattle.settle_laws.proofs.Adding.{gains-none, gains-one, gains-trans, has-same}
+use Rattle.settle_laws.proofs.FullPrefixes.{cost-low, cost-own, dead-at-cost, same-plan}
 use Rattle.settle_laws.proofs.Keeping.{keeps-same, keeps-trans}
 use Rattle.settle_laws.proofs.LineParts.{branch-good, count-good}
-use Rattle.settle_laws.proofs.NextPaths.{next-apart, next-small, prefix-short}
-use Rattle.settle_laws.proofs.Offering.{kept-lines, offered-cost, offered-keeps, offers-falls}
+use Rattle.settle_laws.proofs.NextPaths.{next-apart, next-short, next-small, prefix-short}
+use Rattle.settle_laws.proofs.Offering.{kept-lines, offered-cost, offered-keeps, offered-least, offers-floor}
+use Rattle.settle_laws.proofs.StopJoin.{one-offered, one-stop}
 use Rattle.settle_laws.proofs.TagCodes.{alive-at, tag-small}
-use Rattle.settle_laws.proofs.TickJoin.{first-tick, one-tick, ticks-later}
+use Rattle.settle_laws.proofs.TickJoin.{first-tick, itself-before, one-tick, ticks-later}
 use Rattle.settle_laws.proofs.Tried.{tried-grow}
 
 get-last : {X : Type 0} (xs : List X) (y : X) → slice_get (xs ++ y ∷ []) (length xs) ≡ Some y
@@ -93,8 +95,8 @@ module _ (instance : Instance) (literals : List Literal) (old now : World) (keep
   }
 
   -- and the ticks before it
-  pub line-ticks : (level : ℕ) (refused : List (List Literal)) → Ticks instance level literals old now refused → Ticks instance level literals old (world now.fuel now.bound now.shared log) refused
-  line-ticks level refused t = ticks-later instance level literals old now (world now.fuel now.bound now.shared log) refused refl refl
+  abbrev pub line-ticks : (level : ℕ) (refused : List (List Literal)) → Ticks instance level literals old now refused → Ticks instance level literals old (world now.fuel now.bound now.shared log) refused
+  line-ticks level refused t = ticks-later instance level literals old now (world now.fuel now.bound now.shared log) refused refl refl refl
       (λ tag h. subst (λ (l : LogState). KeepsAtMost l.best tag) (sym added) h) t
 
   pub line-refutes : AreSorted instance literals line.lits → Implied instance (triple_from line.tag.code) line.lits → IsTagFor instance line.tag → (tag : ℕ) → tag ≤ line.tag.code → IsRefuted instance now.shared.copied log.lines literals (Own (length now.log.lines)) tag
@@ -118,7 +120,7 @@ begun-one instance level prefix path index old now t = let l = t.begins.1 in ome
 
 module _ (instance : Instance) (valid : IsInstance instance) (level : ℕ) (limit : level ≤ levels_of instance) (literals : List Literal) (prefix : IsPrefix instance literals) (partial : IsPartial instance literals) (old now : World) (node : Node) (trying : Trying instance level literals old now node) (done : node.choice ≡ node.count) (log : LogState) where
   node-own : IsTagFor instance node.tag
-  node-own = tag-small instance level node.tag limit (omega (arith, trying.low))
+  node-own = tag-small instance level node.tag limit (omega (arith, trying.target))
 
   module _ (found : Found) (adds : AddsLine instance literals node.tag (Some node.path) node.refs now.log log found) where
     tag-same : adds.line.tag.code ≡ node.tag.code
@@ -151,10 +153,10 @@ module _ (instance : Instance) (valid : IsInstance instance) (level : ℕ) (limi
     branch-by = record {
       keeps = line-keeps instance literals old now trying.keeps adds.line log adds.added plain good;
       few = omega (arith, trying.fewer, line-adds instance literals old now trying.keeps adds.line log adds.added);
+      read = trying.read;
       is = record {
         is_open = trying.is_open;
-        high = trying.high;
-        low = trying.low;
+        target = trying.target;
         exact = λ same. absurd (omega (arith, trying.ticks.ticks.taken, begun-one instance level literals node.path node.choice old now trying.ticks));
         refuted = line-refutes instance literals old now trying.keeps adds.line log adds.added adds.sorted implied (subst (λ (t : Tag). IsTagFor instance t) (sym adds.tag_is) node-own) node.tag.code (omega (arith, tag-same));
         last = line-last instance literals old now trying.keeps adds.line log adds.added;
@@ -162,6 +164,7 @@ module _ (instance : Instance) (valid : IsInstance instance) (level : ℕ) (limi
       refused_at = [];
       refused_count = refl;
       ticks = line-ticks instance literals old now trying.keeps adds.line log adds.added level [] trying.ticks.ticks;
+      offered = trying.ticks.offered;
     }
 
     branch-found : {E : Type 0} → Searched {E = E} instance level literals old (world now.fuel now.bound now.shared log) (Ok found)
@@ -172,22 +175,32 @@ module _ (instance : Instance) (valid : IsInstance instance) (level : ℕ) (limi
   branch-searched (Err e) same = subst (λ l. Searched instance level literals old (world now.fuel now.bound now.shared l) (Err e)) (sym same) (record {
     keeps = trying.keeps;
     few = omega (arith, trying.fewer);
+    read = trying.read;
     is = tt;
     refused_at = [];
     refused_count = refl;
     ticks = trying.ticks.ticks;
+    offered = tt;
   })
 
 -- ---- after a tick
 
+-- the target is at most what was told, and they are not dead at it
+pub ticked-open : (instance : Instance) (level : ℕ) (literals : List Literal) (old now : World) (tag : Tag) → IsTicked instance level literals old now tag → (tag.code ≤ now.bound.told) × (Dead instance (triple_from tag.code) literals → ⊥)
+ticked-open instance level literals old now tag ticked = (omega (arith, ticked.exact), subst (λ n. Dead instance (triple_from n) literals → ⊥) (sym ticked.exact) ticked.undecided.alive)
+
 module _ (instance : Instance) (valid : IsInstance instance) (level : ℕ) (within : level ≤ levels_of instance) (literals : List Literal) (prefix : IsPrefix instance literals)
     (old now : World) (tag : Tag) (ticked : IsTicked instance level literals old now tag) where
+  still-judged : Dead instance (triple_from tag.code) literals → ⊥
+  still-judged = (ticked-open instance level literals old now tag ticked).1
+
   still-alive : Dead instance (target level) literals → ⊥
-  still-alive = alive-at instance level tag literals valid within (omega (arith, ticked.low)) ticked.alive
+  still-alive = alive-at instance level tag literals valid within (omega (arith, ticked.exact)) still-judged
 
   -- the tick, and what was offered since
-  tick-then : (after : World) → after.fuel ≡ now.fuel → (after.bound.least ≡ old.bound.least) ⊎ OffersCost instance (literals ∷ []) after → Ticks instance level literals old after []
-  tick-then after same offers = one-tick instance level literals old after prefix still-alive (tag.code, ticked.low, ticked.alive) ticked.rowless (omega (arith, ticked.took)) offers
+  abbrev tick-then : (after : World) → after.fuel ≡ now.fuel → after.bound.told ≤ now.bound.told → All (Contains after.shared.copied) now.shared.copied → (after.bound.least ≡ old.bound.least) ⊎ OffersCost instance (literals ∷ []) after → Ticks instance level literals old after []
+  tick-then after same told copied offers = one-tick instance level literals old after prefix still-alive
+      (one-stop instance level old after (stop_at now literals) ticked.undecided ticked.after (record { told = told; copied = copied })) (omega (arith, ticked.took)) offers
 
   few-lines : length now.log.lines ≡ length old.log.lines
   few-lines = ap (λ (l : LogState). length l.lines) ticked.log
@@ -197,10 +210,12 @@ module _ (instance : Instance) (valid : IsInstance instance) (level : ℕ) (with
   tick-ends after keeps same lines offers e = record {
     keeps = keeps-trans instance old now after ticked.keeps keeps;
     few = omega (arith, ticked.took, few-lines, ap length lines);
+    read = omega (arith, ticked.after.told, keeps.tells);
     is = tt;
     refused_at = [];
     refused_count = refl;
-    ticks = tick-then after same offers;
+    ticks = tick-then after same keeps.tells keeps.copied offers;
+    offered = tt;
   }
 
   -- the choices of the next path are tried
@@ -209,11 +224,11 @@ module _ (instance : Instance) (valid : IsInstance instance) (level : ℕ) (with
     next = next;
     counted = counted;
     within = omega arith;
-    low = subst (λ (t : Tag). IsLow level old.bound t.code) (sym tag_is) ticked.low;
+    read = ticked.after.told;
     keeps = ticked.keeps;
     fewer = omega (arith, ticked.took, few-lines);
-    is_open = ticked.is_open;
-    high = subst (λ (t : Tag). IsHigh level now.bound t.code) (sym tag_is) ticked.high;
+    is_open = ticked.undecided.is_open;
+    target = subst (λ (t : Tag). IsTarget level now.bound t.code) (sym tag_is) ticked.target;
     choices = subst (λ n. AreTriedChoices instance now.shared.copied now.log.lines literals node.tag.code node.path n node.refs) (sym choice_is)
         (subst (λ refs. AreTriedChoices instance now.shared.copied now.log.lines literals node.tag.code node.path 0 refs) (sym none) (record {
           ascending = λ i j d less small. absurd (omega arith);
@@ -223,7 +238,8 @@ module _ (instance : Instance) (valid : IsInstance instance) (level : ℕ) (with
           implied = λ i l. absurd (omega arith);
         }));
     ticks = subst (λ n. TicksBelow instance level literals node.path n old now) (sym choice_is)
-        (first-tick instance level literals old now prefix still-alive (tag.code, ticked.low, ticked.alive) ticked.rowless node.path ticked.took ticked.least);
+        (first-tick instance level literals old now prefix still-alive (one-stop instance level old now (stop_at now literals) ticked.undecided ticked.after (itself-before now literals))
+        (one-offered instance literals now.bound.least (λ plan whole. absurd (omega (arith, whole.full, next-short instance literals prefix node.path next)))) node.path ticked.took ticked.least);
   }
 
   -- a full prefix
@@ -263,11 +279,12 @@ module _ (instance : Instance) (valid : IsInstance instance) (level : ℕ) (with
       full-by : {E : Type 0} → Searched {E = E} instance level literals old (world now.fuel after now.shared log) (Ok (Settled (Own (length c.kept.lines)) c.tag))
       full-by = record {
         keeps = line-keeps instance literals old (world now.fuel after now.shared c.kept) to-kept c.adds.line log c.adds.added (λ none. c.adds.refs_are) full-good;
+        read = omega (arith, c.offered.offers.told, ticked.after.told);
         few = omega (arith, kept-few, ticked.took, few-lines, line-adds instance literals old (world now.fuel after now.shared c.kept) to-kept c.adds.line log c.adds.added);
         is = record {
-          is_open = omega (arith, c.offered.offers.told, ticked.is_open);
-          high = omega (arith, (offers-falls now.bound after (code_of (cost instance c.offered.plan)) c.offered.offers).1, c.tag_is);
-          low = omega (arith, cost-low instance valid literals prefix full c.offered.plan c.offered.feasible.assignment c.offered.extends tag.code ticked.own ticked.alive, c.tag_is, ticked.low);
+          is_open = omega (arith, c.offered.offers.told, ticked.undecided.is_open);
+          target = omega (arith, c.tag_is, ticked.target, ticked.exact, offers-floor now.bound after (code_of (cost instance c.offered.plan)) c.offered.offers,
+              cost-low instance valid literals prefix full c.offered.plan c.offered.feasible.assignment c.offered.extends tag.code ticked.own still-judged);
           exact = λ same. absurd (omega (arith, ticked.took));
           refuted = line-refutes instance literals old (world now.fuel after now.shared c.kept) to-kept c.adds.line log c.adds.added c.adds.sorted full-implied full-own c.tag.code (omega (arith, ap (λ (t : Tag). t.code) c.adds.tag_is));
           last = line-last instance literals old (world now.fuel after now.shared c.kept) to-kept c.adds.line log c.adds.added;
@@ -275,7 +292,9 @@ module _ (instance : Instance) (valid : IsInstance instance) (level : ℕ) (with
         refused_at = [];
         refused_count = refl;
         ticks = line-ticks instance literals old (world now.fuel after now.shared c.kept) to-kept c.adds.line log c.adds.added level []
-            (tick-then (world now.fuel after now.shared c.kept) refl (offers-since after c.kept c.offered));
+            (tick-then (world now.fuel after now.shared c.kept) refl (omega (arith, c.offered.offers.told)) (has-same now.shared.copied) (offers-since after c.kept c.offered));
+        offered = one-offered instance literals after.least (λ plan whole. offered-least now.bound after (code_of (cost instance c.offered.plan)) (code_of (cost instance plan)) c.offered.offers
+            (omega (arith, ap (λ p. code_of (cost instance p)) (same-plan instance valid literals prefix full c.offered.plan plan c.offered.feasible.assignment whole.feasible.assignment c.offered.extends whole.extends))));
       }
 
       full-found : {E : Type 0} → Searched {E = E} instance level literals old (world now.fuel after now.shared log) (Ok found)

@@ -21,27 +21,29 @@ use Rattle.search_log.specs.Bounds.{BoundState, Tells, floor, lowest}
 use Rattle.search_log.specs.LogStates.{LogState}
 use Rattle.search_log.specs.Shares.{Fits, IsCiteOf, Looks, SharedState, known, row_content}
 use Rattle.settle_laws.specs.declared.found.Found.TheVariants.{Dead as FoundDead, Settled, Moot, Spent}
-use Rattle.settle_laws.specs.Founds.{IsHigh, IsLow, IsOpen, Searched}
-use Rattle.settle_laws.specs.Levels.{level_code}
+use Rattle.settle_laws.specs.Founds.{IsOpen, IsTarget, Searched}
+use Rattle.settle_laws.specs.Levels.{level_code, target_code}
+use Rattle.settle_laws.specs.Stops.{ComesAfter, IsUndecided, NoneFits, stop_at}
 use Rattle.settle_laws.specs.Ticked.{IsTicked}
-use Rattle.settle_laws.specs.Ticks.{NoneWithin}
 use Rattle.settle_laws.specs.Worlds.{IsLeastOffered, Keeps, world}
 use Rattle.settle_laws.proofs.Adding.{gains-none, has-same}
 use Rattle.settle_laws.proofs.Keeping.{rows-grow}
+use Rattle.settle_laws.proofs.StopJoin.{floor-le, none-offered}
 use Rattle.settle_laws.proofs.TagCodes.{alive-at, tag-small}
 use Rattle.settle_laws.proofs.TickJoin.{no-ticks, one-refused}
 
 -- ---- the bound
 
-lowest-le : (told : ℕ) (least : Option ℕ) → lowest told least ≤ told
-lowest-le told None = omega arith
-lowest-le told (Some least) = omega arith
-
-pub floor-le : (b : BoundState) → floor b ≤ b.told
-floor-le b = lowest-le b.told b.least
-
 tells-falls : (b c : BoundState) (tag : ℕ) → Tells b c tag → floor c ≤ floor b
 tells-falls b c tag h = omega (arith, floor-le c, h.told, h.falls)
+
+-- what was told just now is no more than what was offered
+lowest-same : (told : ℕ) (least : Option ℕ) (was : ℕ) → told ≤ lowest was least → lowest told least ≡ told
+lowest-same told None was low = refl
+lowest-same told (Some least) was low = omega (arith, low)
+
+tells-floor : (b c : BoundState) (tag : ℕ) → Tells b c tag → floor c ≡ c.told
+tells-floor b c tag h = lowest-same c.told c.least b.told (subst (λ o. c.told ≤ lowest b.told o) (sym h.least) (omega (arith, h.told, h.falls)))
 
 told-falls : (b c : BoundState) (tag : ℕ) → Tells b c tag → c.told ≤ b.told
 told-falls b c tag h = omega (arith, floor-le b, h.told, h.falls)
@@ -52,21 +54,22 @@ offers-same b c tag h n = subst (λ o. lowest n o ≤ lowest n b.least) (sym h.l
 -- ---- rows
 
 -- the rows that a holder has known were copied
-looked-over : (s t : SharedState) (part : List (Option ℕ)) (tag : ℕ) (answer : Option Cite) → Looks s t part tag answer → (row : KnownRow) → Contains (known s) row → Contains t.copied row
-looked-over s t part tag answer h row m = ⊎_elim
+looked-over : (s t : SharedState) (part : List (Option ℕ)) (tag : ℕ) (answer : Option Cite) → Looks s t part tag answer → All (Contains t.copied) (known s)
+looked-over s t part tag answer h = All-from_members (Contains t.copied) (known s) (λ row m. ⊎_elim
     (λ l. All-contains (Contains t.copied) s.copied row h.kept l)
     (λ r. All-contains (Contains t.copied) s.published row h.brought r)
-    (Contains-append_cases s.copied s.published row m)
+    (Contains-append_cases s.copied s.published row m))
 
 module _ (part : List (Option ℕ)) (literals : List Literal) where
   pub given-within : ((a : Literal) → Gives part a → Contains literals a) → (some : List Literal) → All (Gives part) some → HasAll literals some
   given-within given some h = All-from_members (Contains literals) some (λ a m. given a (All-contains (Gives part) some a h m))
 
-  pub none-within : (level : ℕ) (tag : ℕ) (s t : SharedState) → ((a : Literal) → Contains literals a → Gives part a) → tag ≤ level_code (level + 1) → Looks s t part tag None → NoneWithin level (known s) literals
-  none-within level tag s t gives most looks = All-from_members (λ (row : KnownRow). HasAll literals row.content.lits → level_code (level + 1) ≤ row.content.tag → ⊥) (known s) (λ row m has reaches.
-      All-contains (λ (row : KnownRow). Fits part tag row.content → ⊥) t.copied row looks.finds (looked-over s t part tag None looks row m) (record {
+  -- no copied row fits
+  pub none-fits : (tag : ℕ) (s t : SharedState) → ((a : Literal) → Contains literals a → Gives part a) → Looks s t part tag None → NoneFits tag t.copied literals
+  none-fits tag s t gives looks = All-from_members (λ (row : KnownRow). HasAll literals row.content.lits → tag ≤ row.content.tag → ⊥) t.copied (λ row m has reaches.
+      All-contains (λ (row : KnownRow). Fits part tag row.content → ⊥) t.copied row looks.finds m (record {
         within = All-from_members (Gives part) row.content.lits (λ a n. gives a (All-contains (Contains literals) row.content.lits a has n));
-        reaches = omega arith;
+        reaches = reaches;
       }))
 
 -- ---- entries
@@ -74,6 +77,9 @@ module _ (part : List (Option ℕ)) (literals : List Literal) where
 module _ (instance : Instance) (level : ℕ) (literals : List Literal) (fuel : ℕ) (b c : BoundState) (s : SharedState) (seen : Tag) (tells : Tells b c seen.code) (log : LogState) where
   least-same : (best : Option KeptPlan) → IsLeastOffered best b.least → IsLeastOffered best c.least
   least-same best h = subst (IsLeastOffered best) (sym tells.least) h
+
+  read-now : c.told ≤ floor b
+  read-now = omega (arith, tells.told, tells.falls)
 
   pub moot-found : {E : Type 0} → seen.code ≤ level_code level → Searched {E = E} instance level literals (world fuel b s log) (world fuel c s log) (Ok (Moot seen))
   moot-found low = record {
@@ -95,21 +101,23 @@ module _ (instance : Instance) (level : ℕ) (literals : List Literal) (fuel : �
       better = λ tag h. h;
     };
     few = omega arith;
+    read = read-now;
     is = (sym tells.told, omega (arith, tells.told));
     refused_at = [];
     refused_count = refl;
     ticks = no-ticks instance level literals (world fuel b s log) (world fuel c s log) refl tells.least;
+    offered = none-offered instance c.least;
   }
 
   module _ (low : level_code level < seen.code) (at : Tag) (at_is : at.code ≡ min seen.code (level_code (level + 1))) (part : List (Option ℕ)) (t : SharedState) where
     is-open : IsOpen level c
     is-open = omega (arith, tells.told)
 
-    is-high : IsHigh level c at.code
-    is-high = omega (arith, floor-le c, tells.told)
+    is-exact : at.code ≡ target_code level c.told
+    is-exact = omega (arith, tells.told, at_is)
 
-    is-low : IsLow level b at.code
-    is-low = omega (arith, tells.falls)
+    is-target : IsTarget level c at.code
+    is-target = omega (arith, tells-floor b c seen.code tells, is-exact)
 
     looked-keeps : (answer : Option Cite) → Looks s t part at.code answer → (left : ℕ) → left ≤ fuel → Keeps instance (world fuel b s log) (world left c t log)
     looked-keeps answer looks left less = record {
@@ -134,11 +142,11 @@ module _ (instance : Instance) (level : ℕ) (literals : List Literal) (fuel : �
     row-found given cite looks served = record {
       keeps = looked-keeps (Some cite) looks fuel (omega arith);
       few = omega arith;
+      read = read-now;
       is = record {
         is_open = is-open;
-        high = is-high;
-        low = is-low;
-        exact = λ e. omega (arith, tells.told);
+        target = is-target;
+        exact = λ e. is-exact;
         refuted = record {
           content = row_content cite.content;
           cited = looks.finds.0;
@@ -152,45 +160,58 @@ module _ (instance : Instance) (level : ℕ) (literals : List Literal) (fuel : �
       refused_at = [];
       refused_count = refl;
       ticks = no-ticks instance level literals (world fuel b s log) (world fuel c t log) refl tells.least;
+      offered = none-offered instance c.least;
     }
 
-    module _ (looks : Looks s t part at.code None) where
+    module _ (looks : Looks s t part at.code None) (gives : (a : Literal) → Contains literals a → Gives part a) where
+      rowless-here : NoneFits at.code t.copied literals
+      rowless-here = none-fits part literals at.code s t gives looks
+
       pub dead-found : {E : Type 0} → Dead instance (triple_from at.code) literals → Searched {E = E} instance level literals (world fuel b s log) (world fuel c t log) (Ok (FoundDead at))
       dead-found dead = record {
         keeps = looked-keeps None looks fuel (omega arith);
         few = omega arith;
-        is = (is-open, omega (arith, tells.told), is-low, dead, refl, refl);
+        read = read-now;
+        is = record { is_open = is-open; target = is-target; exact = is-exact; rowless = rowless-here; dead = dead; fuel = refl; lines = refl };
         refused_at = [];
         refused_count = refl;
         ticks = no-ticks instance level literals (world fuel b s log) (world fuel c t log) refl tells.least;
+        offered = none-offered instance c.least;
       }
 
-      module _ (valid : IsInstance instance) (within : level ≤ levels_of instance) (gives : (a : Literal) → Contains literals a → Gives part a) (alive : Dead instance (triple_from at.code) literals → ⊥) where
-        rowless-here : NoneWithin level (known s) literals
-        rowless-here = none-within part literals level at.code s t gives (omega arith) looks
+      module _ (valid : IsInstance instance) (within : level ≤ levels_of instance) (alive : Dead instance (triple_from at.code) literals → ⊥) where
+        comes-after : (left : ℕ) → ComesAfter (world fuel b s log) (stop_at (world left c t log) literals)
+        comes-after left = record { told = read-now; copied = looked-over s t part at.code None looks }
+
+        undecided : (left : ℕ) → IsUndecided instance level (stop_at (world left c t log) literals)
+        undecided left = record {
+          is_open = is-open;
+          rowless = subst (λ n. NoneFits n t.copied literals) is-exact rowless-here;
+          alive = subst (λ n. Dead instance (triple_from n) literals → ⊥) is-exact alive;
+        }
 
         pub spent-found : {E : Type 0} → IsPrefix instance literals → (left : ℕ) → fuel ≡ 0 → left ≡ 0 → Searched {E = E} instance level literals (world fuel b s log) (world left c t log) (Ok Spent)
         spent-found prefix left none still = record {
           keeps = looked-keeps None looks left (omega arith);
           few = omega arith;
+          read = read-now;
           is = (is-open, still);
           refused_at = literals ∷ [];
           refused_count = refl;
-          ticks = one-refused instance level literals (world fuel b s log) (world left c t log) prefix (alive-at instance level at literals valid within (omega arith) alive)
-              (at.code, is-low, alive) rowless-here (omega arith) tells.least;
+          ticks = one-refused instance level literals (world fuel b s log) (world left c t log) prefix (alive-at instance level at literals valid within (omega (arith, at_is)) alive)
+              (comes-after left) (undecided left) (omega arith) tells.least;
+          offered = none-offered instance c.least;
         }
 
         pub is-ticked : (left : ℕ) → fuel ≡ left + 1 → IsTicked instance level literals (world fuel b s log) (world left c t log) at
         is-ticked left less = record {
           keeps = looked-keeps None looks left (omega arith);
+          least = tells.least;
           took = less;
           log = refl;
-          is_open = is-open;
-          told = omega (arith, tells.told);
-          low = is-low;
-          high = is-high;
-          own = tag-small instance level at within (omega arith);
-          alive = alive;
-          rowless = rowless-here;
-          least = tells.least;
+          after = comes-after left;
+          undecided = undecided left;
+          exact = is-exact;
+          target = is-target;
+          own = tag-small instance level at within (omega (arith, at_is));
         }

@@ -1,5 +1,6 @@
 pub mod Adding
 pub mod NextPaths
+pub mod StopJoin
 pub mod TickJoin
 pub mod Keeping
 pub mod TagCodes

@@ -21,9 +21,9 @@ use Rattle.settle_laws.specs.declared.found.Found.TheVariants.{Dead as FoundDead
 use Rattle.settle_laws.specs.Founds.{IsFoundBy, IsLastRef, Searched}
 use Rattle.settle_laws.specs.Lined.{IsAtMostCount, IsLinedBy, Lined}
 use Rattle.settle_laws.specs.Lines.{AddsLine, IsLined}
+use Rattle.settle_laws.specs.Stops.{NoneFits}
 use Rattle.settle_laws.specs.Worlds.{World, world}
 use Rattle.settle_laws.proofs.Ends.{line-adds, line-keeps, line-last, line-refutes, line-ticks}
-use Rattle.settle_laws.proofs.Entering.{floor-le}
 use Rattle.settle_laws.proofs.LineParts.{count-good}
 use Rattle.settle_laws.proofs.TagCodes.{tag-small}
 
@@ -43,7 +43,7 @@ not-dead E Spent f = tt
 
 module _ (instance : Instance) (level : ℕ) (literals : List Literal) (old new : World) where
   -- where no tick was taken no line was added
-  same-lines : length new.log.lines + new.fuel ≤ length old.log.lines + old.fuel → (line : Ref) → IsLastRef old new line → new.fuel ≡ old.fuel → IsAtMostCount instance literals old.log.lines new.log.lines
+  same-lines : length new.log.lines + new.fuel ≤ length old.log.lines + old.fuel → (line : Ref) → IsLastRef old new line → new.fuel ≡ old.fuel → IsAtMostCount instance literals old new
   same-lines few (Own n) last same = absurd (omega (arith, last.0, last.1))
   same-lines few (Row r) last same = inl last.1
 
@@ -58,50 +58,59 @@ module _ (instance : Instance) (level : ℕ) (literals : List Literal) (old new 
   lined-by result alive s = record {
     keeps = s.keeps;
     few = omega (arith, s.few, s.keeps.fuel);
+    read = s.read;
     is = lined-is result alive s.few s.is;
     refused_at = s.refused_at;
     refused_count = s.refused_count;
     ticks = s.ticks;
+    offered = s.offered;
   }
 
 -- a Count line is added where it is dead
 module _ {E : Type 0} (instance : Instance) (valid : IsInstance instance) (level : ℕ) (within : level ≤ levels_of instance) (literals : List Literal) (partial : IsPartial instance literals) (old now : World) (tag : Tag) (s : Searched {E = E} instance level literals old now (Ok (FoundDead tag))) (log : LogState) where
   own : IsTagFor instance tag
-  own = tag-small instance level tag within (omega (arith, s.is.1))
+  own = tag-small instance level tag within (omega (arith, s.is.exact))
 
   module _ (found : Found) (adds : AddsLine instance literals tag None [] now.log log found) where
     line-own : IsTagFor instance adds.line.tag
     line-own = subst (λ (t : Tag). IsTagFor instance t) (sym adds.tag_is) own
 
     line-dead : Dead instance (triple_from adds.line.tag.code) literals
-    line-dead = subst (λ (t : Tag). Dead instance (triple_from t.code) literals) (sym adds.tag_is) s.is.3
+    line-dead = subst (λ (t : Tag). Dead instance (triple_from t.code) literals) (sym adds.tag_is) s.is.dead
 
     implied : Implied instance (triple_from adds.line.tag.code) adds.line.lits
     implied = Implied-more instance (triple_from adds.line.tag.code) literals adds.line.lits adds.sorted.has
         (dead-implied instance (triple_from adds.line.tag.code) literals valid line-own partial line-dead)
 
     one-more : length log.lines ≡ length old.log.lines + 1
-    one-more = line-adds instance literals old now s.keeps adds.line log adds.added ∙ ap (λ n. n + 1) (ap length s.is.5)
+    one-more = line-adds instance literals old now s.keeps adds.line log adds.added ∙ ap (λ n. n + 1) (ap length s.is.lines)
 
     dead-by : Lined {E = E} instance level literals old (world now.fuel now.bound now.shared log) (Ok (Settled (Own (length now.log.lines)) tag))
     dead-by = record {
       keeps = line-keeps instance literals old now s.keeps adds.line log adds.added (λ none. adds.refs_are)
           (count-good instance valid literals partial (known now.shared) now.log.lines adds.line adds.sorted line-own adds.path_is adds.refs_are line-dead);
       few = omega (arith, one-more);
+      read = s.read;
       is = (
         record {
-          is_open = s.is.0;
-          high = omega (arith, s.is.1, floor-le now.bound);
-          low = s.is.2;
-          exact = λ same. s.is.1;
+          is_open = s.is.is_open;
+          target = s.is.target;
+          exact = λ same. s.is.exact;
           refuted = line-refutes instance literals old now s.keeps adds.line log adds.added adds.sorted implied line-own tag.code (omega (arith, ap (λ (t : Tag). t.code) adds.tag_is));
           last = line-last instance literals old now s.keeps adds.line log adds.added;
         },
-        (λ same. inr (record { line = adds.line; added = ap (λ (l : LogState). l.lines) adds.added ∙ ap (λ lines. lines ++ adds.line ∷ []) s.is.5; count = adds.path_is; sorted = adds.sorted })),
+        (λ same. inr (record {
+          line = adds.line;
+          added = ap (λ (l : LogState). l.lines) adds.added ∙ ap (λ lines. lines ++ adds.line ∷ []) s.is.lines;
+          count = adds.path_is;
+          sorted = adds.sorted;
+          rowless = subst (λ (t : Tag). NoneFits t.code now.shared.copied literals) (sym adds.tag_is) s.is.rowless;
+        })),
       );
       refused_at = s.refused_at;
       refused_count = s.refused_count;
       ticks = line-ticks instance literals old now s.keeps adds.line log adds.added level s.refused_at s.ticks;
+      offered = s.offered;
     }
 
     dead-adds : Lined {E = E} instance level literals old (world now.fuel now.bound now.shared log) (Ok found)
@@ -111,10 +120,12 @@ module _ {E : Type 0} (instance : Instance) (valid : IsInstance instance) (level
   dead-fails e same = subst (λ l. Lined {E = E} instance level literals old (world now.fuel now.bound now.shared l) (Err e)) (sym same) (record {
     keeps = s.keeps;
     few = omega (arith, s.few, s.keeps.fuel);
+    read = s.read;
     is = tt;
     refused_at = s.refused_at;
     refused_count = s.refused_count;
     ticks = s.ticks;
+    offered = tt;
   })
 
   pub dead-lined : (result : Result Found E) → IsLined instance literals tag None [] now.log log result → Lined instance level literals old (world now.fuel now.bound now.shared log) result

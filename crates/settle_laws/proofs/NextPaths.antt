@@ -14,7 +14,7 @@ use Rattle.fapp_model.specs.search.WorkOrder.{comes_before, degree, work_order}
 use Rattle.fapp_model.proofs.Anys.{no-member}
 use Rattle.fapp_model.proofs.Members.{front_or_behind, no_member}
 use Rattle.fapp_model.proofs.InOrder.{pairs-head, pairs-tail, pairs-weaker}
-use Rattle.fapp_model.proofs.WorkOrders.{first-asym, order-is}
+use Rattle.fapp_model.proofs.WorkOrders.{first-asym, order-is, order-length}
 
 pub get-contains : {X : Type 0} (xs : List X) (n : ℕ) (x : X) → slice_get xs n ≡ Some x → Contains xs x
 get-contains xs n x e = (n, slice_get_within xs n x e, get_or_from_slice_get xs n x x e)
@@ -49,6 +49,10 @@ prefix-short instance prefix is = along-short instance (work_order instance) pre
 module _ (instance : Instance) (prefix : List Literal) (is : IsPrefix instance prefix) (path : ℕ) (next : slice_get (work_order instance) (length prefix) ≡ Some path) where
   pub next-small : path < length instance.paths
   next-small = All-contains (λ p. p < length instance.paths) (work_order instance) path (order-is instance).in_range (get-contains (work_order instance) (length prefix) path next)
+
+  -- it does not name every path
+  pub next-short : length prefix < length instance.paths
+  next-short = omega (arith, slice_get_within (work_order instance) (length prefix) path next, order-length instance)
 
   pub next-apart : names prefix path ≡ false
   next-apart = no-member (λ (a : Literal). eqb a.path path) prefix (λ a m. ⊎_elim

@@ -26,7 +26,7 @@ use Rattle.search_log.specs.Logs.{IsBetter, KeepsBest}
 use Rattle.search_log.specs.Shares.{SharedState, known}
 use Rattle.settle_laws.specs.declared.found.Found.{Found}
 use Rattle.settle_laws.specs.Lines.{IsConcluded, IsLined, Offered}
-use Rattle.settle_laws.specs.Ticks.{OffersCost}
+use Rattle.settle_laws.specs.Ticks.{IsOffered, OffersCost}
 use Rattle.settle_laws.specs.Worlds.{IsKeptRight, IsLeastOffered, Keeps, KeepsAtMost, world}
 use Rattle.settle_laws.proofs.Adding.{has-same}
 use Rattle.settle_laws.proofs.FullPrefixes.{cost-back, not-below}
@@ -40,6 +40,20 @@ by-least (Some n) after told told_after tag e h = rw h (omega arith, omega arith
 
 pub offers-falls : (b c : BoundState) (tag : ℕ) → Offers b c tag → (floor c ≤ floor b) × (floor c ≤ tag)
 offers-falls b c tag h = by-least b.least c.least b.told c.told tag h.told h.least
+
+floor-by : (told told_after : ℕ) (least after : Option ℕ) (tag : ℕ) → told_after ≡ told → after ≡ with_offer least tag → lowest told_after after ≡ min (lowest told least) tag
+floor-by told told_after None after tag e h = rw h (omega (arith, e))
+floor-by told told_after (Some n) after tag e h = rw h (omega (arith, e))
+
+pub offers-floor : (b c : BoundState) (tag : ℕ) → Offers b c tag → floor c ≡ min (floor b) tag
+offers-floor b c tag h = floor-by b.told c.told b.least c.least tag h.told h.least
+
+least-by : (least after : Option ℕ) (tag most : ℕ) → after ≡ with_offer least tag → tag ≤ most → IsOffered after most
+least-by None after tag most h low = subst (λ o. IsOffered o most) (sym h) low
+least-by (Some n) after tag most h low = subst (λ o. IsOffered o most) (sym h) (omega (arith, low))
+
+pub offered-least : (b c : BoundState) (tag most : ℕ) → Offers b c tag → tag ≤ most → IsOffered c.least most
+offered-least b c tag most h low = least-by b.least c.least tag most h.least low
 
 -- ---- the order of costs
 
@@ -168,11 +182,9 @@ module _ (instance : Instance) (valid : IsInstance instance) (literals : List Li
       (λ same. inl same)
       (λ e. inr (record {
         plan = o.plan;
-        feasible = o.feasible;
         prefix = literals;
         ticked = at_front literals [];
-        full = full;
-        extends = o.extends;
+        whole = record { full = full; feasible = o.feasible; extends = o.extends };
         offered = e;
         kept = keeps-this (cost instance o.plan) (code_of (cost instance o.plan)) own-triple o.plan old new o.keeps;
       }))

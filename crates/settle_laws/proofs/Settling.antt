@@ -1,5 +1,5 @@
 -- What a job comes to, once its line was offered or its lines were cut.
-use Rattle.std.proofs.Common.{◌≡◌, ℕ, ◌+◌, ◌-◌, ◌<◌, ◌≤◌, max, List, [], ◌∷◌, ◌++◌, length, take, drop, All, Contains, Some, Result, Ok, Err, refl, sym, ap, subst, ◌∙◌, inl, inr, ⊎_elim, arith, append-nil}
+use Rattle.std.proofs.Common.{◌≡◌, ℕ, ◌+◌, ◌-◌, ◌<◌, ◌≤◌, max, List, [], ◌∷◌, ◌++◌, length, take, drop, All, Contains, Some, Result, Ok, Err, OnOk, refl, sym, ap, subst, ◌∙◌, inl, inr, ⊎_elim, arith, append-nil}
 use Rattle.std.specs.List.{slice_get}
 use Rattle.std.proofs.lemmas.List.{length-append, length-map, take-append-le, take_all}
 use Rattle.std.proofs.lemmas.List.Elements.{All-contains, Contains-append_left, Contains-append_right, Contains-append_cases, Contains-push}
@@ -16,7 +16,7 @@ use Rattle.fapp_model.specs.search.Partials.{HasAll}
 use Rattle.fapp_model.specs.search.Prefixes.{GoesOn, IsAlong, IsPrefix, extensions, lists_along}
 use Rattle.fapp_model.specs.search.Tries.{IsTries}
 use Rattle.fapp_model.specs.search.WorkOrder.{work_order}
-use Rattle.fapp_model.proofs.Members.{All-from_members, at_front}
+use Rattle.fapp_model.proofs.Members.{All-from_members, at_front, behind as member-behind, front_or_behind, no_member}
 use Rattle.log_laws.specs.declared.line.LogLine.{LogLine}
 use Rattle.log_laws.specs.declared.line.Ref.TheVariants.{Own, Row}
 use Rattle.log_laws.specs.declared.line.Segment.{Segment}
@@ -25,17 +25,19 @@ use Rattle.log_laws.specs.Segments.{IsGoodLog, ended}
 use Rattle.log_laws.proofs.Segmenting.{log-cut, log-home, log-more}
 use Rattle.search_log.specs.declared.job.Outcome.{Outcome}
 use Rattle.search_log.specs.declared.job.Outcome.TheVariants.{Refuted, Moot as OutcomeMoot, Spent as OutcomeSpent}
+use Rattle.search_log.specs.Bounds.{floor}
 use Rattle.search_log.specs.LogStates.{LogState}
 use Rattle.search_log.specs.Logs.{cut_behind, with_segment}
 use Rattle.search_log.specs.Shares.{IsServed, SharedState, known}
 use Rattle.settle_laws.specs.declared.found.Found.{Found}
 use Rattle.settle_laws.specs.declared.found.Found.TheVariants.{Settled, Moot, Spent}
 use Rattle.settle_laws.specs.Founds.{IsRefuted, refused}
-use Rattle.settle_laws.specs.Levels.{level_code}
-use Rattle.settle_laws.specs.Lined.{IsAtMostCount, Lined}
+use Rattle.settle_laws.specs.Levels.{level_code, target_code}
+use Rattle.settle_laws.specs.Lined.{IsAtMostCount, IsOneCount, Lined}
 use Rattle.settle_laws.specs.Published.{GotNone, GotRow, IsOfferable}
 use Rattle.settle_laws.specs.Settling.{AreHomeBy, IsOffered, IsOutcome, Publishes, PublishesNone, PublishesOne, Settles, not_taken}
-use Rattle.settle_laws.specs.Ticks.{NoneWithin, Ticks}
+use Rattle.settle_laws.specs.Stops.{ComesAfter, IsUndecided, NoneFits, Stop, prefixes_of}
+use Rattle.settle_laws.specs.Ticks.{AreOffered, NoneWithin, Ticks}
 use Rattle.settle_laws.specs.Worlds.{Gains, IsGood, IsKeptRight, IsLeastOffered, KeepsAtMost, World, world}
 use Rattle.settle_laws.proofs.Adding.{gains-none, has-same, has-trans}
 use Rattle.settle_laws.proofs.TickJoin.{no-ticks, ticks-later}
@@ -70,20 +72,36 @@ some-first : (xs : List (List Literal)) → 0 < length xs → (x : List Literal)
 some-first [] l = absurd (omega arith)
 some-first (x ∷ xs) l = (x, at_front x xs)
 
+prefix-of : (stops : List Stop) (literals : List Literal) → Contains (prefixes_of stops) literals → (stop : Stop) × Contains stops stop × (stop.prefix ≡ literals)
+prefix-of [] literals m = absurd (no_member literals m)
+prefix-of (stop ∷ stops) literals m = ⊎_elim
+    (λ here. (stop, at_front stop stops, here))
+    (λ later. let r = prefix-of stops literals later in (r.0, member-behind stop stops r.0 r.1, r.2))
+    (front_or_behind stop.prefix (prefixes_of stops) literals m)
+
 rowless-root : (instance : Instance) (level : ℕ) (prefix : List Literal) (old new : World) (refused : List (List Literal)) (t : Ticks instance level prefix old new refused) → 0 < length t.asked → NoneWithin level (known old.shared) prefix
 rowless-root instance level prefix old new refused t some =
     let first = some-first t.asked some in
     let longer = All-contains (GoesOn prefix) t.asked first.0 t.are.go_on first.1 in
-    let none = All-contains (NoneWithin level (known old.shared)) t.asked first.0 t.rowless first.1 in
-    let IsFar : List Literal → KnownRow → Type 0 = λ literals row. HasAll literals row.content.lits → level_code (level + 1) ≤ row.content.tag → ⊥ in
-    All-from_members (IsFar prefix) (known old.shared) (λ row m has reaches. All-contains (IsFar first.0) (known old.shared) row none m
-    (has-trans row.content.lits prefix first.0 has (All-from_members (Contains first.0) prefix (λ a n. subst (λ lits. Contains lits a) (sym longer.1) (Contains-append_left prefix longer.0 a n))))
-    reaches)
+    let found = prefix-of t.stops.stops first.0 (subst (λ ps. Contains ps first.0) (sym t.stops.are) first.1) in
+    let stop = found.0 in
+    let known_there = All-contains (ComesAfter old) t.stops.stops stop t.stops.after found.1 in
+    let none = All-contains (IsUndecided instance level) t.stops.stops stop t.stops.undecided found.1 in
+    let lits : stop.prefix ≡ prefix ++ longer.0 = found.2 ∙ longer.1 in
+    All-from_members (λ (row : KnownRow). HasAll prefix row.content.lits → level_code (level + 1) ≤ row.content.tag → ⊥) (known old.shared) (λ row m has reaches.
+    All-contains (λ (row : KnownRow). HasAll stop.prefix row.content.lits → target_code level stop.told ≤ row.content.tag → ⊥) stop.copied row none.rowless
+    (All-contains (Contains stop.copied) (known old.shared) row known_there.copied m)
+    (has-trans row.content.lits prefix stop.prefix has (All-from_members (Contains stop.prefix) prefix (λ a n. subst (λ lits. Contains lits a) (sym lits) (Contains-append_left prefix longer.0 a n))))
+    (omega (arith, reaches)))
 
 tries-at_most : (instance : Instance) (t : Triple) (prefix : List Literal) (n : ℕ) → IsTries instance t prefix n → n ≤ length (extensions instance prefix)
 tries-at_most instance t prefix n tries =
     let rest = drop (length prefix) (work_order instance) in
     omega (arith, tries-le instance (Dead instance t) rest prefix n tries, length-map (lists_along instance rest) (λ more. prefix ++ more))
+
+ok-anyhow : {T E : Type 0} (P : Type 0) → P → (result : Result T E) → OnOk result P
+ok-anyhow P p (Ok x) = p
+ok-anyhow P p (Err e) = tt
 
 -- ---- all that stays so, whatever becomes of the line
 
@@ -98,11 +116,15 @@ module _ (instance : Instance) (level : ℕ) (literals : List Literal) (old mid 
       (λ b. Contains-append_right shared.copied shared.published row (subst (λ rs. Contains rs row) (sym published) (Contains-append_left mid.shared.published rows row b)))
       (Contains-append_cases mid.shared.copied mid.shared.published row m))
 
-  pub settles-with : {F : Type 0} (result : Result Outcome F) → shared.copied ≡ mid.shared.copied → shared.takes ≡ mid.shared.takes → mid.shared.refusals ≤ shared.refusals → log.best ≡ mid.log.best →
+  -- where a job comes to an outcome, something was found
+  abbrev pub Went : {F : Type 0} → Result Outcome F → Type 0
+  Went result = OnOk found (AreOffered instance l.ticks.tried mid.bound.least) → OnOk result (AreOffered instance l.ticks.tried mid.bound.least)
+
+  pub settles-with : {F : Type 0} (result : Result Outcome F) → Went result → shared.copied ≡ mid.shared.copied → shared.takes ≡ mid.shared.takes → mid.shared.refusals ≤ shared.refusals → log.best ≡ mid.log.best →
       Publishes old (world mid.fuel mid.bound shared log) result → Gains old.log.lines log.lines → length log.lines ≤ length mid.log.lines →
       (IsGood instance mid → IsGood instance (world mid.fuel mid.bound shared log)) →
       IsOutcome instance level literals old (world mid.fuel mid.bound shared log) result → not_taken result ≡ refused found → Settles instance level literals old (world mid.fuel mid.bound shared log) result
-  settles-with result copied takes refusals best publishes lines few good is none = record {
+  settles-with result goes copied takes refusals best publishes lines few good is none = record {
     fuel = l.keeps.fuel;
     copied = subst (λ rs. All (Contains rs) old.shared.copied) (sym copied) l.keeps.copied;
     publishes = publishes;
@@ -118,10 +140,12 @@ module _ (instance : Instance) (level : ℕ) (literals : List Literal) (old mid 
     least = λ h. subst (λ b. IsLeastOffered b mid.bound.least) (sym best) (l.keeps.least h);
     right = λ h. subst (IsKeptRight instance) (sym best) (l.keeps.right h);
     better = λ tag h. subst (λ b. KeepsAtMost b tag) (sym best) (l.keeps.better tag h);
+    read = ok-anyhow (mid.bound.told ≤ floor old.bound) l.read result;
     is = is;
     refused_at = l.refused_at;
     refused_count = l.refused_count ∙ sym none;
-    ticks = ticks-later instance level literals old mid (world mid.fuel mid.bound shared log) l.refused_at refl refl (λ tag h. subst (λ b. KeepsAtMost b tag) (sym best) h) l.ticks;
+    ticks = ticks-later instance level literals old mid (world mid.fuel mid.bound shared log) l.refused_at refl refl copied (λ tag h. subst (λ b. KeepsAtMost b tag) (sym best) h) l.ticks;
+    offered = goes l.offered;
     fresh = λ some. rowless-root instance level literals old mid l.refused_at l.ticks some;
   }
 
@@ -143,9 +167,9 @@ module _ (instance : Instance) (level : ℕ) (literals : List Literal) (old mid 
         (log-cut instance (known shared) mid.log.lines mid.log.segments (max from (ended mid.log.segments)) (omega arith)
         (log-more instance (known mid.shared) (known shared) mid.log.lines mid.log.segments (known-still rows copied published) good))
 
-    pub cut-settles : {F : Type 0} (result : Result Outcome F) (rows : List KnownRow) → shared.copied ≡ mid.shared.copied → shared.published ≡ mid.shared.published ++ rows → shared.takes ≡ mid.shared.takes → mid.shared.refusals ≤ shared.refusals →
+    pub cut-settles : {F : Type 0} (result : Result Outcome F) → Went result → (rows : List KnownRow) → shared.copied ≡ mid.shared.copied → shared.published ≡ mid.shared.published ++ rows → shared.takes ≡ mid.shared.takes → mid.shared.refusals ≤ shared.refusals →
         AreHomeBy rows [] result → IsOutcome instance level literals old (world mid.fuel mid.bound shared log) result → not_taken result ≡ refused found → Settles instance level literals old (world mid.fuel mid.bound shared log) result
-    cut-settles result rows copied published takes refusals home is none = settles-with result copied takes refusals (ap (λ (g : LogState). g.best) cut)
+    cut-settles result goes rows copied published takes refusals home is none = settles-with result goes copied takes refusals (ap (λ (g : LogState). g.best) cut)
         (record { rows = rows; published = published ∙ ap (λ rs. rs ++ rows) l.keeps.published; gained = []; segments = cut-segments ∙ sym (append-nil old.log.segments); home = home })
         (subst (λ lines. Gains old.log.lines lines) (sym cut-lines) (gains-none old.log.lines))
         (omega (arith, ap length cut-lines, ap length l.keeps.lines.are, length-append old.log.lines l.keeps.lines.more))
@@ -161,20 +185,20 @@ module _ (instance : Instance) (level : ℕ) (literals : List Literal) (old mid 
   cut-none : {E : Type 0} (found : Result Found E) (l : Lined instance level literals old mid found) → PublishesNone old (world mid.fuel mid.bound mid.shared log)
   cut-none found l = record { published = l.keeps.published; segments = cut-segments instance level literals old mid found l mid.shared log from from_is behind cut }
 
-  cut-by : {E F : Type 0} (found : Result Found E) (l : Lined instance level literals old mid found) (result : Result Outcome F) → IsOutcome instance level literals old (world mid.fuel mid.bound mid.shared log) result → not_taken result ≡ refused found →
+  cut-by : {E F : Type 0} (found : Result Found E) (l : Lined instance level literals old mid found) (result : Result Outcome F) → Went instance level literals old mid found l mid.shared log result → IsOutcome instance level literals old (world mid.fuel mid.bound mid.shared log) result → not_taken result ≡ refused found →
       AreHomeBy [] [] result → Settles instance level literals old (world mid.fuel mid.bound mid.shared log) result
-  cut-by found l result is none home = cut-settles instance level literals old mid found l mid.shared log from from_is behind cut result [] refl still refl (omega arith) home is none
+  cut-by found l result goes is none home = cut-settles instance level literals old mid found l mid.shared log from from_is behind cut result goes [] refl still refl (omega arith) home is none
 
   cut-same : {E : Type 0} (found : Result Found E) (l : Lined instance level literals old mid found) → log.lines ≡ old.log.lines
   cut-same found l = cut-lines instance level literals old mid found l mid.shared log from from_is behind cut
 
   pub moot-settles : {E F : Type 0} (seen : Tag) → Lined {E = E} instance level literals old mid (Ok (Moot seen)) → Settles {E = F} instance level literals old (world mid.fuel mid.bound mid.shared log) (Ok (OutcomeMoot seen))
-  moot-settles seen l = cut-by (Ok (Moot seen)) l (Ok (OutcomeMoot seen)) (l.is.0, l.is.1, cut-same (Ok (Moot seen)) l, cut-none (Ok (Moot seen)) l) refl refl
+  moot-settles seen l = cut-by (Ok (Moot seen)) l (Ok (OutcomeMoot seen)) (λ o. o) (l.is.0, l.is.1, cut-same (Ok (Moot seen)) l, cut-none (Ok (Moot seen)) l) refl refl
 
   pub spent-settles : {E F : Type 0} → IsInstance instance → level ≤ levels_of instance → IsPrefix instance literals → Lined {E = E} instance level literals old mid (Ok Spent) → Settles {E = F} instance level literals old (world mid.fuel mid.bound mid.shared log) (Ok OutcomeSpent)
   spent-settles valid within prefix l =
       let some = some-tries instance (target level) literals valid (target-is_tag instance level within) prefix in
-      cut-by (Ok Spent) l (Ok OutcomeSpent) (record {
+      cut-by (Ok Spent) l (Ok OutcomeSpent) (λ o. o) (record {
         is_open = l.is.0;
         empty = l.is.1;
         cut = cut-same (Ok Spent) l;
@@ -184,12 +208,12 @@ module _ (instance : Instance) (level : ℕ) (literals : List Literal) (old mid 
       }) refl refl
 
   pub err-settles : {E F : Type 0} (e : E) (f : F) → Lined instance level literals old mid (Err e) → Settles instance level literals old (world mid.fuel mid.bound mid.shared log) (Err f)
-  err-settles e f l = cut-by (Err e) l (Err f) (cut-same (Err e) l, inl (cut-none (Err e) l)) refl (inl refl)
+  err-settles e f l = cut-by (Err e) l (Err f) (λ o. tt) (cut-same (Err e) l, inl (cut-none (Err e) l)) refl (inl refl)
 
 -- ---- a row settles the job
 
 pub row-settles : {E F : Type 0} (instance : Instance) (level : ℕ) (literals : List Literal) (old mid : World) (r : ℕ) (tag : Tag) → Lined {E = E} instance level literals old mid (Ok (Settled (Row r) tag)) → Settles {E = F} instance level literals old mid (Ok (Refuted (Row r) tag))
-row-settles instance level literals old mid r tag l = settles-with instance level literals old mid (Ok (Settled (Row r) tag)) l mid.shared mid.log (Ok (Refuted (Row r) tag)) refl refl (omega arith) refl
+row-settles instance level literals old mid r tag l = settles-with instance level literals old mid (Ok (Settled (Row r) tag)) l mid.shared mid.log (Ok (Refuted (Row r) tag)) (λ o. o) refl refl (omega arith) refl
     (record { rows = []; published = l.keeps.published ∙ sym (append-nil old.shared.published); gained = []; segments = l.keeps.segments ∙ sym (append-nil old.log.segments); home = refl })
     l.keeps.lines (omega arith) (λ good. good)
     (l.is.0, record { published = l.keeps.published; segments = l.keeps.segments }, l.is.1) refl
@@ -201,18 +225,29 @@ module _ {E : Type 0} (instance : Instance) (level : ℕ) (literals : List Liter
   refuted-still : (log : LogState) → log.lines ≡ mid.log.lines → IsRefuted instance shared.copied log.lines literals (Own place) tag.code
   refuted-still log same = subst (λ rs. IsRefuted instance rs log.lines literals (Own place) tag.code) (sym copied) (subst (λ lines. IsRefuted instance mid.shared.copied lines literals (Own place) tag.code) (sym same) l.is.0.refuted)
 
+  count-still : (log : LogState) → log.lines ≡ mid.log.lines → IsAtMostCount instance literals old mid → IsAtMostCount instance literals old (world mid.fuel mid.bound shared log)
+  count-still log same h = ⊎_elim
+      (λ none. inl (same ∙ none))
+      (λ (one : IsOneCount instance literals mid.shared.copied old.log.lines mid.log.lines). inr (record {
+        line = one.line;
+        added = same ∙ one.added;
+        count = one.count;
+        sorted = one.sorted;
+        rowless = subst (λ rows. NoneFits one.line.tag.code rows literals) (sym copied) one.rowless;
+      }))
+      h
+
   outcome-still : (F : Type 0) (log : LogState) → log.lines ≡ mid.log.lines → IsOffered old (world mid.fuel mid.bound shared log) (Own place) → IsOutcome {E = F} instance level literals old (world mid.fuel mid.bound shared log) (Ok (Refuted (Own place) tag))
   outcome-still F log same offered = (
     record {
       is_open = l.is.0.is_open;
-      high = l.is.0.high;
-      low = l.is.0.low;
+      target = l.is.0.target;
       exact = l.is.0.exact;
       refuted = refuted-still log same;
       last = (l.is.0.last.0, l.is.0.last.1 ∙ ap length (sym same));
     },
     offered,
-    (λ none. subst (λ lines. IsAtMostCount instance literals old.log.lines lines) (sym same) (l.is.1 none)),
+    (λ none. count-still log same (l.is.1 none)),
   )
 
   gains-still : (log : LogState) → log.lines ≡ mid.log.lines → Gains old.log.lines log.lines
@@ -227,7 +262,7 @@ module _ {E : Type 0} (instance : Instance) (level : ℕ) (literals : List Liter
     same = ap (λ (g : LogState). g.lines) none.log_same
 
     pub none-settles : (G : Type 0) → Settles {E = G} instance level literals old (world mid.fuel mid.bound shared log) (Ok (Refuted (Own place) tag))
-    none-settles G = settles-with instance level literals old mid (Ok (Settled (Own place) tag)) l shared log (Ok (Refuted (Own place) tag)) copied takes refusals (ap (λ (g : LogState). g.best) none.log_same)
+    none-settles G = settles-with instance level literals old mid (Ok (Settled (Own place) tag)) l shared log (Ok (Refuted (Own place) tag)) (λ o. o) copied takes refusals (ap (λ (g : LogState). g.best) none.log_same)
         (record { rows = []; published = none.published ∙ (l.keeps.published ∙ sym (append-nil old.shared.published)); gained = []; segments = ap (λ (g : LogState). g.segments) none.log_same ∙ (l.keeps.segments ∙ sym (append-nil old.log.segments)); home = refl })
         (gains-still log same) (omega (arith, ap length same))
         (λ good. subst (λ (g : LogState). IsGoodLog instance (known shared) g.lines g.segments) (sym none.log_same)
@@ -285,7 +320,7 @@ module _ {E : Type 0} (instance : Instance) (level : ℕ) (literals : List Liter
     got-settles G home =
         let same : log.lines ≡ mid.log.lines = ap (λ (g : LogState). g.lines) home in
         let segments : log.segments ≡ old.log.segments ++ own_segment ∷ [] = ap (λ (g : LogState). g.segments) home ∙ ap (λ ss. ss ++ own_segment ∷ []) l.keeps.segments in
-        settles-with instance level literals old mid (Ok (Settled (Own place) tag)) l shared log (Ok (Refuted (Own place) tag)) copied takes refusals (ap (λ (g : LogState). g.best) home)
+        settles-with instance level literals old mid (Ok (Settled (Own place) tag)) l shared log (Ok (Refuted (Own place) tag)) (λ o. o) copied takes refusals (ap (λ (g : LogState). g.best) home)
         (record { rows = known_row got.row (content_of got.line) ∷ []; published = got.published ∙ ap (λ rs. rs ++ known_row got.row (content_of got.line) ∷ []) l.keeps.published; gained = own_segment ∷ []; segments = segments; home = refl })
         (gains-still log same) (omega (arith, ap length same))
         (λ good. subst (λ (g : LogState). IsGoodLog instance (known shared) g.lines g.segments) (sym home) (row-good good))
@@ -305,7 +340,7 @@ module _ {E : Type 0} (instance : Instance) (level : ℕ) (literals : List Liter
     pub unkept-settles : {G : Type 0} (g : G) (from : ℕ) → from ≡ length old.log.lines → (after : LogState) → log ≡ mid.log → after ≡ cut_behind log from → Settles instance level literals old (world mid.fuel mid.bound shared after) (Err g)
     unkept-settles g from from_is after same cut =
         let cut_mid : after ≡ cut_behind mid.log from = cut ∙ ap (λ l. cut_behind l from) same in
-        cut-settles instance level literals old mid (Ok (Settled (Own place) tag)) l shared after from from_is behind cut_mid (Err g) (known_row got.row (content_of got.line) ∷ []) copied got.published takes refusals
+        cut-settles instance level literals old mid (Ok (Settled (Own place) tag)) l shared after from from_is behind cut_mid (Err g) (λ o. tt) (known_row got.row (content_of got.line) ∷ []) copied got.published takes refusals
         (inr (record { front = []; last = known_row got.row (content_of got.line); rows_are = refl; home = refl })) (
           cut-lines instance level literals old mid (Ok (Settled (Own place) tag)) l shared after from from_is behind cut_mid,
           inr (record {
@@ -337,10 +372,12 @@ nothing-settles instance level literals w f = record {
   least = λ h. h;
   right = λ h. h;
   better = λ tag h. h;
+  read = tt;
   is = (refl, inl (record { published = refl; segments = refl }));
   refused_at = [];
   refused_count = refl;
   ticks = no-ticks instance level literals w w refl refl;
+  offered = tt;
   fresh = λ some. absurd (omega arith);
 }
 

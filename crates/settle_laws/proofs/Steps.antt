@@ -1,5 +1,5 @@
 -- One choice more is tried.
-use Rattle.std.proofs.Common.{◌≡◌, ◌⊎◌, inl, inr, ⊎_elim, ℕ, ◌+◌, ◌<◌, ◌≤◌, false, List, [], ◌∷◌, ◌++◌, length, Some, None, Result, Ok, Err, refl, sym, ap, subst, ◌∙◌, arith}
+use Rattle.std.proofs.Common.{◌≡◌, ◌⊎◌, inl, inr, ⊎_elim, ℕ, ◌+◌, ◌<◌, ◌≤◌, false, List, [], ◌∷◌, ◌++◌, length, Some, None, Result, Ok, Err, OnOk, refl, sym, ap, subst, ◌∙◌, arith}
 use Rattle.fapp_model.specs.declared.instance.Instance.{Instance}
 use Rattle.fapp_model.specs.declared.literal.Literal.{Literal}
 use Rattle.fapp_model.specs.declared.tag.Tag.{Tag}
@@ -10,20 +10,21 @@ use Rattle.fapp_model.specs.search.Partials.{IsPartial, literal, names}
 use Rattle.fapp_model.specs.search.Prefixes.{IsPrefix}
 use Rattle.log_laws.specs.declared.line.ChoiceRef.{ChoiceRef}
 use Rattle.log_laws.specs.declared.line.Ref.{Ref}
+use Rattle.search_log.specs.Bounds.{floor}
 use Rattle.settle_laws.specs.declared.found.Found.{Found}
 use Rattle.settle_laws.specs.declared.found.Found.TheVariants.{Dead as FoundDead, Settled, Moot, Spent}
 use Rattle.settle_laws.specs.declared.node.Node.{Node}
-use Rattle.settle_laws.specs.Founds.{IsFoundBy, IsHigh, IsOpen, Searched, refused}
+use Rattle.settle_laws.specs.Founds.{IsFoundBy, IsOpen, IsTarget, Searched, refused}
 use Rattle.settle_laws.specs.Levels.{level_code}
 use Rattle.settle_laws.specs.Noted.{Goes, IsEnding, Notes, by_choice}
-use Rattle.settle_laws.specs.Ticks.{Ticks}
+use Rattle.settle_laws.specs.Ticks.{AreOffered, Ticks, TicksBelow}
 use Rattle.settle_laws.specs.Trying.{AreTriedChoices, Trying}
 use Rattle.settle_laws.specs.Worlds.{Keeps, World}
-use Rattle.settle_laws.proofs.Entering.{floor-le}
 use Rattle.settle_laws.proofs.Keeping.{keeps-trans}
 use Rattle.settle_laws.proofs.NextPaths.{next-apart, next-prefix, next-small}
+use Rattle.settle_laws.proofs.StopJoin.{on-ok}
 use Rattle.settle_laws.proofs.TagCodes.{dead-lower, tag-small}
-use Rattle.settle_laws.proofs.TickJoin.{next-below, next-ticks, none-at}
+use Rattle.settle_laws.proofs.TickJoin.{next-below, next-offered, next-ticks, none-at}
 use Rattle.settle_laws.proofs.Tried.{tried-dead, tried-grow, tried-settled}
 use Rattle.tries_laws.proofs.PrefixParts.{prefix-is_partial}
 
@@ -43,18 +44,27 @@ module _ (instance : Instance) (level : ℕ) (literals : List Literal) (old here
     both-keep : Keeps instance old now
     both-keep = keeps-trans instance old here now trying.keeps s.keeps
 
-    both-ticks : Ticks instance level literals old now s.refused_at
+    abbrev both-ticks : Ticks instance level literals old now s.refused_at
     both-ticks = next-ticks instance level literals node.path node.choice old here now trying.keeps s.keeps s.refused_at trying.ticks s.ticks
+
+    both-read : now.bound.told ≤ floor old.bound
+    both-read = omega (arith, s.read, trying.keeps.falls)
+
+    both-offer : OnOk result (AreOffered instance both-ticks.tried now.bound.least)
+    both-offer = on-ok (AreOffered instance s.ticks.tried now.bound.least) (AreOffered instance both-ticks.tried now.bound.least)
+        (next-offered instance level literals node.path node.choice old here now trying.keeps s.keeps s.refused_at trying.ticks s.ticks) result s.offered
 
     -- what ends the search of a choice ends that of the literals
     end-as : IsFoundBy instance level literals old now result → Searched instance level literals old now result
     end-as is = record {
       keeps = both-keep;
       few = omega (arith, trying.fewer, s.few);
+      read = both-read;
       is = is;
       refused_at = s.refused_at;
       refused_count = s.refused_count;
       ticks = both-ticks;
+      offered = both-offer;
     }
 
   pub ends : {E : Type 0} → (result : Result Found E) → IsEnding result → Searched instance level with-choice here now result → Searched instance level literals old now result
@@ -69,10 +79,12 @@ module _ (instance : Instance) (level : ℕ) (literals : List Literal) (old here
   ends-unnoted found s none e = record {
     keeps = both-keep (Ok found) s;
     few = omega (arith, trying.fewer, s.few);
+    read = both-read (Ok found) s;
     is = tt;
     refused_at = s.refused_at;
     refused_count = s.refused_count ∙ none;
     ticks = both-ticks (Ok found) s;
+    offered = tt;
   }
 
   -- the next choice
@@ -99,38 +111,41 @@ module _ (instance : Instance) (level : ℕ) (literals : List Literal) (old here
       -- the choices before this one, in the world as it is now
       before : AreTriedChoices instance now.shared.copied now.log.lines literals new.tag.code node.path node.choice node.refs
       before = tried-grow instance valid literals node.path here.shared.copied now.shared.copied here.log.lines now.log.lines s.keeps.copied s.keeps.lines node.tag.code new.tag.code
-          (tag-small instance level node.tag within (omega (arith, trying.low))) (tag-small instance level new.tag within (omega (arith, trying.low, lower))) lower node.choice node.refs trying.choices
+          (tag-small instance level node.tag within (omega (arith, trying.target))) (tag-small instance level new.tag within (omega (arith, trying.target, lower))) lower node.choice node.refs trying.choices
 
-      goes-with : IsOpen level now.bound → IsHigh level now.bound tag.code → AreTriedChoices instance now.shared.copied now.log.lines literals new.tag.code node.path (node.choice + 1) refs → Trying instance level literals old now new
-      goes-with is_open high tried = record {
+      below-next : (refused : List (List Literal)) → refused ≡ [] → (t : Ticks instance level with-choice here now refused) → AreOffered instance t.tried now.bound.least → TicksBelow instance level literals node.path (node.choice + 1) old now
+      below-next [] e t offered = next-below instance level literals node.path node.choice old here now trying.keeps s.keeps trying.ticks t offered
+      below-next (x ∷ more) e t offered = cc
+
+      goes-with : IsOpen level now.bound → IsTarget level now.bound tag.code → AreTriedChoices instance now.shared.copied now.log.lines literals new.tag.code node.path (node.choice + 1) refs → Trying instance level literals old now new
+      goes-with is_open target tried = record {
         next = trying.next ∙ ap (λ (p : ℕ). Some p) (sym goes.path_is);
         counted = goes.count_is ∙ (trying.counted ∙ ap (λ p. count_at instance p) (sym goes.path_is));
         within = omega (arith, goes.choice_is, goes.count_is);
-        low = omega (arith, trying.low, lower);
+        read = both-read (Ok found) s;
         keeps = both-keep (Ok found) s;
         fewer = omega (arith, trying.fewer, s.few);
         is_open = is_open;
-        high = omega (arith, trying.high, high, s.keeps.falls, goes.tag_is);
+        target = omega (arith, trying.target, target, s.keeps.falls, goes.tag_is);
         choices = rw (goes.path_is, goes.choice_is, goes.refs_are) tried;
-        ticks = rw (goes.path_is, goes.choice_is) (next-below instance level literals node.path node.choice old here now trying.keeps s.keeps trying.ticks
-            (subst (λ r. Ticks instance level with-choice here now r) (none-at s.refused_at (s.refused_count ∙ none)) s.ticks));
+        ticks = rw (goes.path_is, goes.choice_is) (below-next s.refused_at (none-at s.refused_at (s.refused_count ∙ none)) s.ticks s.offered);
       }
 
     goes-dead : {E : Type 0} → (tag : Tag) → Searched {E = E} instance level with-choice here now (Ok (FoundDead tag)) → (new : Node) → Goes node new tag.code node.refs → Trying instance level literals old now new
     goes-dead tag s new goes =
         let low : new.tag.code ≤ tag.code = omega (arith, goes.tag_is) in
-        let most : tag.code ≤ level_code (level + 1) = omega (arith, s.is.1) in
+        let most : tag.code ≤ level_code (level + 1) = omega (arith, s.is.exact) in
         let own_new = tag-small instance level new.tag within (omega (arith, most, low)) in
-        goes-with (FoundDead tag) s new tag node.refs goes refl s.is.0 (omega (arith, s.is.1, floor-le now.bound))
+        goes-with (FoundDead tag) s new tag node.refs goes refl s.is.is_open s.is.target
         (tried-dead instance valid literals partial node.path node.choice small below apart now.shared.copied now.log.lines new.tag.code own_new node.refs
         (before (FoundDead tag) s new tag node.refs goes refl) pushed-partial
-        (dead-lower instance tag.code new.tag.code with-choice valid (tag-small instance level tag within most) own_new low s.is.3))
+        (dead-lower instance tag.code new.tag.code with-choice valid (tag-small instance level tag within most) own_new low s.is.dead))
 
     goes-settled : {E : Type 0} → (line : Ref) (tag : Tag) → Searched {E = E} instance level with-choice here now (Ok (Settled line tag)) → (new : Node) → Goes node new tag.code (node.refs ++ by_choice node.choice line ∷ []) → Trying instance level literals old now new
     goes-settled line tag s new goes =
         let low : new.tag.code ≤ tag.code = omega (arith, goes.tag_is) in
-        let own_new = tag-small instance level new.tag within (omega (arith, goes.tag_is, trying.low)) in
-        goes-with (Settled line tag) s new tag (node.refs ++ by_choice node.choice line ∷ []) goes refl s.is.is_open s.is.high
+        let own_new = tag-small instance level new.tag within (omega (arith, goes.tag_is, trying.target)) in
+        goes-with (Settled line tag) s new tag (node.refs ++ by_choice node.choice line ∷ []) goes refl s.is.is_open s.is.target
         (tried-settled instance valid literals partial node.path node.choice small below apart now.shared.copied now.log.lines new.tag.code own_new node.refs
         (before (Settled line tag) s new tag (node.refs ++ by_choice node.choice line ∷ []) goes refl) line tag.code low s.is.refuted)
 

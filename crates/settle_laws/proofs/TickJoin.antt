@@ -16,14 +16,13 @@ use Rattle.tries_laws.specs.TriesLaws.{AreTried}
 use Rattle.fapp_model.proofs.Members.{All-from_members, at_front}
 use Rattle.log_laws.specs.Contents.{KnownRow}
 use Rattle.log_laws.proofs.Places.{get-front}
-use Rattle.search_log.specs.Bounds.{floor}
-use Rattle.search_log.specs.Shares.{known}
-use Rattle.settle_laws.specs.Levels.{level_code, target_code}
-use Rattle.settle_laws.specs.Ticks.{IsAliveBy, IsEarlier, NoneWithin, OffersCost, StandBehind, Ticks, TicksBelow}
+use Rattle.search_log.specs.Bounds.{BoundState}
+use Rattle.settle_laws.specs.Stops.{AreStops, ComesAfter, ComesBefore, IsUndecided, stop_at}
+use Rattle.settle_laws.specs.Ticks.{AreOffered, IsEarlier, OffersCost, StandBehind, Ticks, TicksBelow}
 use Rattle.settle_laws.specs.Worlds.{Keeps, KeepsAtMost, World}
-use Rattle.settle_laws.proofs.Adding.{pairs-join}
-use Rattle.settle_laws.proofs.Keeping.{rows-grow}
+use Rattle.settle_laws.proofs.Adding.{has-same, pairs-join}
 use Rattle.settle_laws.proofs.NextPaths.{get-contains}
+use Rattle.settle_laws.proofs.StopJoin.{both-offered, no-stops, offered-later, one-stop, stops-join, stops-later}
 
 pub none-tried : (instance : Instance) (level : ℕ) (prefix : List Literal) → AreTried instance (target level) prefix []
 none-tried instance level prefix = record {
@@ -51,6 +50,10 @@ pub only-behind : (prefix : List Literal) → StandBehind prefix (prefix ∷ [])
 only-behind prefix zero literals at longer = let e : prefix ≡ literals = cc in absurd (omega (arith, ap length e))
 only-behind prefix (suc place) literals at longer = cc
 
+-- a stop where the search is
+pub itself-before : (w : World) (literals : List Literal) → ComesBefore w (stop_at w literals)
+itself-before w literals = record { told = omega arith; copied = has-same w.shared.copied }
+
 module _ (instance : Instance) (level : ℕ) (prefix : List Literal) (old new : World) where
   -- no tick fell, and none was refused
   abbrev pub no-ticks : new.fuel ≡ old.fuel → new.bound.least ≡ old.bound.least → Ticks instance level prefix old new []
@@ -61,64 +64,78 @@ module _ (instance : Instance) (level : ℕ) (prefix : List Literal) (old new : 
     taken = omega arith;
     are = none-tried instance level prefix;
     behind = λ place literals at longer. cc;
-    judged = All-nil (IsAliveBy instance (target_code level (floor old.bound)));
-    rowless = All-nil (NoneWithin level (known old.shared));
+    stops = no-stops instance level old new;
+    last = All-nil (λ literals. IsUndecided instance level (stop_at new literals));
     offers = inl least;
   }
 
   -- one fell, or was refused, at a prefix
-  module _ (is : IsPrefix instance prefix) (alive : Dead instance (target level) prefix → ⊥) (judged : IsAliveBy instance (target_code level (floor old.bound)) prefix) (rowless : NoneWithin level (known old.shared) prefix) where
-    abbrev pub one-tick : old.fuel ≡ new.fuel + 1 → (new.bound.least ≡ old.bound.least) ⊎ OffersCost instance (prefix ∷ []) new → Ticks instance level prefix old new []
-    one-tick took offers = record {
+  module _ (is : IsPrefix instance prefix) (alive : Dead instance (target level) prefix → ⊥) where
+    -- at some stop
+    abbrev pub one-tick : AreStops instance level old new (prefix ∷ []) → old.fuel ≡ new.fuel + 1 → (new.bound.least ≡ old.bound.least) ⊎ OffersCost instance (prefix ∷ []) new → Ticks instance level prefix old new []
+    one-tick stops took offers = record {
       tried = prefix ∷ [];
       asked = prefix ∷ [];
       asked_is = refl;
       taken = omega arith;
       are = one-tried instance level prefix is alive;
       behind = only-behind prefix;
-      judged = All-cons (IsAliveBy instance (target_code level (floor old.bound))) prefix [] judged (All-nil (IsAliveBy instance (target_code level (floor old.bound))));
-      rowless = All-cons (NoneWithin level (known old.shared)) prefix [] rowless (All-nil (NoneWithin level (known old.shared)));
+      stops = stops;
+      last = All-nil (λ literals. IsUndecided instance level (stop_at new literals));
       offers = offers;
     }
 
-    pub one-refused : new.fuel ≡ old.fuel → new.bound.least ≡ old.bound.least → Ticks instance level prefix old new (prefix ∷ [])
-    one-refused same least = record {
+    abbrev pub one-refused : ComesAfter old (stop_at new prefix) → IsUndecided instance level (stop_at new prefix) → new.fuel ≡ old.fuel → new.bound.least ≡ old.bound.least → Ticks instance level prefix old new (prefix ∷ [])
+    one-refused after undecided same least = record {
       tried = [];
       asked = prefix ∷ [];
       asked_is = refl;
       taken = omega arith;
       are = one-tried instance level prefix is alive;
       behind = only-behind prefix;
-      judged = All-cons (IsAliveBy instance (target_code level (floor old.bound))) prefix [] judged (All-nil (IsAliveBy instance (target_code level (floor old.bound))));
-      rowless = All-cons (NoneWithin level (known old.shared)) prefix [] rowless (All-nil (NoneWithin level (known old.shared)));
+      stops = one-stop instance level old new (stop_at new prefix) undecided after (itself-before new prefix);
+      last = All-cons (λ literals. IsUndecided instance level (stop_at new literals)) prefix [] undecided (All-nil (λ literals. IsUndecided instance level (stop_at new literals)));
       offers = inl least;
     }
 
     -- and the choices of the next path come next
-    pub first-tick : (path : ℕ) → old.fuel ≡ new.fuel + 1 → new.bound.least ≡ old.bound.least → TicksBelow instance level prefix path 0 old new
-    first-tick path took least = record {
-      ticks = one-tick took (inl least);
+    pub first-tick : AreStops instance level old new (prefix ∷ []) → AreOffered instance (prefix ∷ []) new.bound.least → (path : ℕ) → old.fuel ≡ new.fuel + 1 → new.bound.least ≡ old.bound.least → TicksBelow instance level prefix path 0 old new
+    first-tick stops offered path took least = record {
+      ticks = one-tick stops took (inl least);
       begins = at_front prefix [];
       each = All-cons (IsEarlier prefix path 0) prefix [] (inl refl) (All-nil (IsEarlier prefix path 0));
+      offered = offered;
     }
+
+pub told-same : (b c : BoundState) → b ≡ c → b.told ≤ c.told
+told-same b c e = omega (arith, ap (λ (s : BoundState). s.told) e)
+
+pub rows-same : (xs ys : List KnownRow) → xs ≡ ys → All (Contains xs) ys
+rows-same xs ys e = subst (λ zs. All (Contains zs) ys) (sym e) (has-same ys)
+
+pub last-later : (instance : Instance) (level : ℕ) (new later : World) (refused : List (List Literal)) → later.bound ≡ new.bound → later.shared.copied ≡ new.shared.copied → All (λ literals. IsUndecided instance level (stop_at new literals)) refused → All (λ literals. IsUndecided instance level (stop_at later literals)) refused
+last-later instance level new later refused bound copied h = All-from_members (λ literals. IsUndecided instance level (stop_at later literals)) refused (λ literals m.
+    subst (λ (b : BoundState). IsUndecided instance level (record { prefix = literals; told = b.told; copied = later.shared.copied })) (sym bound)
+    (subst (λ rows. IsUndecided instance level (record { prefix = literals; told = new.bound.told; copied = rows })) (sym copied)
+    (All-contains (λ literals. IsUndecided instance level (stop_at new literals)) refused literals h m)))
 
 -- the world changed since in nothing that ticks speak of
 module _ (instance : Instance) (tried : List (List Literal)) (new later : World) (better : (tag : ℕ) → KeepsAtMost new.log.best tag → KeepsAtMost later.log.best tag) where
   pub cost-later : later.bound.least ≡ new.bound.least → OffersCost instance tried new → OffersCost instance tried later
-  cost-later same o = record { plan = o.plan; feasible = o.feasible; prefix = o.prefix; ticked = o.ticked; full = o.full; extends = o.extends; offered = same ∙ o.offered; kept = better (code_of (cost instance o.plan)) o.kept }
+  cost-later same o = record { plan = o.plan; prefix = o.prefix; ticked = o.ticked; whole = o.whole; offered = same ∙ o.offered; kept = better (code_of (cost instance o.plan)) o.kept }
 
-abbrev pub ticks-later : (instance : Instance) (level : ℕ) (prefix : List Literal) (old new later : World) (refused : List (List Literal)) → later.fuel ≡ new.fuel → later.bound.least ≡ new.bound.least →
+abbrev pub ticks-later : (instance : Instance) (level : ℕ) (prefix : List Literal) (old new later : World) (refused : List (List Literal)) → later.fuel ≡ new.fuel → later.bound ≡ new.bound → later.shared.copied ≡ new.shared.copied →
     ((tag : ℕ) → KeepsAtMost new.log.best tag → KeepsAtMost later.log.best tag) → Ticks instance level prefix old new refused → Ticks instance level prefix old later refused
-ticks-later instance level prefix old new later refused fuel least better t = record {
+ticks-later instance level prefix old new later refused fuel bound copied better t = record {
   tried = t.tried;
   asked = t.asked;
   asked_is = t.asked_is;
   taken = omega (arith, t.taken);
   are = t.are;
   behind = t.behind;
-  judged = t.judged;
-  rowless = t.rowless;
-  offers = ⊎_elim (λ same. inl (least ∙ same)) (λ (o : OffersCost instance t.tried new). inr (cost-later instance t.tried new later better least o)) t.offers;
+  stops = stops-later instance level old new later t.asked (told-same (later.bound) (new.bound) bound) (rows-same later.shared.copied new.shared.copied copied) t.stops;
+  last = last-later instance level new later refused bound copied t.last;
+  offers = ⊎_elim (λ same. inl (ap (λ (b : BoundState). b.least) bound ∙ same)) (λ (o : OffersCost instance t.tried new). inr (cost-later instance t.tried new later better (ap (λ (b : BoundState). b.least) bound) o)) t.offers;
 }
 
 module _ {X : Type 0} where
@@ -203,17 +220,12 @@ module _ (instance : Instance) (level : ℕ) (prefix : List Literal) (path index
       (λ deep. b.behind r.0 literals r.1 deep)))
       (cases_lt place (length a.ticks.asked))
 
-  -- neither the bound nor the rows told less
-  pub judged-before : (literals : List Literal) → IsAliveBy instance (target_code level (floor here.bound)) literals → IsAliveBy instance (target_code level (floor old.bound)) literals
-  judged-before literals h = (h.0, (let low = h.1 in omega (arith, before.falls)), h.2)
-
-  pub rowless-before : (literals : List Literal) → NoneWithin level (known here.shared) literals → NoneWithin level (known old.shared) literals
-  rowless-before literals h = All-from_members (λ (row : KnownRow). HasAll literals row.content.lits → level_code (level + 1) ≤ row.content.tag → ⊥) (known old.shared) (λ row m.
-      All-contains (λ (row : KnownRow). HasAll literals row.content.lits → level_code (level + 1) ≤ row.content.tag → ⊥) (known here.shared) row h
-      (All-contains (Contains (known here.shared)) (known old.shared) row (rows-grow old.shared here.shared before.copied before.published) m))
+  -- all of the first were offered
+  pub first-offered : AreOffered instance a.ticks.asked here.bound.least
+  first-offered = subst (λ ps. AreOffered instance ps here.bound.least) (sym (a.ticks.asked_is ∙ append-nil a.ticks.tried)) a.offered
 
   more-tried : (xs ys : List (List Literal)) (w : World) → All (Contains ys) xs → OffersCost instance xs w → OffersCost instance ys w
-  more-tried xs ys w has o = record { plan = o.plan; feasible = o.feasible; prefix = o.prefix; ticked = All-contains (Contains ys) xs o.prefix has o.ticked; full = o.full; extends = o.extends; offered = o.offered; kept = o.kept }
+  more-tried xs ys w has o = record { plan = o.plan; prefix = o.prefix; ticked = All-contains (Contains ys) xs o.prefix has o.ticked; whole = o.whole; offered = o.offered; kept = o.kept }
 
   pub join-offers : (new.bound.least ≡ old.bound.least) ⊎ OffersCost instance (a.ticks.tried ++ b.tried) new
   join-offers = ⊎_elim
@@ -235,22 +247,25 @@ module _ (instance : Instance) (level : ℕ) (prefix : List Literal) (path index
     taken = omega (arith, length-append a.ticks.tried b.tried, a.ticks.taken, b.taken);
     are = join-all;
     behind = join-behind;
-    judged = All-append (IsAliveBy instance (target_code level (floor old.bound))) a.ticks.asked b.asked a.ticks.judged
-        (All-from_members (IsAliveBy instance (target_code level (floor old.bound))) b.asked (λ x m. judged-before x (All-contains (IsAliveBy instance (target_code level (floor here.bound))) b.asked x b.judged m)));
-    rowless = All-append (NoneWithin level (known old.shared)) a.ticks.asked b.asked a.ticks.rowless
-        (All-from_members (NoneWithin level (known old.shared)) b.asked (λ x m. rowless-before x (All-contains (NoneWithin level (known here.shared)) b.asked x b.rowless m)));
+    stops = stops-join instance level old here new before after a.ticks.asked b.asked a.ticks.stops b.stops first-offered;
+    last = b.last;
     offers = join-offers;
   }
 
+  -- and they are offered where the later ones are
+  pub next-offered : AreOffered instance b.tried new.bound.least → AreOffered instance (a.ticks.tried ++ b.tried) new.bound.least
+  next-offered h = both-offered instance a.ticks.tried b.tried new.bound.least (offered-later instance a.ticks.tried here.bound.least new.bound.least after.lowers a.offered) h
+
 -- where none was refused, the next choice comes next
 pub next-below : (instance : Instance) (level : ℕ) (prefix : List Literal) (path index : ℕ) (old here new : World) → Keeps instance old here → Keeps instance here new →
-    TicksBelow instance level prefix path index old here → Ticks instance level (prefix ++ literal path index ∷ []) here new [] → TicksBelow instance level prefix path (index + 1) old new
-next-below instance level prefix path index old here new before after a b = record {
+    (a : TicksBelow instance level prefix path index old here) (b : Ticks instance level (prefix ++ literal path index ∷ []) here new []) → AreOffered instance b.tried new.bound.least → TicksBelow instance level prefix path (index + 1) old new
+next-below instance level prefix path index old here new before after a b offered = record {
   ticks = next-ticks instance level prefix path index old here new before after [] a b;
   begins = Contains-append_left a.ticks.asked b.asked prefix a.begins;
   each = All-append (IsEarlier prefix path (index + 1)) a.ticks.asked b.asked
       (All-from_members (IsEarlier prefix path (index + 1)) a.ticks.asked (λ x l. earlier-more prefix path index x (All-contains (IsEarlier prefix path index) a.ticks.asked x a.each l)))
       (All-from_members (IsEarlier prefix path (index + 1)) b.asked (λ x l. inr (index, omega arith, All-contains (λ y. GoesOn (prefix ++ literal path index ∷ []) y) b.asked x b.are.go_on l)));
+  offered = next-offered instance level prefix path index old here new before after [] a b offered;
 }
 
 pub none-at : (xs : List (List Literal)) → length xs ≡ 0 → xs ≡ []

@@ -1,5 +1,5 @@
 -- What the search finds of some literals.
-use Rattle.std.specs.Prelude.{◌≡◌, ℕ, ◌+◌, ◌<◌, ◌≤◌, min, List, length, Result, Ok, Err}
+use Rattle.std.specs.Prelude.{◌≡◌, ℕ, ◌+◌, ◌<◌, ◌≤◌, List, length, Result, Ok, Err, OnOk}
 use Rattle.fapp_model.specs.declared.instance.Instance.{Instance}
 use Rattle.fapp_model.specs.declared.literal.Literal.{Literal}
 use Rattle.fapp_model.specs.Tags.{IsTagOf, triple_from}
@@ -14,7 +14,8 @@ use Rattle.search_log.specs.Shares.{IsServed}
 use Rattle.settle_laws.specs.declared.found.Found.{Found}
 use Rattle.settle_laws.specs.declared.found.Found.TheVariants.{Dead as FoundDead, Settled, Moot, Spent}
 use Rattle.settle_laws.specs.Levels.{level_code, target_code}
-use Rattle.settle_laws.specs.Ticks.{Ticks}
+use Rattle.settle_laws.specs.Stops.{NoneFits}
+use Rattle.settle_laws.specs.Ticks.{AreOffered, Ticks}
 use Rattle.settle_laws.specs.Worlds.{Keeps, World}
 
 -- a line's tag is one of the instance
@@ -31,13 +32,9 @@ pub record IsRefuted (instance : Instance) (rows : List KnownRow) (lines : List 
   pub served : IsServed instance content
   pub own : HasOwnTag instance line content
 
--- at least the lesser of the level's target and what the bound told last or was offered
-abbrev pub IsHigh : ℕ → BoundState → ℕ → Type 0
-IsHigh level bound tag = min (level_code (level + 1)) (floor bound) ≤ tag
-
--- at most the level's target, what the bound had told and what it was offered
-abbrev pub IsLow : ℕ → BoundState → ℕ → Type 0
-IsLow level bound tag = tag ≤ target_code level (floor bound)
+-- the lesser of the level's target and of what the bound told last or was offered
+abbrev pub IsTarget : ℕ → BoundState → ℕ → Type 0
+IsTarget level bound tag = tag ≡ target_code level (floor bound)
 
 -- the bound that was told last leaves something to find at the level
 abbrev pub IsOpen : ℕ → BoundState → Type 0
@@ -52,15 +49,24 @@ IsLastRef old new (Row r) = (new.fuel ≡ old.fuel) × (new.log.lines ≡ old.lo
 abbrev pub IsExact : ℕ → World → World → ℕ → Type 0
 IsExact level old new tag = new.fuel ≡ old.fuel → tag ≡ target_code level new.bound.told
 
--- A line or a row settles some literals. Its tag is neither above the target that the bound gave before nor below the one that
--- it gives now.
+-- A line or a row settles some literals. Its tag is the least of the targets that their parts were judged at: the bound was read
+-- at each part, never told more, and was offered the cost of each assignment that was come to.
 pub record IsSettledBy (instance : Instance) (level : ℕ) (literals : List Literal) (old new : World) (line : Ref) (tag : ℕ) : Type 0 where
   pub is_open : IsOpen level new.bound
-  pub high : IsHigh level new.bound tag
-  pub low : IsLow level old.bound tag
+  pub target : IsTarget level new.bound tag
   pub exact : IsExact level old new tag
   pub refuted : IsRefuted instance new.shared.copied new.log.lines literals line tag
   pub last : IsLastRef old new line
+
+-- some literals are dead at the target, where no row says so
+pub record IsFoundDead (instance : Instance) (level : ℕ) (literals : List Literal) (old new : World) (tag : ℕ) : Type 0 where
+  pub is_open : IsOpen level new.bound
+  pub target : IsTarget level new.bound tag
+  pub exact : tag ≡ target_code level new.bound.told
+  pub rowless : NoneFits tag new.shared.copied literals
+  pub dead : Dead instance (triple_from tag) literals
+  pub fuel : new.fuel ≡ old.fuel
+  pub lines : new.log.lines ≡ old.log.lines
 
 -- so many takes of fuel were refused
 abbrev pub refused : {E : Type 0} → Result Found E → ℕ
@@ -70,21 +76,22 @@ refused (Ok (Moot seen)) = 0
 refused (Ok Spent) = 1
 refused (Err e) = 0
 
--- Dead comes with the target, settled with a tag that is high enough, Moot with the bound that was told last, Spent without fuel
+-- Dead comes with the target, settled with the least target, Moot with the bound that was told last, Spent without fuel
 abbrev pub IsFoundBy : {E : Type 0} → Instance → ℕ → List Literal → World → World → Result Found E → Type 0
-IsFoundBy instance level literals old new (Ok (FoundDead tag)) = IsOpen level new.bound
-    × (tag.code ≡ target_code level new.bound.told) × IsLow level old.bound tag.code
-    × Dead instance (triple_from tag.code) literals × (new.fuel ≡ old.fuel) × (new.log.lines ≡ old.log.lines)
+IsFoundBy instance level literals old new (Ok (FoundDead tag)) = IsFoundDead instance level literals old new tag.code
 IsFoundBy instance level literals old new (Ok (Settled line tag)) = IsSettledBy instance level literals old new line tag.code
 IsFoundBy instance level literals old new (Ok (Moot seen)) = (seen.code ≡ new.bound.told) × (new.bound.told ≤ level_code level)
 IsFoundBy instance level literals old new (Ok Spent) = IsOpen level new.bound × (new.fuel ≡ 0)
 IsFoundBy instance level literals old new (Err e) = Unit {0}
 
--- what was found, what was kept, and at which prefixes ticks were taken or refused; with each line at least one was taken
+-- what was found, what was kept, and at which prefixes ticks were taken or refused; with each line at least one was taken, the
+-- bound was read, and each assignment that a tick fell on was offered
 pub record Searched {E : Type 0} (instance : Instance) (level : ℕ) (literals : List Literal) (old new : World) (result : Result Found E) : Type 0 where
   pub keeps : Keeps instance old new
   pub few : length new.log.lines + new.fuel ≤ length old.log.lines + old.fuel
+  pub read : new.bound.told ≤ floor old.bound
   pub is : IsFoundBy instance level literals old new result
   pub refused_at : List (List Literal)
   pub refused_count : length refused_at ≡ refused result
   pub ticks : Ticks instance level literals old new refused_at
+  pub offered : OnOk result (AreOffered instance ticks.tried new.bound.least)

@@ -1,5 +1,6 @@
 pub mod Levels
 pub mod Worlds
+pub mod Stops
 pub mod Ticks
 pub mod Founds
 pub mod Ticked

@@ -1,5 +1,5 @@
 -- What a job comes to.
-use Rattle.std.specs.Prelude.{◌≡◌, ◌⊎◌, ℕ, ◌+◌, ◌-◌, ◌<◌, ◌≤◌, max, true, List, [], ◌∷◌, ◌++◌, length, map, slice_get, All, Contains, Some, Result, Ok, Err}
+use Rattle.std.specs.Prelude.{◌≡◌, ◌⊎◌, ℕ, ◌+◌, ◌-◌, ◌<◌, ◌≤◌, max, true, List, [], ◌∷◌, ◌++◌, length, map, slice_get, All, Contains, Some, Result, Ok, Err, OnOk}
 use Rattle.fapp_model.specs.declared.instance.Instance.{Instance}
 use Rattle.fapp_model.specs.declared.literal.Literal.{Literal}
 use Rattle.fapp_model.specs.search.Jobs.{target}
@@ -19,7 +19,7 @@ use Rattle.settle_laws.specs.Founds.{IsOpen, IsSettledBy}
 use Rattle.settle_laws.specs.Levels.{level_code}
 use Rattle.settle_laws.specs.Lined.{IsAtMostCount}
 use Rattle.settle_laws.specs.Published.{IsShort}
-use Rattle.settle_laws.specs.Ticks.{NoneWithin, Ticks}
+use Rattle.settle_laws.specs.Ticks.{AreOffered, NoneWithin, Ticks}
 use Rattle.settle_laws.specs.Worlds.{Gains, IsGood, IsKeptRight, IsLeastOffered, KeepsAtMost, World}
 
 -- the segments are of the rows, in their order
@@ -101,18 +101,19 @@ not_taken (Ok (Moot seen)) = 0
 not_taken (Ok Spent) = 1
 not_taken (Err e) = 0
 
--- Refuted: the line or row lies within the literals, at no lower tag; the tag is between the targets, and the target where no
--- tick was taken. Moot: what the bound told last is at most the level. After all but Refuted the lines are cut; only for
+-- Refuted: the line or row lies within the literals, at no lower tag; the tag is the least target, and that of the last reading
+-- where no tick was taken. Moot: what the bound told last is at most the level. After all but Refuted the lines are cut; only for
 -- want of memory may a row have been published then.
 abbrev pub IsOutcome : {E : Type 0} → Instance → ℕ → List Literal → World → World → Result Outcome E → Type 0
 IsOutcome instance level literals old new (Ok (Refuted line tag)) = IsSettledBy instance level literals old new line tag.code
     × IsOffered old new line
-    × (new.fuel ≡ old.fuel → IsAtMostCount instance literals old.log.lines new.log.lines)
+    × (new.fuel ≡ old.fuel → IsAtMostCount instance literals old new)
 IsOutcome instance level literals old new (Ok (Moot seen)) = (seen.code ≡ new.bound.told) × (new.bound.told ≤ level_code level) × IsCut old new × PublishesNone old new
 IsOutcome instance level literals old new (Ok Spent) = RunsOut instance level literals old new
 IsOutcome instance level literals old new (Err e) = IsCut old new × (PublishesNone old new ⊎ IsUnkept instance literals old new)
 
--- What a job's search keeps and finds, and at which prefixes ticks were taken or, at the end, one was refused.
+-- What a job's search keeps and finds, and at which prefixes ticks were taken or, at the end, one was refused. Whatever it finds,
+-- the bound was read, and each assignment that a tick fell on was offered.
 pub record Settles {E : Type 0} (instance : Instance) (level : ℕ) (literals : List Literal) (old new : World) (result : Result Outcome E) : Type 0 where
   pub fuel : new.fuel ≤ old.fuel
   pub copied : All (Contains new.shared.copied) old.shared.copied
@@ -129,8 +130,10 @@ pub record Settles {E : Type 0} (instance : Instance) (level : ℕ) (literals : 
   pub least : IsLeastOffered old.log.best old.bound.least → IsLeastOffered new.log.best new.bound.least
   pub right : IsKeptRight instance old.log.best → IsKeptRight instance new.log.best
   pub better : (tag : ℕ) → KeepsAtMost old.log.best tag → KeepsAtMost new.log.best tag
+  pub read : OnOk result (new.bound.told ≤ floor old.bound)
   pub is : IsOutcome instance level literals old new result
   pub refused_at : List (List Literal)
   pub refused_count : length refused_at ≡ not_taken result
   pub ticks : Ticks instance level literals old new refused_at
+  pub offered : OnOk result (AreOffered instance ticks.tried new.bound.least)
   pub fresh : 0 < length ticks.asked → NoneWithin level (known old.shared) literals

@@ -11,8 +11,9 @@ use Rattle.log_laws.specs.declared.line.ChoiceRef.{ChoiceRef}
 use Rattle.log_laws.specs.declared.line.LogLine.{LogLine}
 use Rattle.log_laws.specs.Contents.{Cites, Content, KnownRow}
 use Rattle.log_laws.specs.GoodLines.{IsSettled}
+use Rattle.search_log.specs.Bounds.{floor}
 use Rattle.settle_laws.specs.declared.node.Node.{Node}
-use Rattle.settle_laws.specs.Founds.{IsHigh, IsLow, IsOpen}
+use Rattle.settle_laws.specs.Founds.{IsOpen, IsTarget}
 use Rattle.settle_laws.specs.Ticks.{TicksBelow}
 use Rattle.settle_laws.specs.Worlds.{Keeps, World}
 
@@ -37,10 +38,10 @@ pub record Trying (instance : Instance) (level : ℕ) (literals : List Literal) 
   pub next : slice_get (work_order instance) (length literals) ≡ Some node.path
   pub counted : node.count ≡ count_at instance node.path
   pub within : node.choice ≤ node.count
-  pub low : IsLow level old.bound node.tag.code
+  pub read : now.bound.told ≤ floor old.bound
   pub keeps : Keeps instance old now
   pub fewer : length now.log.lines + now.fuel + 1 ≤ length old.log.lines + old.fuel
   pub is_open : IsOpen level now.bound
-  pub high : IsHigh level now.bound node.tag.code
+  pub target : IsTarget level now.bound node.tag.code
   pub choices : AreTriedChoices instance now.shared.copied now.log.lines literals node.tag.code node.path node.choice node.refs
   pub ticks : TicksBelow instance level literals node.path node.choice old now

@@ -43,7 +43,7 @@ returns-then-is_dead-clause-entry g c =
     λ log. dead-found f.instance c.args.level f.pushed c.args.fuel.now.amount (g.B.Bound.state c.args.bound.now) (g.B.Bound.state c.now-seen.new.self) (g.H.Shared.state c.args.shared.now) c.now-seen.result c.now-seen.ensures log
     low c.lesser-target.result at_is c.partial.result.now (g.H.Shared.state c.lookup.new.self)
     (subst (λ o. Looks (g.H.Shared.state c.args.shared.now) (g.H.Shared.state c.lookup.new.self) c.partial.result.now c.lesser-target.result.code o) c.in_default.is c.lookup.ensures.looks)
-    (c.is_dead.ensures.0 c.if-is_dead.true)
+    (λ a. (c.partial.ensures.given a).1) (c.is_dead.ensures.0 c.if-is_dead.true)
 
 pub returns-then-not-take-clause-entry : goal.returns-then-not-take-clause-entry
 returns-then-not-take-clause-entry g c =
@@ -55,7 +55,7 @@ returns-then-not-take-clause-entry g c =
     λ log. spent-found f.instance c.args.level f.pushed c.args.fuel.now.amount (g.B.Bound.state c.args.bound.now) (g.B.Bound.state c.now-seen.new.self) (g.H.Shared.state c.args.shared.now) c.now-seen.result c.now-seen.ensures log
     low c.lesser-target.result at_is c.partial.result.now (g.H.Shared.state c.lookup.new.self)
     (subst (λ o. Looks (g.H.Shared.state c.args.shared.now) (g.H.Shared.state c.lookup.new.self) c.partial.result.now c.lesser-target.result.code o) c.in_default.is c.lookup.ensures.looks)
-    c.requires.valid c.requires.level (λ a. (c.partial.ensures.given a).1) alive c.requires.prefix c.take.new.self.amount taken.0 taken.1
+    (λ a. (c.partial.ensures.given a).1) c.requires.valid c.requires.level alive c.requires.prefix c.take.new.self.amount taken.0 taken.1
 
 pub returns-clause-entry : goal.returns-clause-entry
 returns-clause-entry g c =
@@ -67,4 +67,4 @@ returns-clause-entry g c =
     λ log. is-ticked f.instance c.args.level f.pushed c.args.fuel.now.amount (g.B.Bound.state c.args.bound.now) (g.B.Bound.state c.now-seen.new.self) (g.H.Shared.state c.args.shared.now) c.now-seen.result c.now-seen.ensures log
     low c.lesser-target.result at_is c.partial.result.now (g.H.Shared.state c.lookup.new.self)
     (subst (λ o. Looks (g.H.Shared.state c.args.shared.now) (g.H.Shared.state c.lookup.new.self) c.partial.result.now c.lesser-target.result.code o) c.in_default.is c.lookup.ensures.looks)
-    c.requires.valid c.requires.level (λ a. (c.partial.ensures.given a).1) alive c.take.new.self.amount taken
+    (λ a. (c.partial.ensures.given a).1) c.requires.valid c.requires.level alive c.take.new.self.amount taken

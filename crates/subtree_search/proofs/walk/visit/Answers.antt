@@ -3,7 +3,7 @@ use Rattle.fapp_model.specs.declared.instance.Instance.{Instance}
 use Rattle.fapp_model.specs.search.WorkOrder.{work_order}
 use Rattle.tries_laws.proofs.PrefixParts.{prefix-is_partial}
 use Rattle.settle_laws.specs.Worlds.{world}
-use Rattle.settle_laws.proofs.Ends.{full-searched, tick-ends, tick-starts}
+use Rattle.settle_laws.proofs.Ends.{full-searched, tick-ends, tick-starts, ticked-open}
 use Rattle.settle_laws.proofs.Keeping.{keeps-same}
 use Rattle.subtree_search.proofs.Visited.{full-length, next-at, path-count, path-valid, path-within, visited-err, written-length}
 use Rattle.subtree_search.proofs.walk.visit.Goals as goal
@@ -14,7 +14,10 @@ returns-in-Decided-clause-visited g c = (refl, c.in-Decided.ensures.entry c.args
 pub conclude-requires-clause-alive : goal.conclude-requires-clause-alive
 conclude-requires-clause-alive g c =
     let ticked = c.in-Ticked.ensures.entry c.args.log.now in
-    (c.in-Ticked.target, ticked.own, ticked.told, ticked.alive)
+    let old = world c.args.fuel.now.amount (g.B.Bound.state c.args.bound.now) (g.H.Shared.state c.args.shared.now) c.args.log.now in
+    let now = world c.enter.new.fuel.amount (g.B.Bound.state c.enter.new.bound) (g.H.Shared.state c.enter.new.shared) c.args.log.now in
+    let judged = ticked-open c.args.forward.now.instance c.args.walk.now.level c.args.forward.now.pushed old now c.in-Ticked.target ticked in
+    (c.in-Ticked.target, ticked.own, judged.0, judged.1)
 
 pub returns-in_err-found-clause-visited : goal.returns-in_err-found-clause-visited
 returns-in_err-found-clause-visited g c =
