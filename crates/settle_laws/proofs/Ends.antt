@@ -38,7 +38,7 @@ use Rattle.settle_laws.specs.declared.found.Found.TheVariants.{Settled}
 use Rattle.settle_laws.specs.declared.node.Node.{Node}
 use Rattle.settle_laws.specs.Founds.{IsRefuted, IsTarget, Searched}
 use Rattle.settle_laws.specs.Lines.{AddsLine, AreSorted, Concludes, IsConcluded, IsLined, Offered}
-use Rattle.settle_laws.specs.Stops.{stop_at}
+use Rattle.settle_laws.specs.Stops.{IsWhole, stop_at}
 use Rattle.settle_laws.specs.Ticked.{IsTicked}
 use Rattle.settle_laws.specs.Ticks.{OffersCost, Ticks, TicksBelow}
 use Rattle.settle_laws.specs.Trying.{AreTriedChoices, IsChild, Trying}
@@ -49,7 +49,7 @@ use Rattle.settle_laws.proofs.Keeping.{keeps-same, keeps-trans}
 use Rattle.settle_laws.proofs.LineParts.{branch-good, count-good}
 use Rattle.settle_laws.proofs.NextPaths.{next-apart, next-short, next-small, prefix-short}
 use Rattle.settle_laws.proofs.Offering.{kept-lines, offered-cost, offered-keeps, offered-least, offers-floor}
-use Rattle.settle_laws.proofs.StopJoin.{one-offered, one-stop}
+use Rattle.settle_laws.proofs.StopJoin.{counted-later, one-counted, one-offered, one-stop}
 use Rattle.settle_laws.proofs.TagCodes.{alive-at, tag-small}
 use Rattle.settle_laws.proofs.TickJoin.{first-tick, itself-before, one-tick, ticks-later}
 use Rattle.settle_laws.proofs.Tried.{tried-grow}
@@ -165,6 +165,7 @@ module _ (instance : Instance) (valid : IsInstance instance) (level : ℕ) (limi
       refused_count = refl;
       ticks = line-ticks instance literals old now trying.keeps adds.line log adds.added level [] trying.ticks.ticks;
       offered = trying.ticks.offered;
+      counted = counted-later instance trying.ticks.ticks.tried old.log.lines now.log.lines log.lines (gains-one now.log.lines log.lines adds.line (ap (λ (l : LogState). l.lines) adds.added) plain) trying.ticks.counted;
     }
 
     branch-found : {E : Type 0} → Searched {E = E} instance level literals old (world now.fuel now.bound now.shared log) (Ok found)
@@ -181,6 +182,7 @@ module _ (instance : Instance) (valid : IsInstance instance) (level : ℕ) (limi
     refused_count = refl;
     ticks = trying.ticks.ticks;
     offered = tt;
+    counted = tt;
   })
 
 -- ---- after a tick
@@ -216,6 +218,7 @@ module _ (instance : Instance) (valid : IsInstance instance) (level : ℕ) (with
     refused_count = refl;
     ticks = tick-then after same keeps.tells keeps.copied offers;
     offered = tt;
+    counted = tt;
   }
 
   -- the choices of the next path are tried
@@ -239,7 +242,8 @@ module _ (instance : Instance) (valid : IsInstance instance) (level : ℕ) (with
         }));
     ticks = subst (λ n. TicksBelow instance level literals node.path n old now) (sym choice_is)
         (first-tick instance level literals old now prefix still-alive (one-stop instance level old now (stop_at now literals) ticked.undecided ticked.after (itself-before now literals))
-        (one-offered instance literals now.bound.least (λ plan whole. absurd (omega (arith, whole.full, next-short instance literals prefix node.path next)))) node.path ticked.took ticked.least);
+        (one-offered instance literals now.bound.least (λ plan whole. absurd (omega (arith, whole.full, next-short instance literals prefix node.path next))))
+        (one-counted instance literals old.log.lines now.log.lines (λ plan whole. absurd (omega (arith, whole.full, next-short instance literals prefix node.path next)))) node.path ticked.took ticked.least);
   }
 
   -- a full prefix
@@ -276,6 +280,9 @@ module _ (instance : Instance) (valid : IsInstance instance) (level : ℕ) (with
       full-implied = Implied-more instance (triple_from c.adds.line.tag.code) literals c.adds.line.lits c.adds.sorted.has
           (dead-implied instance (triple_from c.adds.line.tag.code) literals valid full-own partial full-dead)
 
+      same-cost : (plan : List ℕ) → IsWhole instance literals plan → code_of (cost instance c.offered.plan) ≡ code_of (cost instance plan)
+      same-cost plan whole = ap (λ p. code_of (cost instance p)) (same-plan instance valid literals prefix full c.offered.plan plan c.offered.feasible.assignment whole.feasible.assignment c.offered.extends whole.extends)
+
       full-by : {E : Type 0} → Searched {E = E} instance level literals old (world now.fuel after now.shared log) (Ok (Settled (Own (length c.kept.lines)) c.tag))
       full-by = record {
         keeps = line-keeps instance literals old (world now.fuel after now.shared c.kept) to-kept c.adds.line log c.adds.added (λ none. c.adds.refs_are) full-good;
@@ -294,7 +301,16 @@ module _ (instance : Instance) (valid : IsInstance instance) (level : ℕ) (with
         ticks = line-ticks instance literals old (world now.fuel after now.shared c.kept) to-kept c.adds.line log c.adds.added level []
             (tick-then (world now.fuel after now.shared c.kept) refl (omega (arith, c.offered.offers.told)) (has-same now.shared.copied) (offers-since after c.kept c.offered));
         offered = one-offered instance literals after.least (λ plan whole. offered-least now.bound after (code_of (cost instance c.offered.plan)) (code_of (cost instance plan)) c.offered.offers
-            (omega (arith, ap (λ p. code_of (cost instance p)) (same-plan instance valid literals prefix full c.offered.plan plan c.offered.feasible.assignment whole.feasible.assignment c.offered.extends whole.extends))));
+            (omega (arith, same-cost plan whole)));
+        counted = one-counted instance literals old.log.lines log.lines (λ plan whole. record {
+          place = length c.kept.lines;
+          line = c.adds.line;
+          gained = omega (arith, kept-few, few-lines);
+          there = line-is instance literals old (world now.fuel after now.shared c.kept) to-kept c.adds.line log c.adds.added;
+          count = c.adds.path_is;
+          tag = omega (arith, code-is, same-cost plan whole);
+          within = c.adds.sorted.only;
+        });
       }
 
       full-found : {E : Type 0} → Searched {E = E} instance level literals old (world now.fuel after now.shared log) (Ok found)

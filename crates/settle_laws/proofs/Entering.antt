@@ -28,7 +28,8 @@ use Rattle.settle_laws.specs.Ticked.{IsTicked}
 use Rattle.settle_laws.specs.Worlds.{IsLeastOffered, Keeps, world}
 use Rattle.settle_laws.proofs.Adding.{gains-none, has-same}
 use Rattle.settle_laws.proofs.Keeping.{rows-grow}
-use Rattle.settle_laws.proofs.StopJoin.{floor-le, none-offered}
+pub use Rattle.settle_laws.proofs.StopJoin.{floor-le}
+use Rattle.settle_laws.proofs.StopJoin.{none-counted, none-offered}
 use Rattle.settle_laws.proofs.TagCodes.{alive-at, tag-small}
 use Rattle.settle_laws.proofs.TickJoin.{no-ticks, one-refused}
 
@@ -107,6 +108,7 @@ module _ (instance : Instance) (level : ℕ) (literals : List Literal) (fuel : �
     refused_count = refl;
     ticks = no-ticks instance level literals (world fuel b s log) (world fuel c s log) refl tells.least;
     offered = none-offered instance c.least;
+    counted = none-counted instance log.lines log.lines;
   }
 
   module _ (low : level_code level < seen.code) (at : Tag) (at_is : at.code ≡ min seen.code (level_code (level + 1))) (part : List (Option ℕ)) (t : SharedState) where
@@ -161,6 +163,7 @@ module _ (instance : Instance) (level : ℕ) (literals : List Literal) (fuel : �
       refused_count = refl;
       ticks = no-ticks instance level literals (world fuel b s log) (world fuel c t log) refl tells.least;
       offered = none-offered instance c.least;
+      counted = none-counted instance log.lines log.lines;
     }
 
     module _ (looks : Looks s t part at.code None) (gives : (a : Literal) → Contains literals a → Gives part a) where
@@ -177,6 +180,7 @@ module _ (instance : Instance) (level : ℕ) (literals : List Literal) (fuel : �
         refused_count = refl;
         ticks = no-ticks instance level literals (world fuel b s log) (world fuel c t log) refl tells.least;
         offered = none-offered instance c.least;
+        counted = none-counted instance log.lines log.lines;
       }
 
       module _ (valid : IsInstance instance) (within : level ≤ levels_of instance) (alive : Dead instance (triple_from at.code) literals → ⊥) where
@@ -201,6 +205,7 @@ module _ (instance : Instance) (level : ℕ) (literals : List Literal) (fuel : �
           ticks = one-refused instance level literals (world fuel b s log) (world left c t log) prefix (alive-at instance level at literals valid within (omega (arith, at_is)) alive)
               (comes-after left) (undecided left) (omega arith) tells.least;
           offered = none-offered instance c.least;
+          counted = none-counted instance log.lines log.lines;
         }
 
         pub is-ticked : (left : ℕ) → fuel ≡ left + 1 → IsTicked instance level literals (world fuel b s log) (world left c t log) at

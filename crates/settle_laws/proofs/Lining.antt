@@ -23,8 +23,10 @@ use Rattle.settle_laws.specs.Lined.{IsAtMostCount, IsLinedBy, Lined}
 use Rattle.settle_laws.specs.Lines.{AddsLine, IsLined}
 use Rattle.settle_laws.specs.Stops.{NoneFits}
 use Rattle.settle_laws.specs.Worlds.{World, world}
+use Rattle.settle_laws.proofs.Adding.{gains-one}
 use Rattle.settle_laws.proofs.Ends.{line-adds, line-keeps, line-last, line-refutes, line-ticks}
 use Rattle.settle_laws.proofs.LineParts.{count-good}
+use Rattle.settle_laws.proofs.StopJoin.{counted-later}
 use Rattle.settle_laws.proofs.TagCodes.{tag-small}
 
 -- it is not said to be dead
@@ -64,6 +66,7 @@ module _ (instance : Instance) (level : ℕ) (literals : List Literal) (old new 
     refused_count = s.refused_count;
     ticks = s.ticks;
     offered = s.offered;
+    counted = s.counted;
   }
 
 -- a Count line is added where it is dead
@@ -111,6 +114,7 @@ module _ {E : Type 0} (instance : Instance) (valid : IsInstance instance) (level
       refused_count = s.refused_count;
       ticks = line-ticks instance literals old now s.keeps adds.line log adds.added level s.refused_at s.ticks;
       offered = s.offered;
+      counted = counted-later instance s.ticks.tried old.log.lines now.log.lines log.lines (gains-one now.log.lines log.lines adds.line (ap (λ (l : LogState). l.lines) adds.added) (λ none. adds.refs_are)) s.counted;
     }
 
     dead-adds : Lined {E = E} instance level literals old (world now.fuel now.bound now.shared log) (Ok found)
@@ -126,6 +130,7 @@ module _ {E : Type 0} (instance : Instance) (valid : IsInstance instance) (level
     refused_count = s.refused_count;
     ticks = s.ticks;
     offered = tt;
+    counted = tt;
   })
 
   pub dead-lined : (result : Result Found E) → IsLined instance literals tag None [] now.log log result → Lined instance level literals old (world now.fuel now.bound now.shared log) result

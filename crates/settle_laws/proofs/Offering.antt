@@ -26,7 +26,7 @@ use Rattle.search_log.specs.Logs.{IsBetter, KeepsBest}
 use Rattle.search_log.specs.Shares.{SharedState, known}
 use Rattle.settle_laws.specs.declared.found.Found.{Found}
 use Rattle.settle_laws.specs.Lines.{IsConcluded, IsLined, Offered}
-use Rattle.settle_laws.specs.Ticks.{IsOffered, OffersCost}
+use Rattle.settle_laws.specs.Ticks.{OfferedAtMost, OffersCost}
 use Rattle.settle_laws.specs.Worlds.{IsKeptRight, IsLeastOffered, Keeps, KeepsAtMost, world}
 use Rattle.settle_laws.proofs.Adding.{has-same}
 use Rattle.settle_laws.proofs.FullPrefixes.{cost-back, not-below}
@@ -48,11 +48,11 @@ floor-by told told_after (Some n) after tag e h = rw h (omega (arith, e))
 pub offers-floor : (b c : BoundState) (tag : ℕ) → Offers b c tag → floor c ≡ min (floor b) tag
 offers-floor b c tag h = floor-by b.told c.told b.least c.least tag h.told h.least
 
-least-by : (least after : Option ℕ) (tag most : ℕ) → after ≡ with_offer least tag → tag ≤ most → IsOffered after most
-least-by None after tag most h low = subst (λ o. IsOffered o most) (sym h) low
-least-by (Some n) after tag most h low = subst (λ o. IsOffered o most) (sym h) (omega (arith, low))
+least-by : (least after : Option ℕ) (tag most : ℕ) → after ≡ with_offer least tag → tag ≤ most → OfferedAtMost after most
+least-by None after tag most h low = subst (λ o. OfferedAtMost o most) (sym h) low
+least-by (Some n) after tag most h low = subst (λ o. OfferedAtMost o most) (sym h) (omega (arith, low))
 
-pub offered-least : (b c : BoundState) (tag most : ℕ) → Offers b c tag → tag ≤ most → IsOffered c.least most
+pub offered-least : (b c : BoundState) (tag most : ℕ) → Offers b c tag → tag ≤ most → OfferedAtMost c.least most
 offered-least b c tag most h low = least-by b.least c.least tag most h.least low
 
 -- ---- the order of costs

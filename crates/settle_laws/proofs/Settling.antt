@@ -35,9 +35,9 @@ use Rattle.settle_laws.specs.Founds.{IsRefuted, refused}
 use Rattle.settle_laws.specs.Levels.{level_code, target_code}
 use Rattle.settle_laws.specs.Lined.{IsAtMostCount, IsOneCount, Lined}
 use Rattle.settle_laws.specs.Published.{GotNone, GotRow, IsOfferable}
-use Rattle.settle_laws.specs.Settling.{AreHomeBy, IsOffered, IsOutcome, Publishes, PublishesNone, PublishesOne, Settles, not_taken}
+use Rattle.settle_laws.specs.Settling.{AreHomeBy, IsOffered, IsOutcome, OnRefuted, Publishes, PublishesNone, PublishesOne, Settles, not_taken}
 use Rattle.settle_laws.specs.Stops.{ComesAfter, IsUndecided, NoneFits, Stop, prefixes_of}
-use Rattle.settle_laws.specs.Ticks.{AreOffered, NoneWithin, Ticks}
+use Rattle.settle_laws.specs.Ticks.{AreCounted, AreOffered, NoneWithin, Ticks}
 use Rattle.settle_laws.specs.Worlds.{Gains, IsGood, IsKeptRight, IsLeastOffered, KeepsAtMost, World, world}
 use Rattle.settle_laws.proofs.Adding.{gains-none, has-same, has-trans}
 use Rattle.settle_laws.proofs.TickJoin.{no-ticks, ticks-later}
@@ -116,9 +116,10 @@ module _ (instance : Instance) (level : ℕ) (literals : List Literal) (old mid 
       (λ b. Contains-append_right shared.copied shared.published row (subst (λ rs. Contains rs row) (sym published) (Contains-append_left mid.shared.published rows row b)))
       (Contains-append_cases mid.shared.copied mid.shared.published row m))
 
-  -- where a job comes to an outcome, something was found
-  abbrev pub Went : {F : Type 0} → Result Outcome F → Type 0
-  Went result = OnOk found (AreOffered instance l.ticks.tried mid.bound.least) → OnOk result (AreOffered instance l.ticks.tried mid.bound.least)
+  -- where a job comes to an outcome, something was found, and where it is refuted its lines are there
+  pub record Went {F : Type 0} (result : Result Outcome F) : Type 0 where
+    pub offered : OnOk found (AreOffered instance l.ticks.tried mid.bound.least) → OnOk result (AreOffered instance l.ticks.tried mid.bound.least)
+    pub counted : OnOk found (AreCounted instance l.ticks.tried old.log.lines mid.log.lines) → OnRefuted result (AreCounted instance l.ticks.tried old.log.lines log.lines)
 
   pub settles-with : {F : Type 0} (result : Result Outcome F) → Went result → shared.copied ≡ mid.shared.copied → shared.takes ≡ mid.shared.takes → mid.shared.refusals ≤ shared.refusals → log.best ≡ mid.log.best →
       Publishes old (world mid.fuel mid.bound shared log) result → Gains old.log.lines log.lines → length log.lines ≤ length mid.log.lines →
@@ -145,7 +146,8 @@ module _ (instance : Instance) (level : ℕ) (literals : List Literal) (old mid 
     refused_at = l.refused_at;
     refused_count = l.refused_count ∙ sym none;
     ticks = ticks-later instance level literals old mid (world mid.fuel mid.bound shared log) l.refused_at refl refl copied (λ tag h. subst (λ b. KeepsAtMost b tag) (sym best) h) l.ticks;
-    offered = goes l.offered;
+    offered = goes.offered l.offered;
+    counted = goes.counted l.counted;
     fresh = λ some. rowless-root instance level literals old mid l.refused_at l.ticks some;
   }
 
@@ -193,12 +195,12 @@ module _ (instance : Instance) (level : ℕ) (literals : List Literal) (old mid 
   cut-same found l = cut-lines instance level literals old mid found l mid.shared log from from_is behind cut
 
   pub moot-settles : {E F : Type 0} (seen : Tag) → Lined {E = E} instance level literals old mid (Ok (Moot seen)) → Settles {E = F} instance level literals old (world mid.fuel mid.bound mid.shared log) (Ok (OutcomeMoot seen))
-  moot-settles seen l = cut-by (Ok (Moot seen)) l (Ok (OutcomeMoot seen)) (λ o. o) (l.is.0, l.is.1, cut-same (Ok (Moot seen)) l, cut-none (Ok (Moot seen)) l) refl refl
+  moot-settles seen l = cut-by (Ok (Moot seen)) l (Ok (OutcomeMoot seen)) (record { offered = λ o. o; counted = λ n. tt }) (l.is.0, l.is.1, cut-same (Ok (Moot seen)) l, cut-none (Ok (Moot seen)) l) refl refl
 
   pub spent-settles : {E F : Type 0} → IsInstance instance → level ≤ levels_of instance → IsPrefix instance literals → Lined {E = E} instance level literals old mid (Ok Spent) → Settles {E = F} instance level literals old (world mid.fuel mid.bound mid.shared log) (Ok OutcomeSpent)
   spent-settles valid within prefix l =
       let some = some-tries instance (target level) literals valid (target-is_tag instance level within) prefix in
-      cut-by (Ok Spent) l (Ok OutcomeSpent) (λ o. o) (record {
+      cut-by (Ok Spent) l (Ok OutcomeSpent) (record { offered = λ o. o; counted = λ n. tt }) (record {
         is_open = l.is.0;
         empty = l.is.1;
         cut = cut-same (Ok Spent) l;
@@ -208,12 +210,12 @@ module _ (instance : Instance) (level : ℕ) (literals : List Literal) (old mid 
       }) refl refl
 
   pub err-settles : {E F : Type 0} (e : E) (f : F) → Lined instance level literals old mid (Err e) → Settles instance level literals old (world mid.fuel mid.bound mid.shared log) (Err f)
-  err-settles e f l = cut-by (Err e) l (Err f) (λ o. tt) (cut-same (Err e) l, inl (cut-none (Err e) l)) refl (inl refl)
+  err-settles e f l = cut-by (Err e) l (Err f) (record { offered = λ o. tt; counted = λ n. tt }) (cut-same (Err e) l, inl (cut-none (Err e) l)) refl (inl refl)
 
 -- ---- a row settles the job
 
 pub row-settles : {E F : Type 0} (instance : Instance) (level : ℕ) (literals : List Literal) (old mid : World) (r : ℕ) (tag : Tag) → Lined {E = E} instance level literals old mid (Ok (Settled (Row r) tag)) → Settles {E = F} instance level literals old mid (Ok (Refuted (Row r) tag))
-row-settles instance level literals old mid r tag l = settles-with instance level literals old mid (Ok (Settled (Row r) tag)) l mid.shared mid.log (Ok (Refuted (Row r) tag)) (λ o. o) refl refl (omega arith) refl
+row-settles instance level literals old mid r tag l = settles-with instance level literals old mid (Ok (Settled (Row r) tag)) l mid.shared mid.log (Ok (Refuted (Row r) tag)) (record { offered = λ o. o; counted = λ n. n }) refl refl (omega arith) refl
     (record { rows = []; published = l.keeps.published ∙ sym (append-nil old.shared.published); gained = []; segments = l.keeps.segments ∙ sym (append-nil old.log.segments); home = refl })
     l.keeps.lines (omega arith) (λ good. good)
     (l.is.0, record { published = l.keeps.published; segments = l.keeps.segments }, l.is.1) refl
@@ -262,7 +264,7 @@ module _ {E : Type 0} (instance : Instance) (level : ℕ) (literals : List Liter
     same = ap (λ (g : LogState). g.lines) none.log_same
 
     pub none-settles : (G : Type 0) → Settles {E = G} instance level literals old (world mid.fuel mid.bound shared log) (Ok (Refuted (Own place) tag))
-    none-settles G = settles-with instance level literals old mid (Ok (Settled (Own place) tag)) l shared log (Ok (Refuted (Own place) tag)) (λ o. o) copied takes refusals (ap (λ (g : LogState). g.best) none.log_same)
+    none-settles G = settles-with instance level literals old mid (Ok (Settled (Own place) tag)) l shared log (Ok (Refuted (Own place) tag)) (record { offered = λ o. o; counted = λ n. subst (λ lines. AreCounted instance l.ticks.tried old.log.lines lines) (sym same) n }) copied takes refusals (ap (λ (g : LogState). g.best) none.log_same)
         (record { rows = []; published = none.published ∙ (l.keeps.published ∙ sym (append-nil old.shared.published)); gained = []; segments = ap (λ (g : LogState). g.segments) none.log_same ∙ (l.keeps.segments ∙ sym (append-nil old.log.segments)); home = refl })
         (gains-still log same) (omega (arith, ap length same))
         (λ good. subst (λ (g : LogState). IsGoodLog instance (known shared) g.lines g.segments) (sym none.log_same)
@@ -320,7 +322,7 @@ module _ {E : Type 0} (instance : Instance) (level : ℕ) (literals : List Liter
     got-settles G home =
         let same : log.lines ≡ mid.log.lines = ap (λ (g : LogState). g.lines) home in
         let segments : log.segments ≡ old.log.segments ++ own_segment ∷ [] = ap (λ (g : LogState). g.segments) home ∙ ap (λ ss. ss ++ own_segment ∷ []) l.keeps.segments in
-        settles-with instance level literals old mid (Ok (Settled (Own place) tag)) l shared log (Ok (Refuted (Own place) tag)) (λ o. o) copied takes refusals (ap (λ (g : LogState). g.best) home)
+        settles-with instance level literals old mid (Ok (Settled (Own place) tag)) l shared log (Ok (Refuted (Own place) tag)) (record { offered = λ o. o; counted = λ n. subst (λ lines. AreCounted instance l.ticks.tried old.log.lines lines) (sym same) n }) copied takes refusals (ap (λ (g : LogState). g.best) home)
         (record { rows = known_row got.row (content_of got.line) ∷ []; published = got.published ∙ ap (λ rs. rs ++ known_row got.row (content_of got.line) ∷ []) l.keeps.published; gained = own_segment ∷ []; segments = segments; home = refl })
         (gains-still log same) (omega (arith, ap length same))
         (λ good. subst (λ (g : LogState). IsGoodLog instance (known shared) g.lines g.segments) (sym home) (row-good good))
@@ -340,7 +342,7 @@ module _ {E : Type 0} (instance : Instance) (level : ℕ) (literals : List Liter
     pub unkept-settles : {G : Type 0} (g : G) (from : ℕ) → from ≡ length old.log.lines → (after : LogState) → log ≡ mid.log → after ≡ cut_behind log from → Settles instance level literals old (world mid.fuel mid.bound shared after) (Err g)
     unkept-settles g from from_is after same cut =
         let cut_mid : after ≡ cut_behind mid.log from = cut ∙ ap (λ l. cut_behind l from) same in
-        cut-settles instance level literals old mid (Ok (Settled (Own place) tag)) l shared after from from_is behind cut_mid (Err g) (λ o. tt) (known_row got.row (content_of got.line) ∷ []) copied got.published takes refusals
+        cut-settles instance level literals old mid (Ok (Settled (Own place) tag)) l shared after from from_is behind cut_mid (Err g) (record { offered = λ o. tt; counted = λ n. tt }) (known_row got.row (content_of got.line) ∷ []) copied got.published takes refusals
         (inr (record { front = []; last = known_row got.row (content_of got.line); rows_are = refl; home = refl })) (
           cut-lines instance level literals old mid (Ok (Settled (Own place) tag)) l shared after from from_is behind cut_mid,
           inr (record {
@@ -378,6 +380,7 @@ nothing-settles instance level literals w f = record {
   refused_count = refl;
   ticks = no-ticks instance level literals w w refl refl;
   offered = tt;
+  counted = tt;
   fresh = λ some. absurd (omega arith);
 }
 

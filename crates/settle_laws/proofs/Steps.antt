@@ -17,14 +17,14 @@ use Rattle.settle_laws.specs.declared.node.Node.{Node}
 use Rattle.settle_laws.specs.Founds.{IsFoundBy, IsOpen, IsTarget, Searched, refused}
 use Rattle.settle_laws.specs.Levels.{level_code}
 use Rattle.settle_laws.specs.Noted.{Goes, IsEnding, Notes, by_choice}
-use Rattle.settle_laws.specs.Ticks.{AreOffered, Ticks, TicksBelow}
+use Rattle.settle_laws.specs.Ticks.{AreCounted, AreOffered, Ticks, TicksBelow}
 use Rattle.settle_laws.specs.Trying.{AreTriedChoices, Trying}
 use Rattle.settle_laws.specs.Worlds.{Keeps, World}
 use Rattle.settle_laws.proofs.Keeping.{keeps-trans}
 use Rattle.settle_laws.proofs.NextPaths.{next-apart, next-prefix, next-small}
 use Rattle.settle_laws.proofs.StopJoin.{on-ok}
 use Rattle.settle_laws.proofs.TagCodes.{dead-lower, tag-small}
-use Rattle.settle_laws.proofs.TickJoin.{next-below, next-offered, next-ticks, none-at}
+use Rattle.settle_laws.proofs.TickJoin.{next-below, next-counted, next-offered, next-ticks, none-at}
 use Rattle.settle_laws.proofs.Tried.{tried-dead, tried-grow, tried-settled}
 use Rattle.tries_laws.proofs.PrefixParts.{prefix-is_partial}
 
@@ -54,6 +54,10 @@ module _ (instance : Instance) (level : ℕ) (literals : List Literal) (old here
     both-offer = on-ok (AreOffered instance s.ticks.tried now.bound.least) (AreOffered instance both-ticks.tried now.bound.least)
         (next-offered instance level literals node.path node.choice old here now trying.keeps s.keeps s.refused_at trying.ticks s.ticks) result s.offered
 
+    both-count : OnOk result (AreCounted instance both-ticks.tried old.log.lines now.log.lines)
+    both-count = on-ok (AreCounted instance s.ticks.tried here.log.lines now.log.lines) (AreCounted instance both-ticks.tried old.log.lines now.log.lines)
+        (next-counted instance level literals node.path node.choice old here now trying.keeps s.keeps s.refused_at trying.ticks s.ticks) result s.counted
+
     -- what ends the search of a choice ends that of the literals
     end-as : IsFoundBy instance level literals old now result → Searched instance level literals old now result
     end-as is = record {
@@ -65,6 +69,7 @@ module _ (instance : Instance) (level : ℕ) (literals : List Literal) (old here
       refused_count = s.refused_count;
       ticks = both-ticks;
       offered = both-offer;
+      counted = both-count;
     }
 
   pub ends : {E : Type 0} → (result : Result Found E) → IsEnding result → Searched instance level with-choice here now result → Searched instance level literals old now result
@@ -85,6 +90,7 @@ module _ (instance : Instance) (level : ℕ) (literals : List Literal) (old here
     refused_count = s.refused_count ∙ none;
     ticks = both-ticks (Ok found) s;
     offered = tt;
+    counted = tt;
   }
 
   -- the next choice
@@ -113,9 +119,9 @@ module _ (instance : Instance) (level : ℕ) (literals : List Literal) (old here
       before = tried-grow instance valid literals node.path here.shared.copied now.shared.copied here.log.lines now.log.lines s.keeps.copied s.keeps.lines node.tag.code new.tag.code
           (tag-small instance level node.tag within (omega (arith, trying.target))) (tag-small instance level new.tag within (omega (arith, trying.target, lower))) lower node.choice node.refs trying.choices
 
-      below-next : (refused : List (List Literal)) → refused ≡ [] → (t : Ticks instance level with-choice here now refused) → AreOffered instance t.tried now.bound.least → TicksBelow instance level literals node.path (node.choice + 1) old now
-      below-next [] e t offered = next-below instance level literals node.path node.choice old here now trying.keeps s.keeps trying.ticks t offered
-      below-next (x ∷ more) e t offered = cc
+      below-next : (refused : List (List Literal)) → refused ≡ [] → (t : Ticks instance level with-choice here now refused) → AreOffered instance t.tried now.bound.least → AreCounted instance t.tried here.log.lines now.log.lines → TicksBelow instance level literals node.path (node.choice + 1) old now
+      below-next [] e t offered counted = next-below instance level literals node.path node.choice old here now trying.keeps s.keeps trying.ticks t offered counted
+      below-next (x ∷ more) e t offered counted = cc
 
       goes-with : IsOpen level now.bound → IsTarget level now.bound tag.code → AreTriedChoices instance now.shared.copied now.log.lines literals new.tag.code node.path (node.choice + 1) refs → Trying instance level literals old now new
       goes-with is_open target tried = record {
@@ -128,7 +134,7 @@ module _ (instance : Instance) (level : ℕ) (literals : List Literal) (old here
         is_open = is_open;
         target = omega (arith, trying.target, target, s.keeps.falls, goes.tag_is);
         choices = rw (goes.path_is, goes.choice_is, goes.refs_are) tried;
-        ticks = rw (goes.path_is, goes.choice_is) (below-next s.refused_at (none-at s.refused_at (s.refused_count ∙ none)) s.ticks s.offered);
+        ticks = rw (goes.path_is, goes.choice_is) (below-next s.refused_at (none-at s.refused_at (s.refused_count ∙ none)) s.ticks s.offered s.counted);
       }
 
     goes-dead : {E : Type 0} → (tag : Tag) → Searched {E = E} instance level with-choice here now (Ok (FoundDead tag)) → (new : Node) → Goes node new tag.code node.refs → Trying instance level literals old now new

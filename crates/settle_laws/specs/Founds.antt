@@ -15,7 +15,7 @@ use Rattle.settle_laws.specs.declared.found.Found.{Found}
 use Rattle.settle_laws.specs.declared.found.Found.TheVariants.{Dead as FoundDead, Settled, Moot, Spent}
 use Rattle.settle_laws.specs.Levels.{level_code, target_code}
 use Rattle.settle_laws.specs.Stops.{NoneFits}
-use Rattle.settle_laws.specs.Ticks.{AreOffered, Ticks}
+use Rattle.settle_laws.specs.Ticks.{AreCounted, AreOffered, Ticks}
 use Rattle.settle_laws.specs.Worlds.{Keeps, World}
 
 -- a line's tag is one of the instance
@@ -85,7 +85,7 @@ IsFoundBy instance level literals old new (Ok Spent) = IsOpen level new.bound ×
 IsFoundBy instance level literals old new (Err e) = Unit {0}
 
 -- what was found, what was kept, and at which prefixes ticks were taken or refused; with each line at least one was taken, the
--- bound was read, and each assignment that a tick fell on was offered
+-- bound was read, and each assignment that a tick fell on was offered and has its line
 pub record Searched {E : Type 0} (instance : Instance) (level : ℕ) (literals : List Literal) (old new : World) (result : Result Found E) : Type 0 where
   pub keeps : Keeps instance old new
   pub few : length new.log.lines + new.fuel ≤ length old.log.lines + old.fuel
@@ -95,3 +95,4 @@ pub record Searched {E : Type 0} (instance : Instance) (level : ℕ) (literals :
   pub refused_count : length refused_at ≡ refused result
   pub ticks : Ticks instance level literals old new refused_at
   pub offered : OnOk result (AreOffered instance ticks.tried new.bound.least)
+  pub counted : OnOk result (AreCounted instance ticks.tried old.log.lines new.log.lines)

@@ -11,7 +11,7 @@ use Rattle.settle_laws.specs.Founds.{IsOpen, IsSettledBy, refused}
 use Rattle.settle_laws.specs.Levels.{level_code}
 use Rattle.settle_laws.specs.Lines.{AreSorted}
 use Rattle.settle_laws.specs.Stops.{NoneFits}
-use Rattle.settle_laws.specs.Ticks.{AreOffered, Ticks}
+use Rattle.settle_laws.specs.Ticks.{AreCounted, AreOffered, Ticks}
 use Rattle.settle_laws.specs.Worlds.{Keeps, World}
 
 -- one Count line on the literals, where no row says as much
@@ -45,3 +45,4 @@ pub record Lined {E : Type 0} (instance : Instance) (level : ℕ) (literals : Li
   pub refused_count : length refused_at ≡ refused result
   pub ticks : Ticks instance level literals old new refused_at
   pub offered : OnOk result (AreOffered instance ticks.tried new.bound.least)
+  pub counted : OnOk result (AreCounted instance ticks.tried old.log.lines new.log.lines)

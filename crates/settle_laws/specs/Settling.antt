@@ -19,7 +19,7 @@ use Rattle.settle_laws.specs.Founds.{IsOpen, IsSettledBy}
 use Rattle.settle_laws.specs.Levels.{level_code}
 use Rattle.settle_laws.specs.Lined.{IsAtMostCount}
 use Rattle.settle_laws.specs.Published.{IsShort}
-use Rattle.settle_laws.specs.Ticks.{AreOffered, NoneWithin, Ticks}
+use Rattle.settle_laws.specs.Ticks.{AreCounted, AreOffered, NoneWithin, Ticks}
 use Rattle.settle_laws.specs.Worlds.{Gains, IsGood, IsKeptRight, IsLeastOffered, KeepsAtMost, World}
 
 -- the segments are of the rows, in their order
@@ -101,6 +101,13 @@ not_taken (Ok (Moot seen)) = 0
 not_taken (Ok Spent) = 1
 not_taken (Err e) = 0
 
+-- where a line or a row settles the job
+abbrev pub OnRefuted : {E : Type 0} → Result Outcome E → Type 0 → Type 0
+OnRefuted (Ok (Refuted line tag)) P = P
+OnRefuted (Ok (Moot seen)) P = Unit {0}
+OnRefuted (Ok Spent) P = Unit {0}
+OnRefuted (Err e) P = Unit {0}
+
 -- Refuted: the line or row lies within the literals, at no lower tag; the tag is the least target, and that of the last reading
 -- where no tick was taken. Moot: what the bound told last is at most the level. After all but Refuted the lines are cut; only for
 -- want of memory may a row have been published then.
@@ -113,7 +120,7 @@ IsOutcome instance level literals old new (Ok Spent) = RunsOut instance level li
 IsOutcome instance level literals old new (Err e) = IsCut old new × (PublishesNone old new ⊎ IsUnkept instance literals old new)
 
 -- What a job's search keeps and finds, and at which prefixes ticks were taken or, at the end, one was refused. Whatever it finds,
--- the bound was read, and each assignment that a tick fell on was offered.
+-- the bound was read, and each assignment that a tick fell on was offered; where the job is refuted, it has its Count line.
 pub record Settles {E : Type 0} (instance : Instance) (level : ℕ) (literals : List Literal) (old new : World) (result : Result Outcome E) : Type 0 where
   pub fuel : new.fuel ≤ old.fuel
   pub copied : All (Contains new.shared.copied) old.shared.copied
@@ -136,4 +143,5 @@ pub record Settles {E : Type 0} (instance : Instance) (level : ℕ) (literals : 
   pub refused_count : length refused_at ≡ not_taken result
   pub ticks : Ticks instance level literals old new refused_at
   pub offered : OnOk result (AreOffered instance ticks.tried new.bound.least)
+  pub counted : OnRefuted result (AreCounted instance ticks.tried old.log.lines new.log.lines)
   pub fresh : 0 < length ticks.asked → NoneWithin level (known old.shared) literals

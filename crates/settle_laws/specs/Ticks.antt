@@ -5,9 +5,10 @@ use Rattle.fapp_model.specs.declared.literal.Literal.{Literal}
 use Rattle.fapp_model.specs.Costs.{cost}
 use Rattle.fapp_model.specs.Tags.{code_of}
 use Rattle.fapp_model.specs.search.Jobs.{target}
-use Rattle.fapp_model.specs.search.Partials.{literal}
+use Rattle.fapp_model.specs.search.Partials.{HasAll, literal}
 use Rattle.fapp_model.specs.search.Prefixes.{GoesOn}
 use Rattle.tries_laws.specs.TriesLaws.{AreTried}
+use Rattle.log_laws.specs.declared.line.LogLine.{LogLine}
 use Rattle.log_laws.specs.Contents.{KnownRow}
 use Rattle.settle_laws.specs.Levels.{level_code}
 use Rattle.settle_laws.specs.Stops.{AreStops, IsUndecided, IsWhole, NoneFits, stop_at}
@@ -33,13 +34,29 @@ pub record OffersCost (instance : Instance) (tried : List (List Literal)) (new :
   pub kept : KeepsAtMost new.log.best (code_of (cost instance plan))
 
 -- something was offered that is at most so much
-abbrev pub IsOffered : Option ℕ → ℕ → Type 0
-IsOffered None tag = ⊥
-IsOffered (Some least) tag = least ≤ tag
+abbrev pub OfferedAtMost : Option ℕ → ℕ → Type 0
+OfferedAtMost None tag = ⊥
+OfferedAtMost (Some least) tag = least ≤ tag
 
 -- the cost of each assignment that is one of some prefixes was offered, or less
 abbrev pub AreOffered : Instance → List (List Literal) → Option ℕ → Type 0
-AreOffered instance tried least = All (λ prefix. (plan : List ℕ) → IsWhole instance prefix plan → IsOffered least (code_of (cost instance plan))) tried
+AreOffered instance tried least =
+    All (λ prefix. (plan : List ℕ) → IsWhole instance prefix plan → OfferedAtMost least (code_of (cost instance plan))) tried
+
+-- a Count line at so much was gained, within a prefix
+pub record GainsCount (old new : List LogLine) (prefix : List Literal) (code : ℕ) : Type 0 where
+  pub place : ℕ
+  pub line : LogLine
+  pub gained : length old ≤ place
+  pub there : slice_get new place ≡ Some line
+  pub count : line.path ≡ None
+  pub tag : line.tag.code ≡ code
+  pub within : HasAll prefix line.lits
+
+-- each assignment that is one of some prefixes has a Count line at its cost
+abbrev pub AreCounted : Instance → List (List Literal) → List LogLine → List LogLine → Type 0
+AreCounted instance tried old new =
+    All (λ prefix. (plan : List ℕ) → IsWhole instance prefix plan → GainsCount old new prefix (code_of (cost instance plan))) tried
 
 -- The prefixes at which ticks fell, in order, as many as the fuel fell by; and behind them those at which fuel was refused. They
 -- go on from a prefix, each once and behind the one that is one shorter, none dead at the level's target (as the law of tries
@@ -60,9 +77,11 @@ pub record Ticks (instance : Instance) (level : ℕ) (prefix : List Literal) (ol
 abbrev pub IsEarlier : List Literal → ℕ → ℕ → List Literal → Type 0
 IsEarlier prefix path index literals = (literals ≡ prefix) ⊎ ((i : ℕ) × (i < index) × GoesOn (prefix ++ literal path i ∷ []) literals)
 
--- ticks at a prefix and at those that go on by the earlier choices of the next path, none refused, and what they cost was offered
+-- ticks at a prefix and at those that go on by the earlier choices of the next path, none refused; what they cost was offered and
+-- has its line
 pub record TicksBelow (instance : Instance) (level : ℕ) (prefix : List Literal) (path index : ℕ) (old new : World) : Type 0 where
   pub ticks : Ticks instance level prefix old new []
   pub begins : Contains ticks.asked prefix
   pub each : All (IsEarlier prefix path index) ticks.asked
   pub offered : AreOffered instance ticks.tried new.bound.least
+  pub counted : AreCounted instance ticks.tried old.log.lines new.log.lines

@@ -15,7 +15,7 @@ use Rattle.subtree_search.specs.Steps.{ComesTo, Opens}
 use Rattle.subtree_search.specs.Walks.{IsReady}
 
 pub err-any : {E F : Type 0} → (instance : Instance) (level : ℕ) (literals : List Literal) (old new : World) (e : E) → Searched instance level literals old new (Err e) → (f : F) → Searched instance level literals old new (Err f)
-err-any instance level literals old new e s f = record { keeps = s.keeps; few = s.few; read = s.read; is = tt; refused_at = s.refused_at; refused_count = s.refused_count; ticks = s.ticks; offered = tt }
+err-any instance level literals old new e s f = record { keeps = s.keeps; few = s.few; read = s.read; is = tt; refused_at = s.refused_at; refused_count = s.refused_count; ticks = s.ticks; offered = tt; counted = tt }
 
 err-as : {T E : Type 0} → (result : Result T E) → IsErr result → (e : E) × (result ≡ Err e)
 err-as (Ok x) err = cc
