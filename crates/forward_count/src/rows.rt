@@ -8,8 +8,10 @@ ghost use Rattle.fapp_tables.specs.Indexes.{records_of};
 ghost use Rattle.forward_count.specs.Floors.{IsFloor};
 
 use crate::step::Step;
+use crate::window::first_within;
 use count_laws::{NO_WORD, Row, Words};
 use distance_words::Link;
+use fapp_model::{choice_at, choice_count};
 
 /// A word with a pair's taken away, or added.
 pub fn moved(taking: bool, word: u64, pair: u64) -> u64
@@ -58,8 +60,9 @@ fn move_by_records(step: &Step, words: &mut Words, positions: &[u32], other: u16
     lowest
 }
 
-/// Takes from the words of a neighbour what a literal counts there, or adds it, by the cells of the two paths. Answers a floor
-/// of theirs, from one that they had.
+/// Takes from the words of a neighbour what a literal counts there, or adds it, by the cells of the two paths: only the choices
+/// that are less than the link's far distance from the literal's are looked at. Answers a floor of theirs, from one that they
+/// had.
 fn move_by_cells(step: &Step, words: &mut Words, link: &Link, other: u16, floor: u64) -> u64
     requires instance { IsInstance step.now.tables.now }
     requires apart { step.now.literal.path ≢ other }
@@ -72,10 +75,17 @@ fn move_by_cells(step: &Step, words: &mut Words, link: &Link, other: u16, floor:
     ensures words { words.new ≡ words_with step.now.taking step.now.tables.now step.now.level step.now.literal other words.old }
     ensures floor { IsFloor words.new result }
 {
+    let owner = step.owner(other);
+    let end = u64::from(step.choice.freq).saturating_add(link.far);
+    let start = first_within(owner, step.choice.freq, link.far);
+    let count = choice_count(owner);
     let mut lowest = floor;
     let mut place = 0;
-    for index in 0..step.count(other) {
-        let second = step.choice_at(other, index);
+    for index in start..count {
+        let second = choice_at(owner, index);
+        if u64::from(second.freq) >= end {
+            return lowest;
+        }
         let pair = link.word(&mut place, step.choice, second);
         lowest = move_word(step.taking, words, index as usize, pair, lowest);
     }
