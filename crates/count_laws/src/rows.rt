@@ -1,4 +1,4 @@
-ghost use Rattle.std.specs.Prelude.{◌≡◌, ◌<◌, length, slice_set};
+ghost use Rattle.std.specs.Prelude.{◌≡◌, ◌<◌, length, slice_set, Contains, IsTrue};
 
 use std::marker::Model;
 
@@ -9,10 +9,11 @@ pub const HARD: u64 = 1 << 48;
 /// More than any word.
 pub const NO_WORD: u64 = 1 << 62;
 
-/// A word for each choice of a path, written in place. Contracts see the list.
+/// A word for each choice of a path, written in place, and a mark at one of them. Contracts see the list.
 #[derive(Debug, Drop)]
 pub struct Words {
     words: Vec<u64>,
+    marked: usize,
 }
 
 impl Model for Words {
@@ -33,11 +34,11 @@ pub struct Row {
 impl Words {
     ghost use Rattle.count_laws.specs.Words.{word_at};
 
-    /// The words of a `Vec`, in place.
+    /// The words of a `Vec`, in place; the first one is marked.
     pub fn from_vec(words: Vec<u64>) -> Words
         ensures { result ≡ words.items }
     {
-        Words { words }
+        Words { words, marked: 0 }
     }
 
     /// How many words there are.
@@ -61,5 +62,22 @@ impl Words {
         ensures { self.new ≡ slice_set self.old index word }
     {
         self.words[index] = word;
+    }
+
+    /// Marks the word at an index, and no other.
+    pub fn mark(&mut self, index: usize)
+        ensures { self.new ≡ self.old }
+    {
+        self.marked = index;
+    }
+
+    /// Whether the marked word is a given one. Where it is not, others may be.
+    pub fn has_marked(&self, word: u64) -> bool
+        ensures { IsTrue result → Contains self.now word }
+    {
+        match self.words.get(self.marked) {
+            Some(marked) => *marked == word,
+            None => false,
+        }
     }
 }

@@ -6,3 +6,4 @@ mod TakeLaws
 mod ReadLaws
 mod AfreshLaws
 mod DeadLaws
+mod WindowLaws

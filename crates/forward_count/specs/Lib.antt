@@ -2,3 +2,4 @@ pub mod Forwards
 pub mod Steps
 pub mod Starts
 pub mod Standing
+pub mod Floors

@@ -9,5 +9,6 @@ mod recount;
 mod rows;
 mod start;
 mod step;
+mod window;
 
 pub use forward::Forward;

@@ -7,6 +7,7 @@ ghost use Rattle.distance_words.specs.Tables.{words_at};
 ghost use Rattle.fapp_model.specs.Assignments.{count_at};
 ghost use Rattle.fapp_model.specs.Instances.{IsInstance};
 ghost use Rattle.fapp_tables.specs.Indexes.{records_of};
+ghost use Rattle.forward_count.specs.Floors.{IsFloor};
 
 use crate::rows::move_row;
 use crate::step::Step;
@@ -31,6 +32,7 @@ fn move_at(step: &Step, other: u16, positions: &[u32], link: &Link, rows: &mut [
     requires rows { length rows.old ≡ length step.now.tables.now.paths }
     requires count { length (row_at rows.old other).words ≡ count_at step.now.tables.now other }
     requires can { CanMoveRow step.now.taking step.now.tables.now step.now.level step.now.literal other (row_at rows.old other).words }
+    requires least { IsFloor (row_at rows.old other).words (row_at rows.old other).least }
     ensures rows { rows.new ≡ slice_set rows.old other
         (row_by (words_with step.now.taking step.now.tables.now step.now.level step.now.literal other (row_at rows.old other).words)) }
     ensures before { result.before ≡ (row_at rows.old other).least }
@@ -64,6 +66,7 @@ fn refresh(
     requires slots { length partial.now ≡ length step.now.tables.now.paths }
     requires count { length (row_at rows.old other).words ≡ count_at step.now.tables.now other }
     requires can { CanMoveRow step.now.taking step.now.tables.now step.now.level step.now.literal other (row_at rows.old other).words }
+    requires least { IsFloor (row_at rows.old other).words (row_at rows.old other).least }
     requires open { IsOpen partial.now rows.old open_paths }
     ensures rows { rows.new ≡ slice_set rows.old other
         (row_by (words_with step.now.taking step.now.tables.now step.now.level step.now.literal other (row_at rows.old other).words)) }

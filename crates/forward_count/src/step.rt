@@ -67,6 +67,15 @@ impl<'a> Step<'a> {
         }
     }
 
+    /// Another path.
+    pub fn owner(&self, other: u16) -> &Path
+        requires { other < length self.now.tables.now.paths }
+        ensures path { result.now ≡ path_at self.now.tables.now other }
+        ensures valid { IsPath result.now }
+    {
+        path_at(self.tables.instance(), other)
+    }
+
     /// How many choices another path has.
     pub fn count(&self, other: u16) -> u32
         requires { other < length self.now.tables.now.paths }

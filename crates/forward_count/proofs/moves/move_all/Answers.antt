@@ -7,6 +7,8 @@ use Rattle.count_laws.specs.declared.rows.Row.{Row}
 use Rattle.count_laws.specs.Moves.{CanMoveRow, words_with}
 use Rattle.count_laws.specs.Words.{row_at, row_by}
 use Rattle.forward_count.proofs.Added.{IsAdded, added_all, added_more, waits}
+use Rattle.forward_count.specs.Floors.{IsFloor}
+use Rattle.forward_count.proofs.RowLaws.{row_floor}
 use Rattle.forward_count.proofs.Neighbours.{leads, leads_elsewhere, leads_here, near_all, near_below, near_new, near_shares, shares_apart}
 use Rattle.forward_count.proofs.moves.move_all.Goals as goal
 
@@ -50,6 +52,18 @@ refresh-counted-requires-clause-can c =
     let old = waits _ _ c.args.rows.now c.loop-place.rows c.loop-place.invariant.added q (omega (arith, below, c.requires.rows.count)) (near_new step.tables.now step.literal.path place inside) in
     subst (λ (ns : List ℕ). CanMoveRow step.taking step.tables.now step.level step.literal (get_or ns place 0) (row_at c.loop-place.rows (get_or ns place 0)).words) (sym near)
     (subst (λ (r : Row). CanMoveRow step.taking step.tables.now step.level step.literal q r.words) (sym old) (c.requires.can q below))
+
+pub refresh-counted-requires-clause-least : goal.refresh-counted-requires-clause-least
+refresh-counted-requires-clause-least c =
+    let step = c.args.step.now in
+    let near = c.neighbours-neighbours.ensures in
+    let place = c.loop-place.place in
+    let inside : place < length (neighbours_of step.tables.now step.literal.path) = subst (λ (ns : List ℕ). place < length ns) near c.loop-place-test.true in
+    let q = get_or (neighbours_of step.tables.now step.literal.path) place 0 in
+    let below = near_below step.tables.now step.literal.path place inside in
+    let old = waits _ _ c.args.rows.now c.loop-place.rows c.loop-place.invariant.added q (omega (arith, below, c.requires.rows.count)) (near_new step.tables.now step.literal.path place inside) in
+    subst (λ (ns : List ℕ). IsFloor (row_at c.loop-place.rows (get_or ns place 0)).words (row_at c.loop-place.rows (get_or ns place 0)).least) (sym near)
+    (subst (λ (r : Row). IsFloor r.words r.least) (sym old) (row_floor c.args.rows.now c.requires.rows.least q (omega (arith, below, c.requires.rows.count))))
 
 pub loop-place-preserved : goal.loop-place-preserved
 loop-place-preserved c =

@@ -1,60 +1,101 @@
-use Rattle.std.proofs.Common.{◌≡◌, ◌+◌, ◌<◌, ◌≤◌, ◌∙◌, ℕ, List, ap, length, set, subst, sym, take, arith}
-use Rattle.fapp_model.specs.search.Partials.{literal}
+use Rattle.std.proofs.Common.{◌≡◌, ◌+◌, ◌<◌, ◌≤◌, ◌∙◌, ℕ, List, refl, ap, length, min, set, subst, sym, arith}
+use Rattle.fapp_model.specs.declared.choice.Choice.{Choice}
+use Rattle.fapp_model.specs.declared.instance.Path.{Path}
+use Rattle.fapp_model.specs.Assignments.{count_at, path_at}
+use Rattle.fapp_model.specs.Choices.{choice, choices}
+use Rattle.fapp_model.specs.Instances.{IsPath}
+use Rattle.fapp_model.specs.search.Partials.{choice_of, literal}
 use Rattle.distance_words.proofs.LinkLaws.{pair_small, word_found}
 use Rattle.count_laws.specs.Counts.{pair_word}
-use Rattle.count_laws.specs.Moves.{CanMove, moved, words_with}
-use Rattle.count_laws.specs.Words.{least_of, word_at}
-use Rattle.count_laws.proofs.Least.{least_none}
-use Rattle.forward_count.proofs.RowLaws.{IsMapped, least_all, least_write, mapped_all, mapped_more, mapped_none, row_made}
+use Rattle.count_laws.specs.Moves.{CanMove, moved}
+use Rattle.count_laws.specs.Words.{word_at}
+use Rattle.forward_count.specs.Floors.{IsFloor}
+use Rattle.forward_count.proofs.RowLaws.{IsMapped, floor_write, mapped_all, mapped_more, mapped_none}
+use Rattle.forward_count.proofs.WindowLaws.{before_stays, choices_rise, mapped_skip, past_stays}
 use Rattle.forward_count.proofs.rows.move_by_cells.Goals as goal
 
 pub loop-index-init : goal.loop-index-init
-loop-index-init c = record { inside = c.requires.some; mapped = mapped_none _ _; least = sym least_none }
-
-pub moved-word-requires-clause-can : goal.moved-word-requires-clause-can
-moved-word-requires-clause-can c =
+loop-index-init c =
     let step = c.args.step.now in
-    let word_is = word_found step.tables.now step.level step.literal (literal c.args.other c.loop-index.index) c.requires.apart c.args.link.now c.requires.link
-    c.word-pair.new.place step.choice c.choice_at-second.result c.word-pair.result step.chosen c.choice_at-second.ensures c.word-pair.ensures.inside c.word-pair.ensures.word in
+    let instance = step.tables.now in
+    let words = c.args.words.now in
+    let f = λ (k : ℕ) (word : ℕ). moved step.taking word (pair_word instance step.level (literal c.args.other k) step.literal) in
+    let owner = c.owner-owner.ensures.path in
+    let first : c.first_within-start.result ≤ count_at instance c.args.other = subst (λ (p : Path). c.first_within-start.result ≤ length (choices p)) owner c.first_within-start.ensures.inside in
+    record {
+      inside = c.requires.some;
+      mapped = mapped_skip f words words 0 c.first_within-start.result (mapped_none f words) (omega arith) (λ k from before.
+          before_stays instance c.requires.instance step.level step.literal step.home c.args.other c.requires.apart c.requires.other c.args.link.now c.requires.link step.taking (word_at words k) k (omega (arith, first, before))
+          (omega (arith, subst (λ (p : Path). (choice p k).freq + c.args.link.now.far ≤ step.choice.freq) owner (c.first_within-start.ensures.below k before), ap (λ x. x.freq) step.chosen)));
+      floor = c.requires.floor;
+    }
+
+pub move_word-lowest-requires-clause-can : goal.move_word-lowest-requires-clause-can
+move_word-lowest-requires-clause-can c =
+    let step = c.args.step.now in
     let index = c.loop-index.index in
-    let inside : index < length c.args.row.now.words = omega (arith, c.count-index-end.ensures.count, c.requires.count, c.loop-index-test.true) in
-    subst (λ (n : ℕ). CanMove step.taking c.get.result n) (sym word_is)
-    (subst (λ (w : ℕ). CanMove step.taking w (pair_word step.tables.now step.level (literal c.args.other index) step.literal)) (sym (c.get.ensures ∙ c.loop-index.invariant.mapped.waiting index (omega arith)))
+    let second_is : c.choice_at-second.result ≡ choice_of step.tables.now (literal c.args.other index) = c.choice_at-second.ensures ∙ ap (λ (p : Path). choice p index) c.owner-owner.ensures.path in
+    let word_is = word_found step.tables.now step.level step.literal (literal c.args.other index) c.requires.apart c.args.link.now c.requires.link
+    c.word-pair.new.place step.choice c.choice_at-second.result c.word-pair.result step.chosen second_is c.word-pair.ensures.inside c.word-pair.ensures.word in
+    let inside : index < length c.args.words.now = omega (arith, c.loop-index.invariant.mapped.count, c.choice_count-count.ensures.count, ap (λ (p : Path). length (choices p)) c.owner-owner.ensures.path, c.requires.count, c.loop-index-test.true) in
+    subst (λ (n : ℕ). CanMove step.taking (word_at c.loop-index.words index) n) (sym word_is)
+    (subst (λ (w : ℕ). CanMove step.taking w (pair_word step.tables.now step.level (literal c.args.other index) step.literal)) (sym (c.loop-index.invariant.mapped.waiting index (omega arith)))
     (c.requires.can index inside))
 
-pub moved-word-requires-clause-small : goal.moved-word-requires-clause-small
-moved-word-requires-clause-small c =
+pub move_word-lowest-requires-clause-small : goal.move_word-lowest-requires-clause-small
+move_word-lowest-requires-clause-small c =
     let step = c.args.step.now in
-    let word_is = word_found step.tables.now step.level step.literal (literal c.args.other c.loop-index.index) c.requires.apart c.args.link.now c.requires.link
-    c.word-pair.new.place step.choice c.choice_at-second.result c.word-pair.result step.chosen c.choice_at-second.ensures c.word-pair.ensures.inside c.word-pair.ensures.word in
-    let small = pair_small step.tables.now c.requires.instance step.level step.low (literal c.args.other c.loop-index.index) step.literal in
+    let index = c.loop-index.index in
+    let second_is : c.choice_at-second.result ≡ choice_of step.tables.now (literal c.args.other index) = c.choice_at-second.ensures ∙ ap (λ (p : Path). choice p index) c.owner-owner.ensures.path in
+    let word_is = word_found step.tables.now step.level step.literal (literal c.args.other index) c.requires.apart c.args.link.now c.requires.link
+    c.word-pair.new.place step.choice c.choice_at-second.result c.word-pair.result step.chosen second_is c.word-pair.ensures.inside c.word-pair.ensures.word in
+    let small = pair_small step.tables.now c.requires.instance step.level step.low (literal c.args.other index) step.literal in
     omega (arith, small, word_is)
 
 pub loop-index-preserved : goal.loop-index-preserved
 loop-index-preserved c =
     let step = c.args.step.now in
-    let word_is = word_found step.tables.now step.level step.literal (literal c.args.other c.loop-index.index) c.requires.apart c.args.link.now c.requires.link
-    c.word-pair.new.place step.choice c.choice_at-second.result c.word-pair.result step.chosen c.choice_at-second.ensures c.word-pair.ensures.inside c.word-pair.ensures.word in
-    let f = λ (k : ℕ) (word : ℕ). moved c.args.step.now.taking word (pair_word step.tables.now step.level (literal c.args.other k) step.literal) in
-    let old = c.args.row.now.words in
     let index = c.loop-index.index in
-    let words = c.loop-index.row.words in
-    let inside : index < length words = omega (arith, c.loop-index.invariant.mapped.count, c.count-index-end.ensures.count, c.requires.count, c.loop-index-test.true) in
-    let word = c.moved-word.result in
-    let is : word ≡ f index (word_at words index) = c.moved-word.ensures ∙ (ap (λ w. moved c.args.step.now.taking w c.word-pair.result) c.get.ensures ∙ ap (moved c.args.step.now.taking (word_at words index)) word_is) in
-    let same : c.set.new.self ≡ set words index word = c.set.ensures in
+    let second_is : c.choice_at-second.result ≡ choice_of step.tables.now (literal c.args.other index) = c.choice_at-second.ensures ∙ ap (λ (p : Path). choice p index) c.owner-owner.ensures.path in
+    let word_is = word_found step.tables.now step.level step.literal (literal c.args.other index) c.requires.apart c.args.link.now c.requires.link
+    c.word-pair.new.place step.choice c.choice_at-second.result c.word-pair.result step.chosen second_is c.word-pair.ensures.inside c.word-pair.ensures.word in
+    let f = λ (k : ℕ) (word : ℕ). moved step.taking word (pair_word step.tables.now step.level (literal c.args.other k) step.literal) in
+    let old = c.args.words.now in
+    let words = c.loop-index.words in
+    let inside : index < length words = omega (arith, c.loop-index.invariant.mapped.count, c.choice_count-count.ensures.count, ap (λ (p : Path). length (choices p)) c.owner-owner.ensures.path, c.requires.count, c.loop-index-test.true) in
+    let word = f index (word_at words index) in
+    let is : moved step.taking (word_at words index) c.word-pair.result ≡ word = ap (moved step.taking (word_at words index)) word_is in
+    let same : c.move_word-lowest.new.words ≡ set words index word = c.move_word-lowest.ensures.words ∙ ap (set words index) is in
+    let low : c.move_word-lowest.result ≡ min c.loop-index.lowest word = c.move_word-lowest.ensures.floor ∙ ap (min c.loop-index.lowest) is in
     record {
       inside = c.word-pair.ensures.inside;
-      mapped = subst (λ (ws : List ℕ). IsMapped f old ws (index + 1)) (sym same) (mapped_more f old words index word c.loop-index.invariant.mapped inside is);
-      least = subst (λ (ws : List ℕ). c.min-least.result ≡ least_of (take (index + 1) ws)) (sym same) (least_write words index word c.loop-index.least _ inside c.loop-index.invariant.least c.min-least.ensures);
+      mapped = subst (λ (ws : List ℕ). IsMapped f old ws (index + 1)) (sym same) (mapped_more f old words index word c.loop-index.invariant.mapped inside refl);
+      floor = subst (λ (ws : List ℕ). IsFloor ws c.move_word-lowest.result) (sym same) (floor_write words index word c.loop-index.lowest c.move_word-lowest.result inside c.loop-index.invariant.floor low);
     }
 
-pub returns : goal.returns
-returns c =
+pub returns-clause-words : goal.returns-clause-words
+returns-clause-words c =
     let step = c.args.step.now in
-    let f = λ (k : ℕ) (word : ℕ). moved c.args.step.now.taking word (pair_word step.tables.now step.level (literal c.args.other k) step.literal) in
-    let old = c.args.row.now.words in
-    let past : length c.loop-index.row.words ≤ c.loop-index.index = omega (arith, c.loop-index.invariant.mapped.count, c.count-index-end.ensures.count, c.requires.count, c.loop-index-test.false) in
-    let made = mapped_all f old c.loop-index.row.words c.loop-index.index c.loop-index.invariant.mapped past in
-    row_made c.loop-index.row.words (words_with c.args.step.now.taking step.tables.now step.level step.literal c.args.other old) c.loop-index.least made
-    (least_all c.loop-index.row.words _ c.loop-index.index c.loop-index.least past c.loop-index.invariant.least made)
+    let f = λ (k : ℕ) (word : ℕ). moved step.taking word (pair_word step.tables.now step.level (literal c.args.other k) step.literal) in
+    let past : length c.loop-index.words ≤ c.loop-index.index = omega (arith, c.loop-index.invariant.mapped.count, c.choice_count-count.ensures.count, ap (λ (p : Path). length (choices p)) c.owner-owner.ensures.path, c.requires.count, c.loop-index-test.false) in
+    mapped_all f c.args.words.now c.loop-index.words c.loop-index.index c.loop-index.invariant.mapped past
+
+pub returns-then-from-end-clause-words : goal.returns-then-from-end-clause-words
+returns-then-from-end-clause-words c =
+    let step = c.args.step.now in
+    let instance = step.tables.now in
+    let old = c.args.words.now in
+    let words = c.loop-index.words in
+    let index = c.loop-index.index in
+    let count = count_at instance c.args.other in
+    let f = λ (k : ℕ) (word : ℕ). moved step.taking word (pair_word instance step.level (literal c.args.other k) step.literal) in
+    let owner = c.owner-owner.ensures.path in
+    let inside : index < count = omega (arith, c.choice_count-count.ensures.count, ap (λ (p : Path). length (choices p)) owner, c.loop-index-test.true) in
+    let second : c.choice_at-second.result ≡ choice_of instance (literal c.args.other index) = c.choice_at-second.ensures ∙ ap (λ (p : Path). choice p index) owner in
+    let chosen : step.choice.freq ≡ (choice_of instance step.literal).freq = ap (λ (x : Choice). x.freq) step.chosen in
+    let near : (choice_of instance step.literal).freq + c.args.link.now.far ≤ (choice_of instance (literal c.args.other index)).freq =
+    omega (arith, c.if-from-end.true, ap (λ (x : Choice). x.freq) second, c.from-in-loop-index.ensures, c.saturating_add-end.ensures, c.from.ensures, chosen) in
+    let skipped = mapped_skip f old words index count c.loop-index.invariant.mapped (omega (arith, inside)) (λ k from below.
+    let rise = choices_rise (path_at instance c.args.other) (subst IsPath owner c.owner-owner.ensures.valid) index k from below in
+    past_stays instance c.requires.instance step.level step.literal step.home c.args.other c.requires.apart c.requires.other c.args.link.now c.requires.link step.taking (word_at old k) k below (omega (arith, near, rise))) in
+    mapped_all f old words count skipped (omega (arith, c.loop-index.invariant.mapped.count, c.requires.count))

@@ -1,37 +1,46 @@
-use Rattle.std.proofs.Common.{◌≡◌, ◌+◌, ◌<◌, ◌≤◌, ◌∙◌, ℕ, List, ap, length, set, subst, take, sym, arith}
+use Rattle.std.proofs.Common.{◌≡◌, ◌+◌, ◌<◌, ◌≤◌, ◌∙◌, ℕ, List, refl, ap, length, min, set, subst, sym, arith}
 use Rattle.fapp_model.specs.search.Partials.{literal}
 use Rattle.count_laws.specs.Counts.{pair_word}
-use Rattle.count_laws.specs.Moves.{moved, words_with}
-use Rattle.count_laws.specs.Words.{least_of, word_at}
-use Rattle.count_laws.proofs.Least.{least_none}
-use Rattle.forward_count.proofs.RowLaws.{IsMapped, least_all, least_write, mapped_all, mapped_more, mapped_none, row_made}
+use Rattle.count_laws.specs.Moves.{CanMove, moved}
+use Rattle.count_laws.specs.Words.{word_at}
+use Rattle.forward_count.specs.Floors.{IsFloor}
+use Rattle.forward_count.proofs.RowLaws.{IsMapped, floor_write, mapped_all, mapped_more, mapped_none}
 use Rattle.forward_count.proofs.rows.move_by_records.Goals as goal
 
 pub loop-index-init : goal.loop-index-init
-loop-index-init c = record { mapped = mapped_none _ _; least = sym least_none }
+loop-index-init c = record { mapped = mapped_none _ _; floor = c.requires.floor }
+
+pub move_word-lowest-requires-clause-can : goal.move_word-lowest-requires-clause-can
+move_word-lowest-requires-clause-can c =
+    let step = c.args.step.now in
+    let index = c.loop-index.index in
+    let word_is : c.pair_word-pair.result ≡ pair_word step.tables.now step.level (literal c.args.other index) step.literal = c.pair_word-pair.ensures.word in
+    let inside : index < length c.args.words.now = omega (arith, c.loop-index.invariant.mapped.count, c.count-index-end.ensures.count, c.requires.count, c.loop-index-test.true) in
+    subst (λ (n : ℕ). CanMove step.taking (word_at c.loop-index.words index) n) (sym word_is)
+    (subst (λ (w : ℕ). CanMove step.taking w (pair_word step.tables.now step.level (literal c.args.other index) step.literal)) (sym (c.loop-index.invariant.mapped.waiting index (omega arith)))
+    (c.requires.can index inside))
 
 pub loop-index-preserved : goal.loop-index-preserved
 loop-index-preserved c =
     let step = c.args.step.now in
-    let f = λ (k : ℕ) (word : ℕ). moved c.args.step.now.taking word (pair_word step.tables.now step.level (literal c.args.other k) step.literal) in
-    let old = c.args.row.now.words in
     let index = c.loop-index.index in
-    let words = c.loop-index.row.words in
-    let inside : index < length words = omega (arith, c.loop-index.invariant.mapped.count) in
-    let word = c.moved-word.result in
-    let is : word ≡ f index (word_at words index) = c.moved-word.ensures ∙ (ap (λ w. moved c.args.step.now.taking w c.pair_word-pair.result) c.get.ensures ∙ ap (moved c.args.step.now.taking (word_at words index)) c.pair_word-pair.ensures.word) in
-    let same : c.set.new.self ≡ set words index word = c.set.ensures in
+    let word_is : c.pair_word-pair.result ≡ pair_word step.tables.now step.level (literal c.args.other index) step.literal = c.pair_word-pair.ensures.word in
+    let f = λ (k : ℕ) (word : ℕ). moved step.taking word (pair_word step.tables.now step.level (literal c.args.other k) step.literal) in
+    let old = c.args.words.now in
+    let words = c.loop-index.words in
+    let inside : index < length words = omega (arith, c.loop-index.invariant.mapped.count, c.count-index-end.ensures.count, c.requires.count, c.loop-index-test.true) in
+    let word = f index (word_at words index) in
+    let is : moved step.taking (word_at words index) c.pair_word-pair.result ≡ word = ap (moved step.taking (word_at words index)) word_is in
+    let same : c.move_word-lowest.new.words ≡ set words index word = c.move_word-lowest.ensures.words ∙ ap (set words index) is in
+    let low : c.move_word-lowest.result ≡ min c.loop-index.lowest word = c.move_word-lowest.ensures.floor ∙ ap (min c.loop-index.lowest) is in
     record {
-      mapped = subst (λ (ws : List ℕ). IsMapped f old ws (index + 1)) (sym same) (mapped_more f old words index word c.loop-index.invariant.mapped inside is);
-      least = subst (λ (ws : List ℕ). c.min-least.result ≡ least_of (take (index + 1) ws)) (sym same) (least_write words index word c.loop-index.least _ inside c.loop-index.invariant.least c.min-least.ensures);
+      mapped = subst (λ (ws : List ℕ). IsMapped f old ws (index + 1)) (sym same) (mapped_more f old words index word c.loop-index.invariant.mapped inside refl);
+      floor = subst (λ (ws : List ℕ). IsFloor ws c.move_word-lowest.result) (sym same) (floor_write words index word c.loop-index.lowest c.move_word-lowest.result inside c.loop-index.invariant.floor low);
     }
 
-pub returns : goal.returns
-returns c =
+pub returns-clause-words : goal.returns-clause-words
+returns-clause-words c =
     let step = c.args.step.now in
-    let f = λ (k : ℕ) (word : ℕ). moved c.args.step.now.taking word (pair_word step.tables.now step.level (literal c.args.other k) step.literal) in
-    let old = c.args.row.now.words in
-    let past : length c.loop-index.row.words ≤ c.loop-index.index = omega (arith, c.loop-index.invariant.mapped.count) in
-    let made = mapped_all f old c.loop-index.row.words c.loop-index.index c.loop-index.invariant.mapped past in
-    row_made c.loop-index.row.words (words_with c.args.step.now.taking step.tables.now step.level step.literal c.args.other old) c.loop-index.least made
-    (least_all c.loop-index.row.words _ c.loop-index.index c.loop-index.least past c.loop-index.invariant.least made)
+    let f = λ (k : ℕ) (word : ℕ). moved step.taking word (pair_word step.tables.now step.level (literal c.args.other k) step.literal) in
+    let past : length c.loop-index.words ≤ c.loop-index.index = omega (arith, c.loop-index.invariant.mapped.count, c.count-index-end.ensures.count, c.requires.count, c.loop-index-test.false) in
+    mapped_all f c.args.words.now c.loop-index.words c.loop-index.index c.loop-index.invariant.mapped past

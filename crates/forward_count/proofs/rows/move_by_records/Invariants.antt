@@ -1,13 +1,12 @@
-use Rattle.std.proofs.Common.{◌≡◌, take}
 use Rattle.fapp_model.specs.search.Partials.{literal}
 use Rattle.count_laws.specs.Counts.{pair_word}
 use Rattle.count_laws.specs.Moves.{moved}
-use Rattle.count_laws.specs.Words.{least_of}
+use Rattle.forward_count.specs.Floors.{IsFloor}
 use Rattle.forward_count.proofs.RowLaws.{IsMapped}
 use Rattle.forward_count.proofs.rows.move_by_records.Given as goal
 
 abbrev pub invariant-loop-index : goal.invariant-loop-index
 invariant-loop-index l = record {
-  mapped : IsMapped (λ k word. moved l.step.taking word (pair_word l.step.tables.now l.step.level (literal l.other k) l.step.literal)) l.fn.row.words l.row.words l.index;
-  least : l.least ≡ least_of (take l.index l.row.words);
+  mapped : IsMapped (λ k word. moved l.step.taking word (pair_word l.step.tables.now l.step.level (literal l.other k) l.step.literal)) l.fn.words l.words l.index;
+  floor : IsFloor l.words l.lowest;
 }

@@ -1,0 +1,9 @@
+-- A bound below the words of a path.
+use Rattle.std.specs.Prelude.{ℕ, ◌<◌, ◌≤◌, List, length}
+use Rattle.count_laws.specs.declared.rows.TheConstants.{NO_WORD}
+use Rattle.count_laws.specs.Words.{word_at}
+
+-- no word is below it
+pub record IsFloor (words : List ℕ) (floor : ℕ) : Type 0 where
+  pub each : (index : ℕ) → index < length words → floor ≤ word_at words index
+  pub small : floor ≤ NO_WORD
