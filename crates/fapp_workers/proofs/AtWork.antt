@@ -1,5 +1,6 @@
 -- A worker between two jobs.
-use Rattle.std.proofs.Common.{◌≡◌, ℕ, zero, suc, ◌+◌, ◌-◌, ◌<◌, ◌≤◌, List, [], ◌∷◌, ◌++◌, length, map, slice_get, All, Option, None, Some, is_some, refl, sym, ap, ◌∙◌, subst, inl, inr, arith}
+use Rattle.std.proofs.Common.{◌≡◌, ℕ, zero, suc, ◌+◌, ◌-◌, ◌<◌, ◌≤◌, List, [], ◌∷◌, ◌++◌, length, map, slice_get, All, Option, None, Some, is_some, Ok, refl, sym, ap, ◌∙◌, subst, inl, inr, arith}
+use Rattle.std.specs.declared.alloc.AllocError.{AllocError}
 use Rattle.std.proofs.Math.Nat.{mul-le-mul_right}
 use Rattle.std.proofs.lemmas.Bool.{cases_lt}
 use Rattle.std.proofs.lemmas.List.{length-append}
@@ -18,11 +19,13 @@ use Rattle.fapp_plan.specs.VerdictRule.{top_code}
 use Rattle.log_laws.specs.declared.line.LogLine.{LogLine}
 use Rattle.log_laws.specs.declared.line.Segment.{Segment}
 use Rattle.log_laws.specs.Segments.{IsGoodLog}
+use Rattle.search_log.specs.declared.job.Outcome.{Outcome}
+use Rattle.search_log.specs.declared.job.Outcome.TheVariants.{Refuted, Moot, Spent}
 use Rattle.search_log.specs.declared.log.KeptPlan.{KeptPlan}
 use Rattle.search_log.specs.Bounds.{BoundState, lowest}
 use Rattle.search_log.specs.Logs.{empty_log}
 use Rattle.search_log.specs.LogStates.{LogState}
-use Rattle.settle_laws.specs.Settling.{AreHome}
+use Rattle.settle_laws.specs.Settling.{AreHome, IsOutcome}
 use Rattle.settle_laws.specs.Worlds.{IsKeptRight, IsLeastOffered, IsPlain, world}
 use Rattle.fapp_plan.proofs.Rules.{code-most}
 use Rattle.settle_laws.proofs.FullPrefixes.{cost-own}
@@ -33,7 +36,7 @@ use Rattle.outcome_laws.proofs.Words.{cost-level}
 use Rattle.fapp_workers.specs.declared.worker.Done.{Done}
 use Rattle.fapp_workers.specs.Decided.{Decides, no_rows}
 use Rattle.outcome_laws.specs.Outcomes.{AreTicksOf}
-use Rattle.fapp_workers.specs.Works.{IsCostKept, IsDone, IsOwnLog, IsWorkOf, branches_in, dealt, done_at, no_done, ticks_in}
+use Rattle.fapp_workers.specs.Works.{IsAllTaken, IsCostKept, IsDone, IsOwnLog, IsWorkOf, branches_in, dealt, done_at, no_done, ticks_in}
 use Rattle.fapp_workers.proofs.Decisions.{branches-append, found-settled, none-added, settled-grows}
 use Rattle.fapp_workers.proofs.Growing.{each-push}
 
@@ -67,10 +70,17 @@ module _ (split : Split) (fuel id : ℕ) (bound after : BoundState) (log longer 
         omega (arith, most, d.within);
   }
 
+  all-taken : (outcome : Outcome) → IsOutcome {E = AllocError} split.instance (job_level split.instance id) (job_prefix split.instance split.split id)
+      (world fuel bound no_rows log) (world (fuel - last.ticks) after no_rows longer) (Ok outcome) → IsAllTaken fuel outcome last.ticks
+  all-taken (Refuted line tag) h = tt
+  all-taken (Moot seen) h = tt
+  all-taken Spent h = omega (arith, h.empty, d.within)
+
   last-done : IsDone split fuel id longer.lines (lowest after.began after.least) last
   last-done = record {
     settled = found-settled split.instance (job_level split.instance id) (job_prefix split.instance split.split id) fuel last.ticks bound after log longer low valid last.outcome d.settles.is;
     ticks = ticks-few;
+    taken = all-taken last.outcome d.settles.is;
   }
 
   -- no more Branch lines than ticks
@@ -126,6 +136,7 @@ works-on split fuel workers number id bound after log longer done last next insi
       settled = settled-grows split.instance (job_level split.instance (dealt workers number k)) (job_prefix split.instance split.split (dealt workers number k)) fuel log.lines longer.lines
           (lowest bound.began bound.least) (lowest after.began after.least) (done_at done k).outcome d.settles.lines lower h.settled;
       ticks = h.ticks;
+      taken = h.taken;
     }
 
 none-at : (n : ℕ) (line : LogLine) → slice_get [] n ≡ Some line → ⊥

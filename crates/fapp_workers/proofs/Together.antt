@@ -24,7 +24,7 @@ use Rattle.fapp_workers.specs.declared.worker.Done.{Done}
 use Rattle.fapp_workers.specs.declared.worker.Worked.{Worked}
 use Rattle.outcome_laws.specs.Gathered.{AreSettled, IsAtMostKept, IsLeastWord, IsPlacedBy, KeepsCost, log_at}
 use Rattle.fapp_workers.specs.declared.solve.Gathered.{Gathered}
-use Rattle.fapp_workers.specs.Collections.{IsGathered}
+use Rattle.fapp_workers.specs.Collections.{AreDealtTo, IsGathered, IsPutAt}
 use Rattle.fapp_workers.specs.Gathering.{AreAllDone, AreCollected, IsLeastFound, job_done, no_work, worked_at}
 use Rattle.outcome_laws.specs.Outcomes.{AreTicksOf}
 use Rattle.fapp_workers.specs.Works.{AreWorksOf, IsCostKept, IsDone, IsOwnLog, IsWorkOf, branches_in, dealt, done_at, no_done, ticks_in}
@@ -240,6 +240,10 @@ module _ (split : Split) (fuel : ℕ) (all : List Worked) (some : 0 < length all
     branches = rw (logs, ticks) branches-within;
   }
 
+  put-at : (outcomes : List Placed) (ticks : List ℕ) (id : ℕ) → AreCollected split all (job_count split.instance split.split) outcomes → ticks ≡ job-ticks → id < job_count split.instance split.split →
+      IsPutAt (id % length all) fuel (get_or outcomes id None) (get_or ticks id 0)
+  put-at outcomes ticks id c are inside = rw (c.each id inside, are, ticks-at id inside) (refl, (job-is-done id inside).taken)
+
 -- ---- from the number of workers
 
 pub works-here : (split : Split) (fuel workers : ℕ) (all : List Worked) → AreWorksOf split fuel workers all → AreWorksOf split fuel (length all) all
@@ -253,3 +257,15 @@ pub works-gathered : (split : Split) (fuel workers : ℕ) (all : List Worked) �
     gathered.ticks.items ≡ map (λ id. (job_done all id).ticks) (range_with_len 0 (job_count split.instance split.split)) → IsGathered split fuel gathered
 works-gathered split fuel workers all some works gathered least logs collected ticks =
     all-gathered split fuel all (omega (arith, some, works.count)) (works-here split fuel workers all works) gathered.word.code least gathered logs refl collected ticks
+
+pub works-dealt : (split : Split) (fuel workers : ℕ) (all : List Worked) → 1 ≤ workers → AreWorksOf split fuel workers all → (gathered : Gathered) →
+    gathered.logs.items ≡ map log_of all → AreCollected split all (job_count split.instance split.split) gathered.collected →
+    gathered.ticks.items ≡ map (λ id. (job_done all id).ticks) (range_with_len 0 (job_count split.instance split.split)) → AreDealtTo split workers fuel gathered
+works-dealt split fuel workers all some works gathered logs collected ticks =
+    let here = works-here split fuel workers all works in
+    let more : 0 < length all = omega (arith, some, works.count) in
+    record {
+      logs = ap length logs ∙ (length-map all log_of ∙ works.count);
+      each = λ id inside. subst (λ n. IsPutAt (id % n) fuel (get_or gathered.collected id None) (get_or gathered.ticks.items id 0)) works.count
+          (put-at split fuel all more here gathered.collected gathered.ticks.items id collected ticks inside);
+    }

@@ -7,7 +7,8 @@ use Rattle.fapp_plan.specs.Plans.{Split}
 use Rattle.fapp_plan.specs.VerdictRule.{top_code}
 use Rattle.log_laws.specs.declared.line.LogLine.{LogLine}
 use Rattle.log_laws.specs.Segments.{IsGoodLog}
-use Rattle.search_log.specs.declared.job.Outcome.TheVariants.{Spent}
+use Rattle.search_log.specs.declared.job.Outcome.{Outcome}
+use Rattle.search_log.specs.declared.job.Outcome.TheVariants.{Refuted, Moot, Spent}
 use Rattle.search_log.specs.declared.log.KeptPlan.{KeptPlan}
 use Rattle.search_log.specs.LogStates.{LogState}
 use Rattle.settle_laws.specs.Worlds.{IsKeptRight, IsPlain}
@@ -44,9 +45,16 @@ abbrev pub IsCostKept : Instance → Option KeptPlan → ℕ → Type 0
 IsCostKept instance None word = word ≡ top_code instance
 IsCostKept instance (Some best) word = (word ≡ code_of best.cost) × (word < top_code instance)
 
+-- where the fuel did not suffice, all of it was taken
+abbrev pub IsAllTaken : ℕ → Outcome → ℕ → Type 0
+IsAllTaken fuel (Refuted line tag) ticks = Unit {0}
+IsAllTaken fuel (Moot seen) ticks = Unit {0}
+IsAllTaken fuel Spent ticks = ticks ≡ fuel
+
 pub record IsDone (split : Split) (fuel id : ℕ) (lines : List LogLine) (word : ℕ) (done : Done) : Type 0 where
   pub settled : IsJobSettledBy split fuel id [] lines word done.outcome
   pub ticks : AreTicksOf split fuel id done.ticks
+  pub taken : IsAllTaken fuel done.outcome done.ticks
 
 -- the jobs dealt to a worker are done, and its log says so
 pub record IsWorkOf (split : Split) (fuel workers number : ℕ) (worked : Worked) : Type 0 where

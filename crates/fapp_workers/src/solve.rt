@@ -1,7 +1,7 @@
 // The workers side by side.
 ghost use Rattle.std.specs.Prelude.{◌≡◌, ◌<◌, ◌≤◌, IfOk, Ok, map};
 ghost use Rattle.fapp_workers.specs.Works.{AreWorksOf, IsWorkOf};
-ghost use Rattle.fapp_workers.specs.Collections.{IsGathered};
+ghost use Rattle.fapp_workers.specs.Collections.{AreDealtTo, IsGathered};
 ghost use Rattle.fapp_workers.specs.Ranges.{AreInRange};
 
 use crate::collect::{collect, least_of, logs_of, ticks_of};
@@ -78,7 +78,8 @@ pub fn solve_jobs<R: Threads + Sync, G: Gate>(
     requires arcs { arcs.now ≡ tables.now }
     requires plan { plan.now.instance ≡ tables.now }
     requires settings { AreInRange settings.now }
-    ensures { IfOk result (IsGathered plan.now settings.now.fuel) }
+    ensures gathered { IfOk result (IsGathered plan.now settings.now.fuel) }
+    ensures dealt { IfOk result (AreDealtTo plan.now settings.now.workers settings.now.fuel) }
 {
     let all = work_all(rt, alloc, tables, arcs, plan, settings, gate)?;
     let collected = collect(alloc, plan, &all)?;
