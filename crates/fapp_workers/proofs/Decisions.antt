@@ -21,7 +21,7 @@ use Rattle.settle_laws.proofs.Tried.{cites-grow}
 use Rattle.fapp_model.specs.search.Jobs.{job_level, job_prefix}
 use Rattle.fapp_plan.specs.Plans.{Split}
 use Rattle.fapp_workers.specs.Decided.{Decides, no_rows}
-use Rattle.outcome_laws.specs.Outcomes.{IsSettledBy}
+use Rattle.outcome_laws.specs.Outcomes.{IsPrefixSettledBy}
 use Rattle.fapp_workers.specs.Works.{branches_in}
 
 -- ---- a settled job stays settled
@@ -37,7 +37,7 @@ refuted-grows instance old new prefix line tag gains h = record {
 }
 
 pub settled-grows : (instance : Instance) (level : ℕ) (prefix : List Literal) (fuel : ℕ) (old new : List LogLine) (word lower : ℕ) (outcome : Outcome) → Gains old new → lower ≤ word →
-    IsSettledBy instance level prefix fuel [] old word outcome → IsSettledBy instance level prefix fuel [] new lower outcome
+    IsPrefixSettledBy instance level prefix fuel [] old word outcome → IsPrefixSettledBy instance level prefix fuel [] new lower outcome
 settled-grows instance level prefix fuel old new word lower (Refuted line tag) gains low h =
     (h.0, omega (arith, low, h.1), refuted-grows instance old new prefix line tag.code gains h.2)
 settled-grows instance level prefix fuel old new word lower (Moot seen) gains low h = (omega (arith, low, h.0), h.1)
@@ -56,7 +56,7 @@ module _ (instance : Instance) (level : ℕ) (prefix : List Literal) (fuel ticks
   abbrev Is : Outcome → Type 0
   Is outcome = IsOutcome {E = AllocError} instance level prefix (world fuel bound no_rows log) (world (fuel - ticks) after no_rows longer) (Ok outcome)
 
-  pub found-settled : level ≤ levels_of instance → (outcome : Outcome) → Is outcome → IsSettledBy instance level prefix fuel [] longer.lines (lowest after.began after.least) outcome
+  pub found-settled : level ≤ levels_of instance → (outcome : Outcome) → Is outcome → IsPrefixSettledBy instance level prefix fuel [] longer.lines (lowest after.began after.least) outcome
   found-settled valid (Refuted line tag) h = (
     tag-small instance level tag valid (omega (arith, h.0.target)),
     omega (arith, h.0.target, lowest-low after.began after.told after.least low),

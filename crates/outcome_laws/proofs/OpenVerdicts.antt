@@ -33,7 +33,7 @@ use Rattle.fapp_plan.specs.VerdictRule.{IsOpenOf, lower_code, open_level}
 use Rattle.fapp_plan.proofs.Refuted.{least-reached}
 use Rattle.outcome_laws.specs.Gathered.{AreSettled, IsPlacedBy, KeepsCost, log_at}
 use Rattle.outcome_laws.specs.Laws.{IsEnough, IsLevelWithinFuel, IsOpenFor, IsSolved, IsWithinFuel, NamesJob}
-use Rattle.outcome_laws.specs.Outcomes.{IsBeyond, IsSettledBy}
+use Rattle.outcome_laws.specs.Outcomes.{IsBeyond, IsPrefixSettledBy}
 use Rattle.outcome_laws.proofs.Words.{IsOfLevel, cost-level, implied-cost, kept-plan, open-level}
 
 -- ---- what a prefix is refuted at
@@ -83,7 +83,7 @@ module _ (split : Split) (fuel : ℕ) (rows : List KnownRow) (logs : List LogSta
   -- what it says, at the job's own level and prefix
   pub record IsJobOutcome (place level : ℕ) (outcome : Outcome) : Type 0 where
     pub log : LogState
-    pub is : IsSettledBy split.instance level (get_or (prefixes split.instance split.split) place []) fuel rows log.lines word outcome
+    pub is : IsPrefixSettledBy split.instance level (get_or (prefixes split.instance split.split) place []) fuel rows log.lines word outcome
 
   placed-out : (place level : ℕ) (o : Placed) → level ≤ levels_of split.instance → IsPlacedBy split fuel rows logs word (job_number split.instance place level) o →
       (outcome : Outcome) × (refuted_code o ≡ refuted_code (Some (0, outcome))) × IsJobOutcome place level outcome
@@ -93,8 +93,8 @@ module _ (split : Split) (fuel : ℕ) (rows : List KnownRow) (logs : List LogSta
     refl,
     record {
       log = log_at logs placed.0;
-      is = subst (λ q. IsSettledBy split.instance q (get_or (prefixes split.instance split.split) place []) fuel rows (log_at logs placed.0).lines word placed.1) (job-level split.instance place level within)
-          (subst (λ p. IsSettledBy split.instance (job_level split.instance (job_number split.instance place level)) p fuel rows (log_at logs placed.0).lines word placed.1) (job-prefix split.instance split.split place level) h.1);
+      is = subst (λ q. IsPrefixSettledBy split.instance q (get_or (prefixes split.instance split.split) place []) fuel rows (log_at logs placed.0).lines word placed.1) (job-level split.instance place level within)
+          (subst (λ p. IsPrefixSettledBy split.instance (job_level split.instance (job_number split.instance place level)) p fuel rows (log_at logs placed.0).lines word placed.1) (job-prefix split.instance split.split place level) h.1);
     },
   )
 

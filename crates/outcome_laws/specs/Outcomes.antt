@@ -20,15 +20,15 @@ IsBeyond instance level prefix fuel = (tries : ℕ) → IsTries instance (target
 -- With the least cost that was found, the word. Refuted: the tag is at least the lesser of the word and the level's
 -- target, and a line or a row within the prefix says so. Moot: what was seen is at least the word, and at most the level.
 -- Spent: the job has more tries than it had fuel.
-abbrev pub IsSettledBy : Instance → ℕ → List Literal → ℕ → List KnownRow → List LogLine → ℕ → Outcome → Type 0
-IsSettledBy instance level prefix fuel rows lines word (Refuted line tag) =
+abbrev pub IsPrefixSettledBy : Instance → ℕ → List Literal → ℕ → List KnownRow → List LogLine → ℕ → Outcome → Type 0
+IsPrefixSettledBy instance level prefix fuel rows lines word (Refuted line tag) =
     IsTagFor instance tag × (min (level_code (level + 1)) word ≤ tag.code) × IsRefuted instance rows lines prefix line tag.code
-IsSettledBy instance level prefix fuel rows lines word (Moot seen) = (word ≤ seen.code) × (seen.code ≤ level_code level)
-IsSettledBy instance level prefix fuel rows lines word Spent = IsBeyond instance level prefix fuel
+IsPrefixSettledBy instance level prefix fuel rows lines word (Moot seen) = (word ≤ seen.code) × (seen.code ≤ level_code level)
+IsPrefixSettledBy instance level prefix fuel rows lines word Spent = IsBeyond instance level prefix fuel
 
 -- the same of the job of a number
 abbrev pub IsJobSettledBy : Split → ℕ → ℕ → List KnownRow → List LogLine → ℕ → Outcome → Type 0
-IsJobSettledBy split fuel id = IsSettledBy split.instance (job_level split.instance id) (job_prefix split.instance split.split id) fuel
+IsJobSettledBy split fuel id = IsPrefixSettledBy split.instance (job_level split.instance id) (job_prefix split.instance split.split id) fuel
 
 -- no more ticks than the fuel, and than the job's tries
 pub record AreTicksOf (split : Split) (fuel id ticks : ℕ) : Type 0 where

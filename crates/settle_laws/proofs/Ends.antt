@@ -290,8 +290,14 @@ module _ (instance : Instance) (valid : IsInstance instance) (level : ℕ) (with
         few = omega (arith, kept-few, ticked.took, few-lines, line-adds instance literals old (world now.fuel after now.shared c.kept) to-kept c.adds.line log c.adds.added);
         is = record {
           is_open = omega (arith, c.offered.offers.told, ticked.undecided.is_open);
-          target = omega (arith, c.tag_is, ticked.target, ticked.exact, offers-floor now.bound after (code_of (cost instance c.offered.plan)) c.offered.offers,
-              cost-low instance valid literals prefix full c.offered.plan c.offered.feasible.assignment c.offered.extends tag.code ticked.own still-judged);
+          target = omega (
+            arith,
+            c.tag_is,
+            ticked.target,
+            ticked.exact,
+            offers-floor now.bound after (code_of (cost instance c.offered.plan)) c.offered.offers,
+            cost-low instance valid literals prefix full c.offered.plan c.offered.feasible.assignment c.offered.extends tag.code ticked.own still-judged,
+          );
           exact = λ same. absurd (omega (arith, ticked.took));
           refuted = line-refutes instance literals old (world now.fuel after now.shared c.kept) to-kept c.adds.line log c.adds.added c.adds.sorted full-implied full-own c.tag.code (omega (arith, ap (λ (t : Tag). t.code) c.adds.tag_is));
           last = line-last instance literals old (world now.fuel after now.shared c.kept) to-kept c.adds.line log c.adds.added;
