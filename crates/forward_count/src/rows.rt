@@ -80,7 +80,7 @@ fn move_by_cells(step: &Step, words: &mut Words, link: &Link, other: u16, floor:
     let start = first_within(owner, step.choice.freq, link.far);
     let count = choice_count(owner);
     let mut lowest = floor;
-    let mut place = 0;
+    let mut place = link.cells.len() - 1;
     for index in start..count {
         let second = choice_at(owner, index);
         if u64::from(second.freq) >= end {

@@ -23,7 +23,7 @@ loop-index-init c =
     let owner = c.owner-owner.ensures.path in
     let first : c.first_within-start.result ≤ count_at instance c.args.other = subst (λ (p : Path). c.first_within-start.result ≤ length (choices p)) owner c.first_within-start.ensures.inside in
     record {
-      inside = c.requires.some;
+      inside = omega (arith, c.requires.some);
       mapped = mapped_skip f words words 0 c.first_within-start.result (mapped_none f words) (omega arith) (λ k from before.
           before_stays instance c.requires.instance step.level step.literal step.home c.args.other c.requires.apart c.requires.other c.args.link.now c.requires.link step.taking (word_at words k) k (omega (arith, first, before))
           (omega (arith, subst (λ (p : Path). (choice p k).freq + c.args.link.now.far ≤ step.choice.freq) owner (c.first_within-start.ensures.below k before), ap (λ x. x.freq) step.chosen)));
