@@ -1,5 +1,5 @@
 -- What the words ask for is in its ranges.
-use Rattle.std.proofs.Common.{◌≡◌, ℕ, ◌≤◌, Bool, true, false, ◌&&◌, List, Option, None, Some, Result, Ok, Err, refl, sym, ap, ◌∙◌, subst, arith, leb, cond}
+use Rattle.std.proofs.Common.{◌≡◌, ℕ, ◌≤◌, Bool, true, false, ◌&&◌, List, Option, None, Some, Result, Ok, Err, refl, subst, arith, leb, cond}
 use Rattle.std.specs.Prelude.{IfSome, codes, option_and_then, unwrap_or}
 use Rattle.std.proofs.lemmas.Bool.{and_parts, leb-true}
 use Rattle.fapp_text.specs.Numbers.{number_of}
@@ -9,7 +9,7 @@ use Rattle.fapp_words.specs.declared.request.Request.{Request}
 use Rattle.fapp_words.specs.declared.request.Request.TheVariants.{Solve, Check, Gen, Demo}
 use Rattle.fapp_words.specs.declared.request.Seed.{Seed}
 use Rattle.fapp_words.specs.Solving.{fuel, given, names, pool, split, text_of, workers}
-use Rattle.fapp_words.specs.Options.{IsPromised, options_in, ranged, within}
+use Rattle.fapp_words.specs.Options.{IsPromised, ranged, within}
 use Rattle.fapp_words.specs.Promises.{ArePromised, IsSeed}
 use Rattle.fapp_run.specs.Answers.{AreOptions}
 use Rattle.fapp_run.specs.Made.{AreRequested, AreSeed}

@@ -1,5 +1,5 @@
 -- What the workers found meets what a verdict and a merged certificate ask for.
-use Rattle.std.proofs.Common.{◌≡◌, ◌≢◌, ◌⊎◌, ℕ, zero, suc, ◌+◌, ◌<◌, ◌≤◌, min, Bool, cond, is_some, List, [], ◌∷◌, ◌++◌, length, map, get_or, All, AllPairs, Contains, Option, Some, None, sum, sum_by, count_by, refl, sym, ap, ◌∙◌, subst, inl, inr, ⊎_elim, arith}
+use Rattle.std.proofs.Common.{◌≡◌, ◌≢◌, ℕ, ◌+◌, ◌<◌, ◌≤◌, min, cond, is_some, List, [], ◌∷◌, ◌++◌, length, map, get_or, All, AllPairs, Option, Some, None, sum, sum_by, count_by, refl, sym, ap, ◌∙◌, subst, arith}
 use Rattle.std.specs.List.{range_with_len}
 use Rattle.std.proofs.lemmas.List.{get_or-map, get_or_default}
 use Rattle.std.proofs.lemmas.List.Elements.{All-head, All-nil, All-tail}
@@ -26,7 +26,7 @@ use Rattle.fapp_plan.specs.Outcomes.{IsOutcomeFor, IsPlacedFor, Placed}
 use Rattle.fapp_plan.specs.Plans.{Split}
 use Rattle.fapp_plan.specs.VerdictRule.{IsVerdictOf}
 use Rattle.merge_laws.specs.Conditions.{AreOutcomes, IsMergeable, IsPut}
-use Rattle.merge_laws.specs.GoodLogs.{AreGoodLogs, all_lines, piece_of, pieces_from, pieces_of}
+use Rattle.merge_laws.specs.GoodLogs.{AreGoodLogs, all_lines, piece_of, pieces_from}
 use Rattle.merge_laws.specs.MergedLines.{branch_total, is_branch_path}
 use Rattle.merge_laws.specs.Refuted.{IsRefutedBy}
 use Rattle.merge_laws.specs.declared.piece.Piece.{Piece}

@@ -1,11 +1,11 @@
--- How a run ends where nothing fails, and what Accepted tells.
-use Rattle.std.proofs.Common.{◌≡◌, ◌≢◌, ◌⊎◌, ℕ, ◌+◌, ◌≤◌, List, [], ◌∷◌, length, drop, get_or, Option, None, Some, Ok, refl, sym, ap, ◌∙◌, subst, inl, inr, arith}
-use Rattle.std.specs.Prelude.{String}
+-- How a run ends where nothing fails, what Accepted tells, and that an outcome whose text was taken makes a run.
+use Rattle.std.proofs.Common.{◌≡◌, ◌≢◌, ◌⊎◌, ℕ, ◌+◌, ◌≤◌, List, [], ◌∷◌, length, get_or, Option, None, Some, Ok, refl, sym, ap, ◌∙◌, subst, inl, inr, arith}
+use Rattle.std.specs.Prelude.{String, codes, map, string_bytes}
 use Rattle.std.specs.Global.{Global}
 use Rattle.fapp_io.specs.Counts.{Rose}
 use Rattle.fapp_io.specs.Known.{Drops}
-use Rattle.fapp_io.specs.Moments.{SourceMoment}
-use Rattle.fapp_io.specs.Whole.{DropsUpTo, IsAllOf}
+use Rattle.fapp_io.specs.Moments.{SourceMoment, SinkMoment}
+use Rattle.fapp_io.specs.Whole.{IsAllOf}
 use Rattle.fapp_model.specs.declared.instance.Instance.{Instance}
 use Rattle.record_reader.specs.Texts.{instance_of_text}
 use Rattle.cert_lines.specs.declared.answer.Answer.{Answer}
@@ -19,6 +19,9 @@ use Rattle.fapp_words.specs.declared.options.SolveOptions.{SolveOptions}
 use Rattle.fapp_words.specs.declared.request.Request.{Request}
 use Rattle.fapp_words.specs.declared.request.Request.TheVariants as requests
 use Rattle.fapp_words.specs.declared.request.Seed.{Seed}
+use Rattle.fapp_words.specs.Options.{ranged}
+use Rattle.fapp_words.specs.Promises.{IsSeed}
+use Rattle.fapp_gen.specs.Generated.{network_text}
 use Rattle.outcome_laws.specs.Laws.{IsEnough}
 use Rattle.fapp_run.specs.declared.command.Command.{Command}
 use Rattle.fapp_run.specs.declared.command.Command.TheVariants.{Solve, Check}
@@ -26,10 +29,11 @@ use Rattle.fapp_run.specs.declared.judgement.TheConstants.{MAX_CHECK_INPUT}
 use Rattle.fapp_run.specs.declared.outcome.TheConstants.{MAX_INPUT}
 use Rattle.fapp_run.specs.AnswerLaws.{IsProved}
 use Rattle.fapp_run.specs.Answers.{Answers, IsSolved, fuel_of, status_of}
-use Rattle.fapp_run.specs.Judgements.{IsCheckInput}
-use Rattle.fapp_run.specs.Made.{Demonstrates, IsDemonstrated}
+use Rattle.fapp_run.specs.Halves.{Halves, halves}
+use Rattle.fapp_run.specs.Judgements.{IsCheckInput, IsJudged}
+use Rattle.fapp_run.specs.Made.{Demonstrates}
 use Rattle.fapp_run.specs.Outcomes.{AnswersTo, Asks, IsOutcome, IsOutcomeFor, IsOutcomeOf, Names, limit_of}
-use Rattle.fapp_run.specs.Runs.{IsAnswer, IsEnoughFor}
+use Rattle.fapp_run.specs.Runs.{IsAnswer, IsEnoughFor, IsRun, TakesWhole}
 use Rattle.fapp_run.specs.Solving.{IsClosed}
 use Rattle.fapp_run.proofs.CheckKinds.{accepted, accepted_proved}
 
@@ -59,6 +63,27 @@ module _ (words : List (String Global)) where
   gen_only seed (Some requests.Check) named h = absurd (let e = ap first_letter (sym named.spelled ∙ h) in omega arith)
   gen_only seed (Some (requests.Gen other)) named h = (other, refl)
   gen_only seed (Some (requests.Demo other)) named h = absurd (let e = ap first_letter (sym named.spelled ∙ h.spelled) in omega arith)
+
+  demo_only : (seed : Seed) (asked : Option Request) → Names words (requests.Demo seed) → Asks words asked → (other : Seed) × (asked ≡ Some (requests.Demo other))
+  demo_only seed None named h = absurd (h (requests.Demo seed) named)
+  demo_only seed (Some (requests.Solve options)) named h = absurd (let e = ap first_letter (sym named.spelled ∙ h.spelled) in omega arith)
+  demo_only seed (Some requests.Check) named h = absurd (let e = ap first_letter (sym named.spelled ∙ h) in omega arith)
+  demo_only seed (Some (requests.Gen other)) named h = absurd (let e = ap first_letter (sym named.spelled ∙ h.spelled) in omega arith)
+  demo_only seed (Some (requests.Demo other)) named h = (other, refl)
+
+-- two seeds that the same words spell make the same network
+same_value : (low high : ℕ) (given given' : List ℕ) (n m : ℕ) → given ≡ given' → ranged low high (Some given) ≡ Some (Some n) → ranged low high (Some given') ≡ Some (Some m) → n ≡ m
+same_value low high given given' n m e p q = some_is n m (sym p ∙ (ap (λ text. ranged low high (Some text)) e ∙ q))
+  where
+    some_is : (a b : ℕ) → Some (Some a) ≡ Some (Some b) → a ≡ b
+    some_is a b e = cc
+
+same_network : (name : List ℕ) (words : List (List ℕ)) (seed other : Seed) → IsSeed name words seed → IsSeed name words other → network_text seed.number seed.paths ≡ network_text other.number other.paths
+same_network name words seed other a b =
+    let e : (name ∷ a.number ∷ a.paths ∷ []) ≡ (name ∷ b.number ∷ b.paths ∷ []) = sym a.spelled ∙ b.spelled in
+    let number = same_value 0 1000000000 a.number b.number seed.number other.number (ap (λ ws. get_or ws 1 []) e) a.number_value b.number_value in
+    let paths = same_value 2 2000 a.paths b.paths seed.paths other.paths (ap (λ ws. get_or ws 2 []) e) a.paths_value b.paths_value in
+    ap (λ n. network_text n seed.paths) number ∙ ap (λ p. network_text other.number p) paths
 
 -- ---- how a command ends
 
@@ -176,11 +201,26 @@ gen_ends words source source' status text seed named (asked, asks, out) =
     let only = gen_only words seed asked named asks in
     (subst (λ a. IsOutcomeFor a source source' status text) only.1 out).1
 
+-- on the words of demo
+pub demo_ends : (words : List (String Global)) (source source' : SourceMoment) (status : Status) (text : List ℕ) (seed : Seed) → Names words (requests.Demo seed) → IsOutcome words source source' status text →
+    IsAnswer status × ((instance : Instance) → instance_of_text (network_text seed.number seed.paths) ≡ Ok instance → IsEnough (split_of instance 64) 40000 → status ≢ Open)
+demo_ends words source source' status text seed named (asked, asks, out) =
+    let only = demo_only words seed asked named asks in
+    let other : IsSeed (codes "demo") (map string_bytes words) only.0 = subst (Asks words) only.1 asks in
+    let shown : Demonstrates (network_text only.0.number only.0.paths) status text = (subst (λ a. IsOutcomeFor a source source' status text) only.1 out).1 in
+    let verdict = shown.shown.answer.verdict in (
+      is_answer status verdict shown.shown.status_is,
+      λ instance read enough.
+          let read' = subst (λ made. instance_of_text made ≡ Ok instance) (same_network (codes "demo") (map string_bytes words) seed only.0 named other) read in
+          let same = same_instance (network_text only.0.number only.0.paths) instance shown.instance read' shown.read in
+          not_open status verdict shown.shown.status_is (shown.shown.answers.enough (subst (λ i. IsEnough (split_of i 64) 40000) same enough)),
+    )
+
 -- what was accepted is right
 accepted_by : (source source' : SourceMoment) (bytes text : List ℕ) (asked : Option Request) → source.left ≡ Some bytes → IsOutcomeFor asked source source' Accepted text → IsProved bytes
 accepted_by source source' bytes text None left h = absurd (let e = h.1 in cc)
 accepted_by source source' bytes text (Some (requests.Gen seed)) left h = absurd (let e = h.1 in cc)
-accepted_by source source' bytes text (Some (requests.Demo seed)) left h = absurd (not_accepted h.1.3.answer.verdict h.1.3.status_is)
+accepted_by source source' bytes text (Some (requests.Demo seed)) left h = absurd (not_accepted h.1.shown.answer.verdict h.1.shown.status_is)
 accepted_by source source' bytes text (Some (requests.Solve options)) left h = absurd (not_accepted h.2.3.answer.verdict h.2.3.status_is)
 accepted_by source source' bytes text (Some requests.Check) left h =
     subst IsProved (taken source.left source'.left bytes h.0 left h.1) (accepted_proved h.0 text h.2)
@@ -190,3 +230,56 @@ pub accepted_ends : (words : List (String Global)) (source source' : SourceMomen
 accepted_ends words source source' bytes status text left e h =
     let g : IsOutcome words source source' Accepted text = subst (λ s. IsOutcome words source source' s text) e h in
     accepted_by source source' bytes text g.0 left g.2
+
+-- ---- whole runs
+
+no_verdict_fault : (v : Verdict) → WriteFault ≡ status_of v → ⊥
+no_verdict_fault (verdicts.Best t) e = cc
+no_verdict_fault verdicts.NoneFeasible e = cc
+no_verdict_fault (verdicts.Open best lower level prefix) e = cc
+
+no_verdict_want : (v : Verdict) → NoMemory ≡ status_of v → ⊥
+no_verdict_want (verdicts.Best t) e = cc
+no_verdict_want verdicts.NoneFeasible e = cc
+no_verdict_want (verdicts.Open best lower level prefix) e = cc
+
+no_judgement_fault : (bytes text : List ℕ) (cut : Option Halves) → IsJudged bytes cut WriteFault text → ⊥
+no_judgement_fault bytes text (Some input) h = h.2.3
+no_judgement_fault bytes text None h = h
+
+no_judgement_want : (bytes text : List ℕ) (cut : Option Halves) → IsJudged bytes cut NoMemory text → ⊥
+no_judgement_want bytes text (Some input) h = h.2.3
+no_judgement_want bytes text None h = h
+
+module _ (source source' : SourceMoment) (text : List ℕ) where
+  -- no outcome is a fault of the sink, nor want of memory
+  no_fault : (asked : Option Request) → IsOutcomeFor asked source source' WriteFault text → ⊥
+  no_fault None h = let e = h.1 in cc
+  no_fault (Some (requests.Gen seed)) h = let e = h.1 in cc
+  no_fault (Some (requests.Demo seed)) h = no_verdict_fault h.1.shown.answer.verdict h.1.shown.status_is
+  no_fault (Some (requests.Solve options)) h = no_verdict_fault h.2.3.answer.verdict h.2.3.status_is
+  no_fault (Some requests.Check) h = no_judgement_fault h.0 text (halves h.0) h.2.1
+
+  no_want : (asked : Option Request) → IsOutcomeFor asked source source' NoMemory text → ⊥
+  no_want None h = let e = h.1 in cc
+  no_want (Some (requests.Gen seed)) h = let e = h.1 in cc
+  no_want (Some (requests.Demo seed)) h = no_verdict_want h.1.shown.answer.verdict h.1.shown.status_is
+  no_want (Some (requests.Solve options)) h = no_verdict_want h.2.3.answer.verdict h.2.3.status_is
+  no_want (Some requests.Check) h = no_judgement_want h.0 text (halves h.0) h.2.1
+
+  -- an outcome whose text was taken whole
+  pub whole_run : (words : List (String Global)) (sink sink' : SinkMoment) (status : Status) → IsOutcome words source source' status text → TakesWhole sink sink' text → IsRun words source source' sink sink' status
+  whole_run words sink sink' Best out takes = (text, out, takes)
+  whole_run words sink sink' NoneFeasible out takes = (text, out, takes)
+  whole_run words sink sink' Open out takes = (text, out, takes)
+  whole_run words sink sink' Accepted out takes = (text, out, takes)
+  whole_run words sink sink' Written out takes = (text, out, takes)
+  whole_run words sink sink' (Rejected fault) out takes = (text, out, takes)
+  whole_run words sink sink' Usage out takes = (text, out, takes)
+  whole_run words sink sink' (BadInput bad) out takes = (text, out, takes)
+  whole_run words sink sink' (BadAnswer bad) out takes = (text, out, takes)
+  whole_run words sink sink' TooLong out takes = (text, out, takes)
+  whole_run words sink sink' NoAnswer out takes = (text, out, takes)
+  whole_run words sink sink' ReadFault out takes = (text, out, takes)
+  whole_run words sink sink' WriteFault out takes = absurd (no_fault out.0 out.2)
+  whole_run words sink sink' NoMemory out takes = absurd (no_want out.0 out.2)

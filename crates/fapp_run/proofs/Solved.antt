@@ -1,16 +1,13 @@
 -- The answer that follows from what the workers found.
-use Rattle.std.proofs.Common.{◌≡◌, ◌≢◌, ◌⊎◌, ℕ, ◌+◌, ◌<◌, ◌≤◌, List, [], length, get_or, All, None, sum, sum_by, refl, sym, ap, ◌∙◌, subst, inl, inr, ⊎_elim, arith}
+use Rattle.std.proofs.Common.{◌≡◌, ℕ, ◌<◌, ◌≤◌, List, [], length, get_or, All, None, sum, sum_by, sym, ap, ◌∙◌, subst, ⊎_elim, arith}
 use Rattle.std.proofs.lemmas.Bool.{cases_lt}
 use Rattle.std.proofs.lemmas.List.Elements.{All-nil}
 use Rattle.fapp_model.specs.declared.choice.Choice.{Choice}
 use Rattle.fapp_model.specs.declared.instance.Instance.{Instance}
-use Rattle.fapp_model.specs.declared.literal.Literal.{Literal}
-use Rattle.fapp_model.specs.declared.tag.Tag.{Tag}
-use Rattle.fapp_model.specs.declared.triple.Triple.{Triple}
 use Rattle.fapp_model.specs.Costs.{cost}
 use Rattle.fapp_model.specs.Instances.{IsInstance}
 use Rattle.fapp_model.specs.Levels.{levels_of}
-use Rattle.fapp_model.specs.Tags.{code_of, top_tag, triple_from}
+use Rattle.fapp_model.specs.Tags.{triple_from}
 use Rattle.fapp_model.specs.search.Jobs.{job_count}
 use Rattle.cert_lines.specs.declared.answer.Answer.{Answer}
 use Rattle.cert_lines.specs.declared.answer.Line.{Line}
@@ -24,7 +21,7 @@ use Rattle.accept_laws.proofs.Accepting.{accepted-right}
 use Rattle.accept_laws.proofs.Showing.{no-plan, well-shown}
 use Rattle.search_log.specs.LogStates.{LogState}
 use Rattle.fapp_plan.specs.Outcomes.{Placed}
-use Rattle.fapp_plan.specs.Plans.{Split, split_of}
+use Rattle.fapp_plan.specs.Plans.{split_of}
 use Rattle.fapp_plan.specs.VerdictRule.{IsVerdictOf, top_code}
 use Rattle.fapp_plan.proofs.Rules.{code-most, shown-is_tag}
 use Rattle.merge_laws.specs.MergedLines.{IsMerged}
@@ -37,7 +34,7 @@ use Rattle.outcome_laws.proofs.Words.{top-back, word-shown}
 use Rattle.fapp_workers.specs.Works.{branches_in}
 use Rattle.fapp_run.specs.Solving.{IsAnswerFor, IsClosed, IsKeptPlan, SaysOfJobs}
 use Rattle.fapp_run.proofs.Joining.{lines-few}
-use Rattle.fapp_run.proofs.Shown.{IsWordPlan, below-shown, top-shown}
+use Rattle.fapp_run.proofs.Shown.{below-shown, top-shown}
 
 module _ (instance : Instance) (split fuel : ℕ) (logs : List LogState) (word root : ℕ) (outcomes : List Placed) (verdict : Verdict) (choices : List Choice) (lines : List Line) (ticks : List ℕ)
     (valid : IsInstance instance)

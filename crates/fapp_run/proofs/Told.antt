@@ -12,7 +12,6 @@ use Rattle.answer_writer.specs.Texts.{written_text}
 use Rattle.fapp_run.specs.declared.outcome.Outcome.{Outcome}
 use Rattle.fapp_run.specs.Solving.{IsAnswerFor}
 use Rattle.fapp_run.specs.Answers.{Answers, IsSolved, fuel_of, status_of}
-use Rattle.fapp_run.specs.Made.{Demonstrates, IsDemonstrated}
 
 module _ (bytes : List ℕ) (instance : Instance) (short : length bytes ≤ MAX_INPUT) (read : instance_of_text bytes ≡ Ok instance) where
   solved_by : (options : SolveOptions) (v : Verdict) (text : List ℕ) → IsSolved instance options (status_of v) text → Answers options bytes (status_of v) text
@@ -23,15 +22,6 @@ module _ (bytes : List ℕ) (instance : Instance) (short : length bytes ≤ MAX_
   pub solved_answers : (options : SolveOptions) (status : Status) (text : List ℕ) → IsSolved instance options status text → Answers options bytes status text
   solved_answers options status text h =
       subst (λ s. Answers options bytes s text) (sym h.status_is) (solved_by options h.answer.verdict text (subst (λ s. IsSolved instance options s text) h.status_is h))
-
-  shown_by : (v : Verdict) (text : List ℕ) → IsDemonstrated instance (status_of v) text → Demonstrates bytes (status_of v) text
-  shown_by (verdicts.Best t) text h = (short, instance, read, h)
-  shown_by verdicts.NoneFeasible text h = (short, instance, read, h)
-  shown_by (verdicts.Open best lower level prefix) text h = (short, instance, read, h)
-
-  pub shown_demonstrates : (status : Status) (text : List ℕ) → IsDemonstrated instance status text → Demonstrates bytes status text
-  shown_demonstrates status text h =
-      subst (λ s. Demonstrates bytes s text) (sym h.status_is) (shown_by h.answer.verdict text (subst (λ s. IsDemonstrated instance s text) h.status_is h))
 
 -- an answer that was told answers the instance
 pub told_solved : {E : Type 0} (instance : Instance) (options : SolveOptions) (split fuel : ℕ) (answer : Answer) (r : Result Outcome E) → split ≡ options.split → fuel ≡ fuel_of options instance →

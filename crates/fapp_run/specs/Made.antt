@@ -1,17 +1,14 @@
 -- What is answered where the network is made from a seed.
-use Rattle.std.specs.Prelude.{◌≡◌, ℕ, ◌<◌, ◌≤◌, List, length, Some, false, Ok, Err}
+use Rattle.std.specs.Prelude.{◌≡◌, ℕ, ◌≤◌, List, Some, false, Ok}
 use Rattle.fapp_model.specs.declared.instance.Instance.{Instance}
 use Rattle.record_reader.specs.Texts.{instance_of_text}
 use Rattle.cert_lines.specs.declared.answer.Answer.{Answer}
 use Rattle.cert_lines.specs.Spelling.{verdict_text}
 use Rattle.answer_writer.specs.declared.status.Status.{Status}
-use Rattle.answer_writer.specs.declared.status.Status.TheVariants.{BadInput, TooLong}
-use Rattle.answer_writer.specs.Refusals.{refusal_line}
 use Rattle.fapp_words.specs.declared.options.SolveOptions.{SolveOptions}
 use Rattle.fapp_words.specs.declared.request.Request.{Request}
 use Rattle.fapp_words.specs.declared.request.Request.TheVariants.{Solve, Check, Gen, Demo}
 use Rattle.fapp_words.specs.declared.request.Seed.{Seed}
-use Rattle.fapp_run.specs.declared.outcome.TheConstants.{MAX_INPUT}
 use Rattle.fapp_run.specs.Answers.{AreOptions, status_of}
 use Rattle.fapp_run.specs.Solving.{IsAnswerFor}
 
@@ -39,11 +36,8 @@ pub record IsDemonstrated (instance : Instance) (status : Status) (text : List �
   pub status_is : status ≡ status_of answer.verdict
   pub text_is : text ≡ verdict_text answer.verdict
 
--- the verdict on the instance of a made text; that such a text is one is not said
-abbrev pub Demonstrates : List ℕ → Status → List ℕ → Type 0
-Demonstrates made TooLong text = (MAX_INPUT < length made) × (text ≡ refusal_line TooLong)
-Demonstrates made (BadInput refused) text =
-    (length made ≤ MAX_INPUT) × (instance_of_text made ≡ Err refused) × (text ≡ refusal_line (BadInput refused))
-Demonstrates made status text =
-    (length made ≤ MAX_INPUT)
-    × (instance : Instance) × (instance_of_text made ≡ Ok instance) × IsDemonstrated instance status text
+-- a made text is that of an instance, and this is the verdict on it
+pub record Demonstrates (made : List ℕ) (status : Status) (text : List ℕ) : Type 0 where
+  pub instance : Instance
+  pub read : instance_of_text made ≡ Ok instance
+  pub shown : IsDemonstrated instance status text

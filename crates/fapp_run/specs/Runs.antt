@@ -11,6 +11,7 @@ use Rattle.cert_lines.specs.declared.answer.Answer.{Answer}
 use Rattle.cert_lines.specs.acceptance.Accepts.{Accepts}
 use Rattle.answer_writer.specs.declared.status.Status.{Status}
 use Rattle.answer_writer.specs.declared.status.Status.TheVariants.{Best, NoneFeasible, Open, Accepted, Written, WriteFault, NoMemory}
+use Rattle.fapp_gen.specs.Generated.{network_text}
 use Rattle.fapp_plan.specs.Plans.{split_of}
 use Rattle.fapp_words.specs.declared.options.SolveOptions.{SolveOptions}
 use Rattle.fapp_words.specs.declared.request.Request.TheVariants as requests
@@ -73,6 +74,14 @@ CompletesCheck words source source' sink sink' status =
 abbrev pub CompletesGen : List (String Global) → SinkMoment → SinkMoment → Status → Type 0
 CompletesGen words sink sink' status = (seed : Seed) → Names words (requests.Gen seed) → (Rose sink.faults sink'.faults → ⊥)
     → (status ≡ Written) ⊎ (status ≡ NoMemory)
+
+-- on the words of demo and no fault of the sink, the run ends with the verdict on the made network, or there was no
+-- memory, and with fuel enough for one level the verdict is not open
+abbrev pub CompletesDemo : List (String Global) → SinkMoment → SinkMoment → Status → Type 0
+CompletesDemo words sink sink' status = (seed : Seed) → Names words (requests.Demo seed) → (Rose sink.faults sink'.faults → ⊥)
+    → IsAnswer status
+    × ((instance : Instance) → instance_of_text (network_text seed.number seed.paths) ≡ Ok instance
+    → IsEnough (split_of instance 64) 40000 → status ≢ Open)
 
 -- where a source that tells its bytes was read and the status is Accepted, what the answer in them claims is so
 abbrev pub ProvesAccepted : SourceMoment → Status → Type 0

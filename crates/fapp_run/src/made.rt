@@ -1,10 +1,10 @@
 // What is answered where the network is made and none is read.
-ghost use Rattle.std.specs.Prelude.{◌≡◌, ◌≤◌, IfOk};
+ghost use Rattle.std.specs.Prelude.{◌≡◌, IfOk};
 ghost use Rattle.fapp_model.specs.Instances.{IsInstance};
 ghost use Rattle.fapp_gen.specs.Generated.{network_text};
 ghost use Rattle.fapp_run.specs.Made.{AreSeed, Demonstrates, IsDemonstrated, demo_options};
 
-use crate::outcome::{MAX_INPUT, Outcome, refusal, settings_for, status_of};
+use crate::outcome::{Outcome, settings_for, status_of};
 use crate::solving::solve_answer;
 use answer_writer::Status;
 use cert_lines::verdict_text;
@@ -41,12 +41,10 @@ pub fn demonstrated<R: Threads + Sync, G: Gate>(
     ensures { IfOk result (λ outcome. Demonstrates (network_text seed.number seed.paths) outcome.status outcome.text.items) }
 {
     let bytes = generate(alloc, seed.number, seed.paths)?;
-    if bytes.len() > MAX_INPUT {
-        return refusal(alloc, Status::TooLong);
-    }
     match read_instance(alloc, &bytes) {
         Ok(instance) => shown_verdict(rt, alloc, &instance, gate),
-        Err(ReadError::Bad(bad)) => refusal(alloc, Status::BadInput(bad)),
+        // A made network is that of an instance.
+        Err(ReadError::Bad(_)) => unreachable!(),
         Err(ReadError::NoMemory) => Err(NoMemory),
     }
 }

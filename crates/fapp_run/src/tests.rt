@@ -15,22 +15,25 @@ const PLAIN_PLAN: &str = "AL 1 10 1\nAL 2 30 1\n";
 
 const PLAIN_ANSWER: &str = "AL 1 10 1\nAL 2 30 1\n--\nBEST 0 0 0\nC 0 0 0 0 0\nEND\n";
 
+const NOTHING_TO_PLAN: &str = "--\nBEST 0 0 0\nC 0 0 0 0 0\nEND\n";
+
+// One path of one choice.
+const SINGLE: &str = "DM 1 5\nTR 9 1 -1\n";
+
+// One of the greatest frequency.
+const GREATEST: &str = "DM 1 1000000000\nTR 1 1 1\n";
+
 const CHECKED: &str = "--\n--\nBEST 0 0 0\nC 0 0 0 0 0\nEND\n";
 
 const LENIENT: &str =
     "TR 1 1 1\r\nTR\t2 2 1\r\n\r\nCE  1 2 20 20 20 20 20 20 20 20 20 20 20\r\nDM 2 30\nDM 2 10\nDM 2 020\nDM 2 30\nDM 1 10";
 
 // Words, an input, the exit status and what is written. Each plan is the only one that costs the least.
-const ENDS: [(&str, &str, u8, &str); 36] = [
+const ENDS: [(&str, &str, u8, &str); 42] = [
     (WORDS, PLAIN, 0, PLAIN_PLAN),
     (WORDS, CHAIN, 0, "AL 1 10 1\nAL 2 20 1\n"),
     (WORDS, "", 0, ""),
-    (
-        WORDS,
-        "DM 1 1000000000\nTR 1 1 1\n",
-        0,
-        "AL 1 1000000000 1\n",
-    ),
+    (WORDS, GREATEST, 0, "AL 1 1000000000 1\n"),
     (WORDS, FALLING, 0, "AL 1 10 1\nAL 2 20 1\n"),
     (WORDS, FREE, 0, "AL 1 10 1\nAL 2 10 -1\n"),
     (WORDS, TIED, 0, "AL 1 10 1\nAL 2 10 1\n"),
@@ -43,6 +46,27 @@ const ENDS: [(&str, &str, u8, &str); 36] = [
     (WORDS, LENIENT, 0, PLAIN_PLAN),
     (WORDS, TORN, 1, ""),
     ("solve", PLAIN, 0, PLAIN_ANSWER),
+    ("solve", LENIENT, 0, PLAIN_ANSWER),
+    ("solve", "", 0, NOTHING_TO_PLAN),
+    (
+        "solve",
+        SINGLE,
+        0,
+        "AL 9 5 -1\n--\nBEST 0 0 0\nC 0 0 0 0 0\nEND\n",
+    ),
+    (
+        "solve",
+        GREATEST,
+        0,
+        "AL 1 1000000000 1\n--\nBEST 0 0 0\nC 0 0 0 0 0\nEND\n",
+    ),
+    (
+        "solve",
+        FREE,
+        0,
+        "AL 1 10 1\nAL 2 10 -1\n--\nBEST 0 0 0\nC 0 0 0 0 0\nEND\n",
+    ),
+    ("demo 7 40", PLAIN, 0, "BEST 5 4 44\n"),
     (
         "solve --split 1 --answer-only --workers=1",
         PLAIN,
@@ -228,11 +252,11 @@ fn any_call_may_fail(rt: HostRuntime) -> Result<(), Fail> {
 #[test]
 fn the_longest_input_is_read(rt: HostRuntime) -> Result<(), Fail> {
     for (length, code, output) in [
-        (MAX_INPUT, 0, ""),
+        (MAX_INPUT, 0, NOTHING_TO_PLAN),
         (MAX_INPUT + 1, 65, "BADINPUT 0 TooLong\n"),
     ] {
         let feeds = vec![in rt.alloc(); b'\n'; length]?;
-        let (status, written) = end_of(&rt, rt.alloc(), WORDS, &feeds, 4096, 0, 0)?;
+        let (status, written) = end_of(&rt, rt.alloc(), "solve", &feeds, 4096, 0, 0)?;
         assert_eq!(rt; status.code(), code);
         assert_eq!(rt; written.as_slice(), output.as_bytes());
     }

@@ -4,7 +4,7 @@ ghost use Rattle.fapp_io.specs.Whole.{DropsUpTo};
 ghost use Rattle.fapp_words.specs.Promises.{ReadsWords};
 ghost use Rattle.fapp_run.specs.Made.{AreRequested};
 ghost use Rattle.fapp_run.specs.Outcomes.{limit_of, AnswersTo, AreGiven, IsOutcomeOf, IsOutcomeFor, IsOutcome, ReadsFront, ReadsFor};
-ghost use Rattle.fapp_run.specs.Runs.{IsRun, Completes, CompletesCheck, CompletesGen, ProvesAccepted};
+ghost use Rattle.fapp_run.specs.Runs.{IsRun, Completes, CompletesCheck, CompletesGen, CompletesDemo, ProvesAccepted};
 
 use crate::command::Command;
 use crate::judgement::{MAX_CHECK_INPUT, judge};
@@ -43,6 +43,10 @@ pub fn run<R: Threads + Sync, S: Source, K: Sink, G: Gate>(
 
     // On the words of gen and no fault, the network is written.
     ensures completes_gen { CompletesGen words.now (K.moment sink.old) (K.moment sink.new) result }
+
+    // On the words of demo and no fault, the verdict on the made network is written, and it is not Open where the fuel
+    // is enough for one level.
+    ensures completes_demo { CompletesDemo words.now (K.moment sink.old) (K.moment sink.new) result }
 
     // What an accepted answer claims is so.
     ensures right { ProvesAccepted (S.moment source.old) result }

@@ -3,4 +3,4 @@ mod Says
 mod Passing
 mod Stages
 mod Refusing
-mod Networks
+pub mod Networks

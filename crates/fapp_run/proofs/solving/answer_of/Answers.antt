@@ -1,7 +1,5 @@
-use Rattle.std.proofs.Common.{◌≡◌, ℕ, List, sym, subst, ◌∙◌, ap}
+use Rattle.std.proofs.Common.{List, sym, subst, ◌∙◌}
 use Rattle.fapp_model.specs.declared.choice.Choice.{Choice}
-use Rattle.fapp_model.specs.declared.instance.Instance.{Instance}
-use Rattle.fapp_model.specs.declared.triple.Triple.{Triple}
 use Rattle.fapp_model.specs.Instances.{IsInstance}
 use Rattle.fapp_model.specs.Tags.{triple_from}
 use Rattle.arc_levels.specs.Outside.{IsRootTag}

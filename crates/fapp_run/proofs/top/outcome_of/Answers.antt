@@ -1,4 +1,4 @@
-use Rattle.std.proofs.Common.{◌≡◌, List, Option, Some, map, ap, sym, subst, rules}
+use Rattle.std.proofs.Common.{map, subst, rules}
 use Rattle.std.specs.Prelude.{string_bytes}
 use Rattle.fapp_words.specs.Promises.{ReadsWords}
 use Rattle.fapp_run.specs.Made.{AreRequested}
