@@ -1,5 +1,5 @@
 -- What is found of some literals when a line is added.
-use Rattle.std.proofs.Common.{◌≡◌, ◌⊎◌, ℕ, ◌+◌, ◌<◌, ◌≤◌, List, [], ◌∷◌, ◌++◌, length, All, Contains, Some, Result, Ok, Err, refl, sym, ap, subst, ◌∙◌, inl, inr, ⊎_elim, arith, append-nil}
+use Rattle.std.proofs.Common.{◌≡◌, ◌⊎◌, ℕ, false, ◌+◌, ◌<◌, ◌≤◌, List, [], ◌∷◌, ◌++◌, length, All, Contains, Some, Result, Ok, Err, refl, sym, ap, subst, ◌∙◌, inl, inr, ⊎_elim, arith, append-nil}
 use Rattle.std.specs.List.{slice_get}
 use Rattle.std.proofs.lemmas.List.{length-append}
 use Rattle.std.proofs.lemmas.List.Elements.{All-nil, Contains-append_left}
@@ -15,7 +15,7 @@ use Rattle.fapp_model.specs.Tags.{IsTagOf, code_of, triple_from}
 use Rattle.fapp_model.specs.search.Dead.{Dead}
 use Rattle.fapp_model.specs.search.Implied.{Implied}
 use Rattle.fapp_model.specs.search.Jobs.{target}
-use Rattle.fapp_model.specs.search.Partials.{IsPartial}
+use Rattle.fapp_model.specs.search.Partials.{HasAll, IsPartial, names}
 use Rattle.fapp_model.specs.search.Prefixes.{IsPrefix}
 use Rattle.fapp_model.specs.search.WorkOrder.{work_order}
 use Rattle.fapp_model.proofs.Members.{All-from_members}
@@ -36,6 +36,7 @@ use Rattle.search_log.specs.Shares.{SharedState, known}
 use Rattle.settle_laws.specs.declared.found.Found.{Found}
 use Rattle.settle_laws.specs.declared.found.Found.TheVariants.{Settled}
 use Rattle.settle_laws.specs.declared.node.Node.{Node}
+use Rattle.settle_laws.specs.Explained.{Explains}
 use Rattle.settle_laws.specs.Founds.{IsRefuted, IsTarget, Searched}
 use Rattle.settle_laws.specs.Lines.{AddsLine, AreSorted, Concludes, IsConcluded, IsLined, Offered}
 use Rattle.settle_laws.specs.Stops.{IsWhole, stop_at}
@@ -43,16 +44,17 @@ use Rattle.settle_laws.specs.Ticked.{IsTicked}
 use Rattle.settle_laws.specs.Ticks.{OffersCost, Ticks, TicksBelow}
 use Rattle.settle_laws.specs.Trying.{AreTriedChoices, IsChild, Trying}
 use Rattle.settle_laws.specs.Worlds.{IsKeptRight, IsLeastOffered, IsPlain, Keeps, KeepsAtMost, World, world}
-use Rattle.settle_laws.proofs.Adding.{gains-none, gains-one, gains-trans, has-same}
+use Rattle.settle_laws.proofs.Adding.{gains-none, gains-one, gains-trans, has-same, has-trans}
 use Rattle.settle_laws.proofs.FullPrefixes.{cost-low, cost-own, dead-at-cost, same-plan}
 use Rattle.settle_laws.proofs.Keeping.{keeps-same, keeps-trans}
-use Rattle.settle_laws.proofs.LineParts.{branch-good, count-good}
+use Rattle.settle_laws.proofs.LineParts.{branch-good, count-good, names-same}
 use Rattle.settle_laws.proofs.NextPaths.{next-apart, next-short, next-small, prefix-short}
 use Rattle.settle_laws.proofs.Offering.{kept-lines, offered-cost, offered-keeps, offered-least, offers-floor}
 use Rattle.settle_laws.proofs.StopJoin.{counted-later, one-counted, one-offered, one-stop}
 use Rattle.settle_laws.proofs.TagCodes.{alive-at, tag-small}
 use Rattle.settle_laws.proofs.TickJoin.{first-tick, itself-before, one-tick, ticks-later}
 use Rattle.settle_laws.proofs.Tried.{tried-grow}
+use Rattle.settle_laws.proofs.Fewer.{tried-fewer}
 
 get-last : {X : Type 0} (xs : List X) (y : X) → slice_get (xs ++ y ∷ []) (length xs) ≡ Some y
 get-last [] y = refl
@@ -99,12 +101,12 @@ module _ (instance : Instance) (literals : List Literal) (old now : World) (keep
   line-ticks level refused t = ticks-later instance level literals old now (world now.fuel now.bound now.shared log) refused refl refl refl
       (λ tag h. subst (λ (l : LogState). KeepsAtMost l.best tag) (sym added) h) t
 
-  pub line-refutes : AreSorted instance literals line.lits → Implied instance (triple_from line.tag.code) line.lits → IsTagFor instance line.tag → (tag : ℕ) → tag ≤ line.tag.code → IsRefuted instance now.shared.copied log.lines literals (Own (length now.log.lines)) tag
-  line-refutes sorted implied own tag low = record {
+  pub line-refutes : (fewer : List Literal) → HasAll literals fewer → AreSorted instance fewer line.lits → Implied instance (triple_from line.tag.code) line.lits → IsTagFor instance line.tag → (tag : ℕ) → tag ≤ line.tag.code → IsRefuted instance now.shared.copied log.lines literals (Own (length now.log.lines)) tag
+  line-refutes fewer within sorted implied own tag low = record {
     content = content_of line;
     cited = (line, line-is, refl);
     reaches = low;
-    contained = sorted.only;
+    contained = has-trans line.lits fewer literals sorted.only within;
     served = record { lits = sorted.are; implied = implied };
     own = own;
   }
@@ -118,36 +120,41 @@ begun-one instance level prefix path index old now t = let l = t.begins.1 in ome
 
 -- ---- a Branch line after all choices were tried
 
-module _ (instance : Instance) (valid : IsInstance instance) (level : ℕ) (limit : level ≤ levels_of instance) (literals : List Literal) (prefix : IsPrefix instance literals) (partial : IsPartial instance literals) (old now : World) (node : Node) (trying : Trying instance level literals old now node) (done : node.choice ≡ node.count) (log : LogState) where
+module _ (instance : Instance) (valid : IsInstance instance) (level : ℕ) (limit : level ≤ levels_of instance) (literals : List Literal) (prefix : IsPrefix instance literals) (partial : IsPartial instance literals) (old now : World) (node : Node) (trying : Trying instance level literals old now node) (done : node.choice ≡ node.count) (log : LogState) (fewer : List Literal) (why : Explains instance now.log.lines literals fewer node) where
   node-own : IsTagFor instance node.tag
   node-own = tag-small instance level node.tag limit (omega (arith, trying.target))
 
-  module _ (found : Found) (adds : AddsLine instance literals node.tag (Some node.path) node.refs now.log log found) where
+  apart : names fewer node.path ≡ false
+  apart = names-same literals fewer node.path why.within (next-apart instance literals prefix node.path trying.next)
+
+  module _ (found : Found) (adds : AddsLine instance fewer node.tag (Some node.path) node.refs now.log log found) where
     tag-same : adds.line.tag.code ≡ node.tag.code
     tag-same = ap (λ (t : Tag). t.code) adds.tag_is
 
-    all-tried : AreTriedChoices instance now.shared.copied now.log.lines literals node.tag.code node.path (count_at instance node.path) node.refs
-    all-tried = subst (λ n. AreTriedChoices instance now.shared.copied now.log.lines literals node.tag.code node.path n node.refs) (done ∙ trying.counted) trying.choices
+    all-tried : AreTriedChoices instance now.shared.copied now.log.lines fewer node.tag.code node.path (count_at instance node.path) node.refs
+    all-tried = subst (λ n. AreTriedChoices instance now.shared.copied now.log.lines fewer node.tag.code node.path n node.refs) (done ∙ trying.counted)
+        (tried-fewer instance valid literals fewer why.partial node.path node.choice (next-small instance literals prefix node.path trying.next) (omega (arith, trying.within, trying.counted)) apart
+        now.shared.copied now.log.lines node.tag.code node-own node.refs trying.choices why.stay (λ i l. why.closed i (omega (arith, l, done))))
 
-    by-known : AreTriedChoices instance (known now.shared) now.log.lines literals node.tag.code node.path (count_at instance node.path) node.refs
-    by-known = tried-grow instance valid literals node.path now.shared.copied (known now.shared) now.log.lines now.log.lines (copied-known now.shared) (gains-none now.log.lines)
+    by-known : AreTriedChoices instance (known now.shared) now.log.lines fewer node.tag.code node.path (count_at instance node.path) node.refs
+    by-known = tried-grow instance valid fewer node.path now.shared.copied (known now.shared) now.log.lines now.log.lines (copied-known now.shared) (gains-none now.log.lines)
         node.tag.code node.tag.code node-own node-own (omega arith) (count_at instance node.path) node.refs all-tried
 
-    of-line : AreTriedChoices instance (known now.shared) now.log.lines literals adds.line.tag.code node.path (count_at instance node.path) adds.line.refs
-    of-line = subst (λ (t : Tag). AreTriedChoices instance (known now.shared) now.log.lines literals t.code node.path (count_at instance node.path) adds.line.refs) (sym adds.tag_is)
-        (subst (λ refs. AreTriedChoices instance (known now.shared) now.log.lines literals node.tag.code node.path (count_at instance node.path) refs) (sym adds.refs_are) by-known)
+    of-line : AreTriedChoices instance (known now.shared) now.log.lines fewer adds.line.tag.code node.path (count_at instance node.path) adds.line.refs
+    of-line = subst (λ (t : Tag). AreTriedChoices instance (known now.shared) now.log.lines fewer t.code node.path (count_at instance node.path) adds.line.refs) (sym adds.tag_is)
+        (subst (λ refs. AreTriedChoices instance (known now.shared) now.log.lines fewer node.tag.code node.path (count_at instance node.path) refs) (sym adds.refs_are) by-known)
 
     plain : IsPlain adds.line
     plain none = let e = adds.path_is in cc
 
     good : IsGoodLine instance (known now.shared) now.log.lines adds.line
-    good = branch-good instance valid literals partial (known now.shared) now.log.lines adds.line adds.sorted
+    good = branch-good instance valid fewer why.partial (known now.shared) now.log.lines adds.line adds.sorted
         (subst (λ (t : Tag). IsTagFor instance t) (sym adds.tag_is) node-own)
-        node.path (next-small instance literals prefix node.path trying.next) (next-apart instance literals prefix node.path trying.next) adds.path_is of-line
+        node.path (next-small instance literals prefix node.path trying.next) apart adds.path_is of-line
 
     implied : Implied instance (triple_from adds.line.tag.code) adds.line.lits
-    implied = Implied-more instance (triple_from adds.line.tag.code) literals adds.line.lits adds.sorted.has
-        (Implied-branch instance (triple_from adds.line.tag.code) literals node.path (next-small instance literals prefix node.path trying.next) of-line.implied)
+    implied = Implied-more instance (triple_from adds.line.tag.code) fewer adds.line.lits adds.sorted.has
+        (Implied-branch instance (triple_from adds.line.tag.code) fewer node.path (next-small instance literals prefix node.path trying.next) of-line.implied)
 
     branch-by : {E : Type 0} → Searched {E = E} instance level literals old (world now.fuel now.bound now.shared log) (Ok (Settled (Own (length now.log.lines)) node.tag))
     branch-by = record {
@@ -158,7 +165,7 @@ module _ (instance : Instance) (valid : IsInstance instance) (level : ℕ) (limi
         is_open = trying.is_open;
         target = trying.target;
         exact = λ same. absurd (omega (arith, trying.ticks.ticks.taken, begun-one instance level literals node.path node.choice old now trying.ticks));
-        refuted = line-refutes instance literals old now trying.keeps adds.line log adds.added adds.sorted implied (subst (λ (t : Tag). IsTagFor instance t) (sym adds.tag_is) node-own) node.tag.code (omega (arith, tag-same));
+        refuted = line-refutes instance literals old now trying.keeps adds.line log adds.added fewer why.within adds.sorted implied (subst (λ (t : Tag). IsTagFor instance t) (sym adds.tag_is) node-own) node.tag.code (omega (arith, tag-same));
         last = line-last instance literals old now trying.keeps adds.line log adds.added;
       };
       refused_at = [];
@@ -171,7 +178,7 @@ module _ (instance : Instance) (valid : IsInstance instance) (level : ℕ) (limi
     branch-found : {E : Type 0} → Searched {E = E} instance level literals old (world now.fuel now.bound now.shared log) (Ok found)
     branch-found {E} = subst (λ f. Searched {E = E} instance level literals old (world now.fuel now.bound now.shared log) (Ok f)) (sym adds.found_is) branch-by
 
-  pub branch-searched : {E : Type 0} → (result : Result Found E) → IsLined instance literals node.tag (Some node.path) node.refs now.log log result → Searched instance level literals old (world now.fuel now.bound now.shared log) result
+  pub branch-searched : {E : Type 0} → (result : Result Found E) → IsLined instance fewer node.tag (Some node.path) node.refs now.log log result → Searched instance level literals old (world now.fuel now.bound now.shared log) result
   branch-searched (Ok found) adds = branch-found found adds
   branch-searched (Err e) same = subst (λ l. Searched instance level literals old (world now.fuel now.bound now.shared l) (Err e)) (sym same) (record {
     keeps = trying.keeps;
@@ -236,7 +243,7 @@ module _ (instance : Instance) (valid : IsInstance instance) (level : ℕ) (with
         (subst (λ refs. AreTriedChoices instance now.shared.copied now.log.lines literals node.tag.code node.path 0 refs) (sym none) (record {
           ascending = λ i j d less small. absurd (omega arith);
           below = All-nil (λ (ref : ChoiceRef). ref.choice < 0);
-          children = All-nil (IsChild now.shared.copied now.log.lines literals node.tag.code node.path);
+          children = All-nil (IsChild instance now.shared.copied now.log.lines literals node.tag.code node.path);
           settled = λ i l. absurd (omega arith);
           implied = λ i l. absurd (omega arith);
         }));
@@ -299,7 +306,7 @@ module _ (instance : Instance) (valid : IsInstance instance) (level : ℕ) (with
             cost-low instance valid literals prefix full c.offered.plan c.offered.feasible.assignment c.offered.extends tag.code ticked.own still-judged,
           );
           exact = λ same. absurd (omega (arith, ticked.took));
-          refuted = line-refutes instance literals old (world now.fuel after now.shared c.kept) to-kept c.adds.line log c.adds.added c.adds.sorted full-implied full-own c.tag.code (omega (arith, ap (λ (t : Tag). t.code) c.adds.tag_is));
+          refuted = line-refutes instance literals old (world now.fuel after now.shared c.kept) to-kept c.adds.line log c.adds.added literals (has-same literals) c.adds.sorted full-implied full-own c.tag.code (omega (arith, ap (λ (t : Tag). t.code) c.adds.tag_is));
           last = line-last instance literals old (world now.fuel after now.shared c.kept) to-kept c.adds.line log c.adds.added;
         };
         refused_at = [];

@@ -9,6 +9,7 @@ pub mod FullPrefixes
 pub mod LineParts
 pub mod Offering
 pub mod Tried
+pub mod Fewer
 pub mod Ends
 pub mod Steps
 pub mod Opening

@@ -41,7 +41,7 @@ with-literal instance literals path index partial small below apart = one-more i
     (All-from_members (λ (b : Literal). path ≢ b.path) literals (λ b m e. true≢false (sym (eq-eqb b.path path (sym e)) ∙ none-member (λ (c : Literal). eqb c.path path) literals apart b m)))
     partial
 
-names-same : (pushed literals : List Literal) (path : ℕ) → HasAll pushed literals → names pushed path ≡ false → names literals path ≡ false
+pub names-same : (pushed literals : List Literal) (path : ℕ) → HasAll pushed literals → names pushed path ≡ false → names literals path ≡ false
 names-same pushed literals path only none = no-member (λ (a : Literal). eqb a.path path) literals (λ a m. none-member (λ (b : Literal). eqb b.path path) pushed none a (All-contains (Contains pushed) literals a only m))
 
 -- ---- what is cited, side by side
@@ -53,11 +53,11 @@ record Beside (rows : List KnownRow) (lines : List LogLine) (literals : List Lit
   contained : AllZip (IsChildOf path literals) refs contents
   reaches : All (λ content. tag ≤ content.tag) contents
 
-beside : (rows : List KnownRow) (lines : List LogLine) (pushed literals : List Literal) (tag path : ℕ) → HasAll literals pushed → (refs : List ChoiceRef) → All (IsChild rows lines pushed tag path) refs → Beside rows lines literals tag path refs
-beside rows lines pushed literals tag path has [] h = record { contents = []; cites = tt; contained = tt; reaches = All-nil (λ (content : Content). tag ≤ content.tag) }
-beside rows lines pushed literals tag path has (ref ∷ refs) h =
-    let first = All-head (IsChild rows lines pushed tag path) ref refs h in
-    let rest = beside rows lines pushed literals tag path has refs (All-tail (IsChild rows lines pushed tag path) ref refs h) in
+beside : (instance : Instance) (rows : List KnownRow) (lines : List LogLine) (pushed literals : List Literal) (tag path : ℕ) → HasAll literals pushed → (refs : List ChoiceRef) → All (IsChild instance rows lines pushed tag path) refs → Beside rows lines literals tag path refs
+beside instance rows lines pushed literals tag path has [] h = record { contents = []; cites = tt; contained = tt; reaches = All-nil (λ (content : Content). tag ≤ content.tag) }
+beside instance rows lines pushed literals tag path has (ref ∷ refs) h =
+    let first = All-head (IsChild instance rows lines pushed tag path) ref refs h in
+    let rest = beside instance rows lines pushed literals tag path has refs (All-tail (IsChild instance rows lines pushed tag path) ref refs h) in
     record {
       contents = first.content ∷ rest.contents;
       cites = (first.cited, rest.cites);
@@ -73,7 +73,7 @@ module _ (instance : Instance) (valid : IsInstance instance) (pushed : List Lite
 
   module _ (path : ℕ) (small : path < length instance.paths) (apart : names pushed path ≡ false) (path_is : line.path ≡ Some path) (tried : AreTriedChoices instance rows lines pushed line.tag.code path (count_at instance path) line.refs) where
     children : Beside rows lines line.lits line.tag.code path line.refs
-    children = beside rows lines pushed line.lits line.tag.code path sorted.has line.refs tried.children
+    children = beside instance rows lines pushed line.lits line.tag.code path sorted.has line.refs tried.children
 
     free : names line.lits path ≡ false
     free = names-same pushed line.lits path sorted.only apart

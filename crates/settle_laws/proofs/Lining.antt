@@ -24,6 +24,7 @@ use Rattle.settle_laws.specs.Lines.{AddsLine, IsLined}
 use Rattle.settle_laws.specs.Stops.{NoneFits}
 use Rattle.settle_laws.specs.Worlds.{World, world}
 use Rattle.settle_laws.proofs.Adding.{gains-one}
+use Rattle.settle_laws.proofs.Adding.{has-same}
 use Rattle.settle_laws.proofs.Ends.{line-adds, line-keeps, line-last, line-refutes, line-ticks}
 use Rattle.settle_laws.proofs.LineParts.{count-good}
 use Rattle.settle_laws.proofs.StopJoin.{counted-later}
@@ -99,7 +100,7 @@ module _ {E : Type 0} (instance : Instance) (valid : IsInstance instance) (level
           is_open = s.is.is_open;
           target = s.is.target;
           exact = λ same. s.is.exact;
-          refuted = line-refutes instance literals old now s.keeps adds.line log adds.added adds.sorted implied line-own tag.code (omega (arith, ap (λ (t : Tag). t.code) adds.tag_is));
+          refuted = line-refutes instance literals old now s.keeps adds.line log adds.added literals (has-same literals) adds.sorted implied line-own tag.code (omega (arith, ap (λ (t : Tag). t.code) adds.tag_is));
           last = line-last instance literals old now s.keeps adds.line log adds.added;
         },
         (λ same. inr (record {

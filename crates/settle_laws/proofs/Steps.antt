@@ -1,12 +1,21 @@
 -- One choice more is tried.
-use Rattle.std.proofs.Common.{◌≡◌, ◌⊎◌, inl, inr, ⊎_elim, ℕ, ◌+◌, ◌<◌, ◌≤◌, false, List, [], ◌∷◌, ◌++◌, length, Some, None, Result, Ok, Err, OnOk, refl, sym, ap, subst, ◌∙◌, arith}
+use Rattle.std.proofs.Common.{◌≡◌, ◌⊎◌, inl, inr, ⊎_elim, ℕ, ◌+◌, ◌<◌, ◌≤◌, true, false, eqb, Contains, List, [], ◌∷◌, ◌++◌, length, Some, None, Result, Ok, Err, OnOk, refl, sym, ap, subst, ◌∙◌, arith}
+use Rattle.std.specs.List.{slice_get}
+use Rattle.std.proofs.lemmas.Bool.{eq-eqb, true≢false}
+use Rattle.std.proofs.lemmas.List.{length-append}
+use Rattle.std.proofs.lemmas.List.Elements.{All-contains, Contains-append_cases}
+use Rattle.fapp_model.proofs.Anys.{none-member}
+use Rattle.fapp_model.proofs.Members.{All-from_members, front_or_behind, no_member}
+use Rattle.log_laws.specs.declared.line.LogLine.{LogLine}
+use Rattle.log_laws.specs.declared.line.Ref.TheVariants.{Own}
+use Rattle.log_laws.specs.Contents.{Cites, Content}
 use Rattle.fapp_model.specs.declared.instance.Instance.{Instance}
 use Rattle.fapp_model.specs.declared.literal.Literal.{Literal}
 use Rattle.fapp_model.specs.declared.tag.Tag.{Tag}
 use Rattle.fapp_model.specs.Assignments.{count_at}
 use Rattle.fapp_model.specs.Instances.{IsInstance}
 use Rattle.fapp_model.specs.Levels.{levels_of}
-use Rattle.fapp_model.specs.search.Partials.{IsPartial, literal, names}
+use Rattle.fapp_model.specs.search.Partials.{HasAll, IsPartial, literal, names}
 use Rattle.fapp_model.specs.search.Prefixes.{IsPrefix}
 use Rattle.log_laws.specs.declared.line.ChoiceRef.{ChoiceRef}
 use Rattle.log_laws.specs.declared.line.Ref.{Ref}
@@ -35,6 +44,9 @@ noted-as node new (FoundDead tag) notes = inl (tag, refl, notes.1)
 noted-as node new (Settled line tag) notes = inr (line, tag, refl, notes.1)
 noted-as node new (Moot seen) notes = cc
 noted-as node new Spent notes = cc
+
+only-one : (a b : Literal) → Contains (a ∷ []) b → b ≡ a
+only-one a b m = ⊎_elim (λ e. sym e) (λ later. absurd (no_member b later)) (front_or_behind a [] b m)
 
 module _ (instance : Instance) (level : ℕ) (literals : List Literal) (old here now : World) (node : Node) (trying : Trying instance level literals old here node) where
   abbrev pub with-choice : List Literal
@@ -78,6 +90,38 @@ module _ (instance : Instance) (level : ℕ) (literals : List Literal) (old here
   ends (Ok (Moot seen)) none s = end-as (Ok (Moot seen)) s s.is
   ends (Ok Spent) none s = end-as (Ok Spent) s s.is
   ends (Err e) none s = end-as (Err e) s tt
+
+  -- what a line of the log says with the choice it says without, where it doesn't name the path
+  without-choice : (lits : List Literal) → HasAll with-choice lits → names lits node.path ≡ false → HasAll literals lits
+  without-choice lits contained free = All-from_members (Contains literals) lits (λ a m. ⊎_elim
+      (λ l. l)
+      (λ r. absurd (true≢false (sym (eq-eqb a.path node.path (ap (λ (x : Literal). x.path) (only-one (literal node.path node.choice) a r))) ∙ none-member (λ (x : Literal). eqb x.path node.path) lits free a m)))
+      (Contains-append_cases literals (literal node.path node.choice ∷ []) a (All-contains (Contains with-choice) lits a contained m)))
+
+  free-content : (lines : List LogLine) (n : ℕ) (line : LogLine) (content : Content) → slice_get lines n ≡ Some line → names line.lits node.path ≡ false → (cited : Cites [] lines (Own n) content) → names content.lits node.path ≡ false
+  free-content lines n line content there free cited =
+      let same : line ≡ cited.0 = let e = sym there ∙ cited.1 in cc in
+      subst (λ (c : Content). names c.lits node.path ≡ false) (sym cited.2) (subst (λ (l : LogLine). names l.lits node.path ≡ false) same free)
+
+  -- a line of the log settles the literals with the choice, and doesn't name the path: it settles them at once
+  pub jumps : {E : Type 0} → (n : ℕ) (tag : Tag) (line : LogLine) → slice_get now.log.lines n ≡ Some line → names line.lits node.path ≡ false →
+      Searched {E = E} instance level with-choice here now (Ok (Settled (Own n) tag)) → Searched {E = E} instance level literals old now (Ok (Settled (Own n) tag))
+  jumps n tag line there free s =
+      let grown : length old.log.lines ≤ length here.log.lines = omega (arith, ap length trying.keeps.lines.are, length-append old.log.lines trying.keeps.lines.more) in
+      end-as (Ok (Settled (Own n) tag)) s (record {
+        is_open = s.is.is_open;
+        target = s.is.target;
+        exact = λ same. absurd (omega (arith, trying.fewer, s.keeps.fuel, grown));
+        refuted = record {
+          content = s.is.refuted.content;
+          cited = s.is.refuted.cited;
+          reaches = s.is.refuted.reaches;
+          contained = without-choice s.is.refuted.content.lits s.is.refuted.contained (free-content now.log.lines n line s.is.refuted.content there free s.is.refuted.cited);
+          served = s.is.refuted.served;
+          own = s.is.refuted.own;
+        };
+        last = (omega (arith, s.is.last.0, grown), s.is.last.1);
+      })
 
   -- there was no memory to note it
   pub ends-unnoted : {E : Type 0} → (found : Found) → Searched {E = E} instance level with-choice here now (Ok found) → refused {E = E} (Ok found) ≡ 0 → (e : E) → Searched instance level literals old now (Err e)

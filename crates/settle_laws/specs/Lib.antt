@@ -5,6 +5,7 @@ pub mod Ticks
 pub mod Founds
 pub mod Ticked
 pub mod Trying
+pub mod Explained
 pub mod OpenNodes
 pub mod Lines
 pub mod Noted

@@ -1,13 +1,18 @@
 -- What the steps of a search do to the nodes that are open.
-use Rattle.std.proofs.Common.{◌≡◌, ℕ, ◌+◌, ◌-◌, ◌<◌, ◌≤◌, ◌^◌, List, [], ◌∷◌, ◌++◌, length, take, Option, Some, None, Result, Ok, Err, refl, sym, ap, subst, ◌∙◌, arith, sum_by}
+use Rattle.std.proofs.Common.{◌≡◌, ℕ, zero, suc, ◌+◌, ◌-◌, ◌<◌, ◌≤◌, ◌^◌, Bool, true, false, not, IsTrue, List, [], ◌∷◌, ◌++◌, length, take, Option, Some, None, Result, Ok, Err, refl, sym, ap, subst, ◌∙◌, arith, sum_by}
 use Rattle.std.specs.Result.{IsErr}
 use Rattle.std.proofs.lemmas.List.{length-append, take-append-le, take_all}
 use Rattle.std.proofs.lemmas.List.Sums.{sum_by_push}
+use Rattle.std.proofs.lemmas.Option.{slice_get_within}
 use Rattle.fapp_model.specs.declared.instance.Instance.{Instance}
+use Rattle.std.specs.List.{slice_get}
 use Rattle.fapp_model.specs.declared.literal.Literal.{Literal}
+use Rattle.fapp_model.specs.declared.tag.Tag.{Tag}
+use Rattle.log_laws.specs.declared.line.LogLine.{LogLine}
+use Rattle.log_laws.specs.declared.line.Ref.TheVariants.{Own}
 use Rattle.fapp_model.specs.Instances.{IsInstance}
 use Rattle.fapp_model.specs.Levels.{levels_of}
-use Rattle.fapp_model.specs.search.Partials.{literal}
+use Rattle.fapp_model.specs.search.Partials.{literal, names}
 use Rattle.fapp_model.specs.search.Prefixes.{IsPrefix}
 use Rattle.cert_lines.proofs.ListLaws.{few_choices}
 use Rattle.search_log.specs.LogStates.{LogState}
@@ -15,6 +20,7 @@ use Rattle.tries_laws.proofs.PrefixParts.{prefix-is_partial}
 use Rattle.settle_laws.specs.declared.found.Found.{Found}
 use Rattle.settle_laws.specs.declared.found.Found.TheVariants.{Dead, Settled, Moot, Spent}
 use Rattle.settle_laws.specs.declared.node.Node.{Node}
+use Rattle.settle_laws.specs.Explained.{Explains}
 use Rattle.settle_laws.specs.Founds.{Searched, refused}
 use Rattle.settle_laws.specs.Lines.{IsLined}
 use Rattle.settle_laws.specs.Noted.{IsEnding, Notes}
@@ -24,7 +30,7 @@ use Rattle.settle_laws.specs.Worlds.{World, world}
 use Rattle.settle_laws.proofs.Ends.{branch-searched}
 use Rattle.settle_laws.proofs.NextPaths.{next-small}
 use Rattle.settle_laws.proofs.Opening.{Passing, open-end, open-map, open-out, open-pop, open-prefix, open-push}
-use Rattle.settle_laws.proofs.Steps.{ends, ends-unnoted, goes-on}
+use Rattle.settle_laws.proofs.Steps.{ends, ends-unnoted, goes-on, jumps}
 use Rattle.subtree_search.specs.Walks.{work_left}
 use Rattle.subtree_search.specs.Steps.{ComesTo, IsAdvanced, IsBack, IsNoted, IsVisited}
 
@@ -39,10 +45,23 @@ snoc-same (a ∷ xs) (b ∷ ys) x y e =
     (ap (λ zs. a ∷ zs) r.0 ∙ ap (λ z. z ∷ ys) first, r.1)
 
 -- what a literal pushed and taken back leaves
-pub front-of : (xs : List Literal) (a : Literal) (ys : List Literal) → ys ≡ xs ++ a ∷ [] → take (length ys - 1) ys ≡ xs
+pub front-of : {X : Type 0} → (xs : List X) (a : X) (ys : List X) → ys ≡ xs ++ a ∷ [] → take (length ys - 1) ys ≡ xs
 front-of xs a ys e = subst (λ zs. take (length zs - 1) zs ≡ xs) (sym e)
     (let short : length (xs ++ a ∷ []) - 1 ≡ length xs = omega (arith, length-append xs (a ∷ [])) in
     ap (λ n. take n (xs ++ a ∷ [])) short ∙ (take-append-le (length xs) xs (a ∷ []) (omega arith) ∙ take_all (length xs) xs (omega arith)))
+
+last-at : {X : Type 0} → (xs : List X) (x : X) (n : ℕ) → slice_get xs n ≡ Some x → length xs ≡ n + 1 → xs ≡ take n xs ++ x ∷ []
+last-at [] x n e l = absurd (omega (arith, l))
+last-at (y ∷ []) x zero e l = cc
+last-at (y ∷ z ∷ zs) x zero e l = absurd (omega (arith, l))
+last-at (y ∷ ys) x (suc n) e l = ap (λ ws. y ∷ ws) (last-at ys x n e (omega (arith, l)))
+
+pub last-of : {X : Type 0} → (xs : List X) (x : X) → slice_get xs (length xs - 1) ≡ Some x → xs ≡ take (length xs - 1) xs ++ x ∷ []
+last-of xs x e = last-at xs x (length xs - 1) e (omega (arith, slice_get_within xs (length xs - 1) x e))
+
+pub not-false : (b : Bool) → IsTrue (not b) → b ≡ false
+not-false false t = refl
+not-false true t = cc
 
 -- the innermost literals
 pub record Innermost (instance : Instance) (level : ℕ) (pushed : List Literal) (now : World) (node : Node) : Type 0 where
@@ -72,14 +91,14 @@ module _ (instance : Instance) (level : ℕ) (root : List Literal) (from : World
 
   module _ (valid : IsInstance instance) (within : level ≤ levels_of instance) (outer : List Node) (node : Node) (pushed : List Literal) (now : World) (h : OpenTo (Tries pushed now node) instance level root from outer) where
     -- the node is closed
-    module _ {E : Type 0} (done : node.choice ≡ node.count) (log : LogState) (result : Result Found E) (lined : IsLined instance pushed node.tag (Some node.path) node.refs now.log log result) where
+    module _ {E : Type 0} (done : node.choice ≡ node.count) (log : LogState) (result : Result Found E) (fewer : List Literal) (why : Explains instance now.log.lines pushed fewer node) (lined : IsLined instance fewer node.tag (Some node.path) node.refs now.log log result) where
       closes : OpenTo (λ reached entered. (pushed ≡ reached) × Searched instance level reached entered (world now.fuel now.bound now.shared log) result) instance level root from outer
       closes = open-map instance level (λ reached entered. IsPrefix instance reached × Tries pushed now node reached entered)
           (λ reached entered. (pushed ≡ reached) × Searched instance level reached entered (world now.fuel now.bound now.shared log) result)
           (λ reached entered p. (
             p.1.0,
-            branch-searched instance valid level within reached p.0 (prefix-is_partial instance reached p.0) entered now node p.1.1 done log result
-                (subst (λ lits. IsLined instance lits node.tag (Some node.path) node.refs now.log log result) p.1.0 lined),
+            branch-searched instance valid level within reached p.0 (prefix-is_partial instance reached p.0) entered now node p.1.1 done log fewer
+                (subst (λ lits. Explains instance now.log.lines lits fewer node) p.1.0 why) result lined,
           ))
           outer root from (open-prefix instance level (Tries pushed now node) outer root from prefix h)
 
@@ -197,7 +216,24 @@ module _ (E : Type 0) (instance : Instance) (level : ℕ) (root : List Literal) 
       (λ reached entered p. ends-unnoted instance level reached entered p.1.0 now node p.1.1 found p.1.3.1 none e)
       outer root from passed)
 
+  -- a line that doesn't name the node's path settles the node as well
+  pub jumps-over : (n : ℕ) (tag : Tag) (line : LogLine) → found ≡ Settled (Own n) tag → slice_get now.log.lines n ≡ Some line → names line.lits node.path ≡ false → (shorter : List Literal) → shorter ≡ take (length pushed - 1) pushed → ComesTo {E = E} instance level root from outer shorter now (Ok found)
+  jumps-over n tag line same there free shorter popped = open-map instance level Passed (λ reached entered. (shorter ≡ reached) × Searched {E = E} instance level reached entered now (Ok found))
+      (λ reached entered p. (
+        popped ∙ front-of reached (literal node.path node.choice) pushed p.1.3.0,
+        subst (λ f. Searched {E = E} instance level reached entered now (Ok f)) (sym same)
+            (jumps instance level reached entered p.1.0 now node p.1.1 n tag line there free
+            (subst (λ f. Searched {E = E} instance level (reached ++ literal node.path node.choice ∷ []) p.1.0 now (Ok f)) same p.1.3.1)),
+      ))
+      outer root from passed
+
 -- ---- what is left to do
+
+pub fewer-nodes : (nodes outer : List Node) (node : Node) → nodes ≡ outer ++ node ∷ [] → (fuel : ℕ) → work_left fuel outer ≤ work_left fuel nodes
+fewer-nodes nodes outer node e fuel =
+    let w : Node → ℕ = λ n. n.count - n.choice + 1 in
+    let before : sum_by w nodes ≡ sum_by w outer + (node.count - node.choice + 1) = ap (sum_by w) e ∙ sum_by_push w outer node in
+    omega (arith, before)
 
 goes-lighter : (node new : Node) (found : Found) → Notes node new found None → node.choice < node.count → new.count - new.choice < node.count - node.choice
 goes-lighter node new (Dead tag) notes less = omega (arith, notes.1.choice_is, notes.1.count_is)

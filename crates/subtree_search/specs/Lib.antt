@@ -1,3 +1,4 @@
+pub mod Explaining
 pub mod Entries
 pub mod Plans
 pub mod Walks

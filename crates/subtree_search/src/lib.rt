@@ -2,6 +2,7 @@
 #![tactic(auto)]
 
 mod enter;
+mod explain;
 mod job;
 mod lines;
 mod node;

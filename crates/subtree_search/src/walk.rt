@@ -1,8 +1,9 @@
 // The search from the literals that are pushed on.
-ghost use Rattle.std.specs.Prelude.{◌≡◌, ◌↔◌, [], IfOk, List, length};
+ghost use Rattle.std.specs.Prelude.{◌≡◌, ◌↔◌, ◌≤◌, ◌∷◌, ◌++◌, false, ℕ, [], IfOk, IsTrue, List, length};
 ghost use Rattle.std.specs.declared.alloc.AllocError.{AllocError};
 ghost use Rattle.fapp_model.specs.declared.instance.Instance.{Instance};
 ghost use Rattle.fapp_model.specs.declared.literal.Literal.{Literal};
+ghost use Rattle.fapp_model.specs.search.Partials.{names};
 ghost use Rattle.fapp_model.specs.search.Prefixes.{IsPrefix};
 ghost use Rattle.count_laws.specs.ForwardStates.{with_literals};
 ghost use Rattle.settle_laws.specs.Founds.{Searched};
@@ -12,11 +13,12 @@ ghost use Rattle.subtree_search.specs.Walks.{IsReady, work_left};
 ghost use Rattle.subtree_search.specs.Steps.{ComesTo, IsAdvanced, IsBack, IsNoted, IsVisited, Lightens, NotesLess};
 
 use crate::enter::{Entry, enter};
-use crate::lines::{add_line, conclude};
+use crate::explain::{Scratch, add_explained, names_path};
+use crate::lines::conclude;
 use crate::node::note_choice;
-use fapp_model::{Items, NoMemory, choice_count};
+use fapp_model::{Items, Literal, NoMemory, choice_count};
 use forward_count::Forward;
-use search_log::{Bound, Fuel, Log, Shared};
+use search_log::{Bound, Fuel, Log, Ref, Shared};
 use settle_laws::{Found, Node};
 use std::alloc::Global;
 
@@ -30,6 +32,8 @@ pub struct Walk {
     pub nodes: Vec<Node>,
     /// Room for an assignment: a choice for each path.
     pub plan: Vec<u16>,
+    /// Room for explanations.
+    pub scratch: Scratch,
 }
 
 impl Walk {
@@ -39,11 +43,13 @@ impl Walk {
     {
         let nodes = Vec::with_capacity(alloc, paths)?;
         let plan = vec![in alloc; 0; paths]?;
+        let scratch = Scratch::new(alloc, paths)?;
         Ok(Walk {
             alloc,
             level,
             nodes,
             plan,
+            scratch,
         })
     }
 }
@@ -91,7 +97,7 @@ fn visit<B: Bound, H: Shared>(
 
 /// Tries the innermost node's next choice, or closes it with a line where none is left. None comes where a node more is
 /// open then.
-fn advance<B: Bound, H: Shared>(
+fn try_next<B: Bound, H: Shared>(
     walk: &mut Walk,
     forward: &mut Forward,
     fuel: &mut Fuel,
@@ -116,19 +122,78 @@ fn advance<B: Bound, H: Shared>(
         unreachable!()
     };
     if node.choice >= node.count {
-        let found = add_line(
-            walk.alloc,
-            node.tag,
-            Some(node.path),
-            node.refs,
-            forward,
-            log,
-        )?;
+        let found = add_explained(walk.alloc, &mut walk.scratch, node, forward, log)?;
         return Ok(Some(found));
     }
     forward.push(node.path, node.choice as u16);
     walk.nodes.push(node)?;
     visit(walk, forward, fuel, bound, shared, log)
+}
+
+/// Leaves the innermost nodes whose paths the line doesn't name that settles their choices: it settles them too.
+fn jump(walk: &mut Walk, forward: &mut Forward, found: Found, log: &Log)
+    requires ready { IsReady forward.old.instance walk.old }
+    requires coming { (root : List Literal) × (from : World) × (now : World) × IsPrefix forward.old.instance root × (now.log ≡ log.now) × ComesTo {E = AllocError} forward.old.instance walk.old.level root from walk.old.nodes.items forward.old.pushed now (Ok found) }
+    ensures ready { IsReady forward.old.instance walk.new }
+    ensures level { walk.new.level ≡ walk.old.level }
+    ensures front { forward.new ≡ with_literals forward.old forward.new.pushed }
+    ensures comes { (root : List Literal) (from now : World) → IsPrefix forward.old.instance root → now.log ≡ log.now → ComesTo {E = AllocError} forward.old.instance walk.old.level root from walk.old.nodes.items forward.old.pushed now (Ok found) →
+        ComesTo {E = AllocError} forward.old.instance walk.old.level root from walk.new.nodes.items forward.new.pushed now (Ok found) }
+    ensures lighter { (fuel : ℕ) → work_left fuel walk.new.nodes.items ≤ work_left fuel walk.old.nodes.items }
+{
+    let Found::Settled { line, .. } = found else {
+        return;
+    };
+    let Ref::Own(place) = line else {
+        return;
+    };
+    let Some(line) = log.lines().get(place as usize) else {
+        return;
+    };
+    while is_passed(&walk.nodes, line.lits.as_slice()) {
+        walk.nodes.pop();
+        forward.pop();
+    }
+}
+
+/// Whether there is an innermost node and some literals don't name its path.
+fn is_passed(nodes: &[Node], literals: &[Literal]) -> bool
+    ensures { IsTrue result → (outer : List Node) × (node : Node) × (nodes.now ≡ outer ++ node ∷ []) × (names literals.now node.path ≡ false) }
+{
+    match nodes.last() {
+        Some(node) => !names_path(literals, node.path),
+        None => false,
+    }
+}
+
+/// Tries the innermost node's next choice or closes it, and leaves the nodes that what was found settles as well. None
+/// comes where a node more is open then.
+fn advance<B: Bound, H: Shared>(
+    walk: &mut Walk,
+    forward: &mut Forward,
+    fuel: &mut Fuel,
+    bound: &mut B,
+    shared: &mut H,
+    log: &mut Log,
+) -> Result<Option<Found>, NoMemory>
+    requires ready { IsReady forward.old.instance walk.old }
+    requires serves { H.serves shared.old forward.old.instance }
+    requires trying { (root : List Literal) × (from : World) × IsPrefix forward.old.instance root × IsTrying forward.old.instance walk.old.level root from walk.old.nodes.items forward.old.pushed
+        (world fuel.old.amount (B.state bound.old) (H.state shared.old) log.old) }
+    ensures ready { IsReady forward.old.instance walk.new }
+    ensures level { walk.new.level ≡ walk.old.level }
+    ensures serves { (instance : Instance) → H.serves shared.old instance ↔ H.serves shared.new instance }
+    ensures front { forward.new ≡ with_literals forward.old forward.new.pushed }
+    ensures advanced { (root : List Literal) (from : World) → IsPrefix forward.old.instance root → IsTrying forward.old.instance walk.old.level root from walk.old.nodes.items forward.old.pushed
+        (world fuel.old.amount (B.state bound.old) (H.state shared.old) log.old) → IsAdvanced forward.old.instance walk.old.level root from walk.new.nodes.items forward.new.pushed
+        (world fuel.new.amount (B.state bound.new) (H.state shared.new) log.new) result }
+    ensures lighter { Lightens (work_left fuel.old.amount walk.old.nodes.items) (work_left fuel.new.amount walk.new.nodes.items) result }
+{
+    let Some(found) = try_next(walk, forward, fuel, bound, shared, log)? else {
+        return Ok(None);
+    };
+    jump(walk, forward, found, log);
+    Ok(Some(found))
 }
 
 /// Notes what was found of the choice that was tried at the innermost node. Where no node is open, or the search is

@@ -1,87 +1,37 @@
-use Rattle.std.proofs.Common.{◌≡◌, Err, Ok, sym, ap, subst, arith}
-use Rattle.cert_lines.proofs.ListLaws.{few_choices}
-use Rattle.count_laws.specs.ForwardStates.{ForwardState}
+use Rattle.std.proofs.Common.{◌≡◌, ◌≤◌, Ok, Some, refl, sym, ap, subst, ◌∙◌, arith}
+use Rattle.std.specs.declared.alloc.AllocError.{AllocError}
 use Rattle.fapp_model.specs.search.Prefixes.{IsPrefix}
+use Rattle.count_laws.specs.ForwardStates.{ForwardState}
 use Rattle.settle_laws.specs.Worlds.{world}
-use Rattle.settle_laws.proofs.NextPaths.{next-apart, next-prefix, next-small}
-use Rattle.subtree_search.specs.Steps.{IsVisited}
-use Rattle.subtree_search.proofs.Advancing.{advanced-err, closes-ending, closes-to, innermost, trying-at, visits}
+use Rattle.subtree_search.specs.Steps.{ComesTo, IsAdvanced, Lightens}
+use Rattle.subtree_search.specs.Walks.{work_left}
 use Rattle.subtree_search.proofs.walk.advance.Goals as goal
 
-pub returns-in_err-found-clause-advanced : goal.returns-in_err-found-clause-advanced
-returns-in_err-found-clause-advanced g c =
-    let f = c.args.forward.now in
-    let now = world c.args.fuel.now.amount (g.B.Bound.state c.args.bound.now) (g.H.Shared.state c.args.shared.now) c.args.log.now in
-    λ root from prefix trying.
-    let h = trying-at f.instance c.args.walk.now.level root from prefix c.args.walk.now.nodes.items c.pop.new.self.items c.in-Some.node f.pushed now c.in-Some.ensures.items trying in
-    let inner = innermost f.instance c.args.walk.now.level root from prefix c.pop.new.self.items c.in-Some.node f.pushed now h in
-    advanced-err f.instance c.args.walk.now.level root from c.pop.new.self.items f.pushed (world c.args.fuel.now.amount (g.B.Bound.state c.args.bound.now) (g.H.Shared.state c.args.shared.now) c.add_line.new.log) c.from_residual.result c.from_residual.ensures.0
-    (λ e. closes-ending f.instance c.args.walk.now.level root from prefix c.requires.ready.valid c.requires.ready.level c.pop.new.self.items c.in-Some.node f.pushed now h (omega (arith, inner.trying.within, c.if-node.true)) c.add_line.new.log (Err e) c.in_err-found.ensures tt)
-
-pub returns-then-node-clause-advanced : goal.returns-then-node-clause-advanced
-returns-then-node-clause-advanced g c =
-    let f = c.args.forward.now in
-    let now = world c.args.fuel.now.amount (g.B.Bound.state c.args.bound.now) (g.H.Shared.state c.args.shared.now) c.args.log.now in
-    λ root from prefix trying.
-    let h = trying-at f.instance c.args.walk.now.level root from prefix c.args.walk.now.nodes.items c.pop.new.self.items c.in-Some.node f.pushed now c.in-Some.ensures.items trying in
-    let inner = innermost f.instance c.args.walk.now.level root from prefix c.pop.new.self.items c.in-Some.node f.pushed now h in
-    closes-to f.instance c.args.walk.now.level root from prefix c.requires.ready.valid c.requires.ready.level c.pop.new.self.items c.in-Some.node f.pushed now h (omega (arith, inner.trying.within, c.if-node.true)) c.add_line.new.log (Ok c.in_ok-found.found) c.in_ok-found.ensures
-
-pub overflow_cast-node : goal.overflow_cast-node
-overflow_cast-node g c =
-    let f = c.args.forward.now in
-    let now = world c.args.fuel.now.amount (g.B.Bound.state c.args.bound.now) (g.H.Shared.state c.args.shared.now) c.args.log.now in
+pub jump-requires-clause-coming : goal.jump-requires-clause-coming
+jump-requires-clause-coming g c =
     let t = c.requires.trying in
-    let h = trying-at f.instance c.args.walk.now.level t.0 t.1 t.2 c.args.walk.now.nodes.items c.pop.new.self.items c.in-Some.node f.pushed now c.in-Some.ensures.items t.3 in
-    let inner = innermost f.instance c.args.walk.now.level t.0 t.1 t.2 c.pop.new.self.items c.in-Some.node f.pushed now h in
-    let few = few_choices f.instance c.requires.ready.valid c.in-Some.node.path (next-small f.instance f.pushed inner.prefix c.in-Some.node.path inner.trying.next) in
-    omega (arith, few, inner.trying.counted, c.if-node.false)
-
-pub push-requires-clause-path : goal.push-requires-clause-path
-push-requires-clause-path g c =
-    let f = c.args.forward.now in
-    let now = world c.args.fuel.now.amount (g.B.Bound.state c.args.bound.now) (g.H.Shared.state c.args.shared.now) c.args.log.now in
-    let t = c.requires.trying in
-    let h = trying-at f.instance c.args.walk.now.level t.0 t.1 t.2 c.args.walk.now.nodes.items c.pop.new.self.items c.in-Some.node f.pushed now c.in-Some.ensures.items t.3 in
-    let inner = innermost f.instance c.args.walk.now.level t.0 t.1 t.2 c.pop.new.self.items c.in-Some.node f.pushed now h in
-    next-small f.instance f.pushed inner.prefix c.in-Some.node.path inner.trying.next
-
-pub push-requires-clause-choice : goal.push-requires-clause-choice
-push-requires-clause-choice g c =
-    let f = c.args.forward.now in
-    let now = world c.args.fuel.now.amount (g.B.Bound.state c.args.bound.now) (g.H.Shared.state c.args.shared.now) c.args.log.now in
-    let t = c.requires.trying in
-    let h = trying-at f.instance c.args.walk.now.level t.0 t.1 t.2 c.args.walk.now.nodes.items c.pop.new.self.items c.in-Some.node f.pushed now c.in-Some.ensures.items t.3 in
-    let inner = innermost f.instance c.args.walk.now.level t.0 t.1 t.2 c.pop.new.self.items c.in-Some.node f.pushed now h in
-    omega (arith, inner.trying.counted, c.if-node.false)
-
-pub push-requires-clause-free : goal.push-requires-clause-free
-push-requires-clause-free g c =
-    let f = c.args.forward.now in
-    let now = world c.args.fuel.now.amount (g.B.Bound.state c.args.bound.now) (g.H.Shared.state c.args.shared.now) c.args.log.now in
-    let t = c.requires.trying in
-    let h = trying-at f.instance c.args.walk.now.level t.0 t.1 t.2 c.args.walk.now.nodes.items c.pop.new.self.items c.in-Some.node f.pushed now c.in-Some.ensures.items t.3 in
-    let inner = innermost f.instance c.args.walk.now.level t.0 t.1 t.2 c.pop.new.self.items c.in-Some.node f.pushed now h in
-    next-apart f.instance f.pushed inner.prefix c.in-Some.node.path inner.trying.next
-
-pub visit-requires-clause-prefix : goal.visit-requires-clause-prefix
-visit-requires-clause-prefix g c =
-    let f = c.args.forward.now in
-    let now = world c.args.fuel.now.amount (g.B.Bound.state c.args.bound.now) (g.H.Shared.state c.args.shared.now) c.args.log.now in
-    let t = c.requires.trying in
-    let h = trying-at f.instance c.args.walk.now.level t.0 t.1 t.2 c.args.walk.now.nodes.items c.pop.new.self.items c.in-Some.node f.pushed now c.in-Some.ensures.items t.3 in
-    let inner = innermost f.instance c.args.walk.now.level t.0 t.1 t.2 c.pop.new.self.items c.in-Some.node f.pushed now h in
-    subst (λ (s : ForwardState). IsPrefix s.instance s.pushed) (sym c.push.ensures)
-    (next-prefix f.instance f.pushed inner.prefix c.in-Some.node.path inner.trying.next c.in-Some.node.choice (omega (arith, inner.trying.counted, c.if-node.false)))
+    let now = world c.try_next.new.fuel.amount (g.B.Bound.state c.try_next.new.bound) (g.H.Shared.state c.try_next.new.shared) c.try_next.new.log in
+    let came = subst (λ o. IsAdvanced {E = AllocError} c.args.forward.now.instance c.args.walk.now.level t.0 t.1 c.try_next.new.walk.nodes.items c.try_next.new.forward.pushed now (Ok o)) c.in-Some.is (c.in_ok-found.ensures.advanced t.0 t.1 t.2 t.3) in (
+      t.0,
+      t.1,
+      now,
+      subst (λ (s : ForwardState). IsPrefix s.instance t.0) (sym c.try_next.ensures.front) t.2,
+      refl,
+      subst (λ l. ComesTo {E = AllocError} c.try_next.new.forward.instance l t.0 t.1 c.try_next.new.walk.nodes.items c.try_next.new.forward.pushed now (Ok c.in-Some.found)) (sym c.try_next.ensures.level)
+          (subst (λ (s : ForwardState). ComesTo {E = AllocError} s.instance c.args.walk.now.level t.0 t.1 c.try_next.new.walk.nodes.items c.try_next.new.forward.pushed now (Ok c.in-Some.found)) (sym c.try_next.ensures.front) came),
+    )
 
 pub returns-clause-advanced : goal.returns-clause-advanced
-returns-clause-advanced g c =
-    let f = c.args.forward.now in
-    let now = world c.args.fuel.now.amount (g.B.Bound.state c.args.bound.now) (g.H.Shared.state c.args.shared.now) c.args.log.now in
-    let after = world c.visit.new.fuel.amount (g.B.Bound.state c.visit.new.bound) (g.H.Shared.state c.visit.new.shared) c.visit.new.log in
-    let same : c.push.new.self.instance ≡ f.instance = ap (λ (s : ForwardState). s.instance) c.push.ensures in
-    λ root from prefix trying.
-    let h = trying-at f.instance c.args.walk.now.level root from prefix c.args.walk.now.nodes.items c.pop.new.self.items c.in-Some.node f.pushed now c.in-Some.ensures.items trying in
-    visits f.instance c.args.walk.now.level root from prefix c.requires.ready.valid c.requires.ready.level c.pop.new.self.items c.in-Some.node f.pushed now h c.if-node.false
-    c.push.new.self.pushed (ap (λ (s : ForwardState). s.pushed) c.push.ensures) c.push-2.new.self.items c.in_ok-push.ensures.items c.visit.new.walk.nodes.items after c.visit.result
-    (subst (λ i. IsVisited i c.args.walk.now.level c.push.new.self.pushed c.push-2.new.self.items c.visit.new.walk.nodes.items now after c.visit.result) same c.visit.ensures.visited)
+returns-clause-advanced g c = λ root from prefix trying.
+    let now = world c.try_next.new.fuel.amount (g.B.Bound.state c.try_next.new.bound) (g.H.Shared.state c.try_next.new.shared) c.try_next.new.log in
+    let came = subst (λ o. IsAdvanced {E = AllocError} c.args.forward.now.instance c.args.walk.now.level root from c.try_next.new.walk.nodes.items c.try_next.new.forward.pushed now (Ok o)) c.in-Some.is (c.in_ok-found.ensures.advanced root from prefix trying) in
+    subst (λ (s : ForwardState). ComesTo {E = AllocError} s.instance c.args.walk.now.level root from c.jump.new.walk.nodes.items c.jump.new.forward.pushed now (Ok c.in-Some.found)) c.try_next.ensures.front
+    (subst (λ l. ComesTo {E = AllocError} c.try_next.new.forward.instance l root from c.jump.new.walk.nodes.items c.jump.new.forward.pushed now (Ok c.in-Some.found)) c.try_next.ensures.level
+    (c.jump.ensures.comes root from now (subst (λ (s : ForwardState). IsPrefix s.instance root) (sym c.try_next.ensures.front) prefix) refl
+    (subst (λ l. ComesTo {E = AllocError} c.try_next.new.forward.instance l root from c.try_next.new.walk.nodes.items c.try_next.new.forward.pushed now (Ok c.in-Some.found)) (sym c.try_next.ensures.level)
+    (subst (λ (s : ForwardState). ComesTo {E = AllocError} s.instance c.args.walk.now.level root from c.try_next.new.walk.nodes.items c.try_next.new.forward.pushed now (Ok c.in-Some.found)) (sym c.try_next.ensures.front) came))))
+
+pub returns-clause-lighter : goal.returns-clause-lighter
+returns-clause-lighter g c =
+    let first : work_left c.try_next.new.fuel.amount c.try_next.new.walk.nodes.items ≤ work_left c.args.fuel.now.amount c.args.walk.now.nodes.items = subst (λ o. Lightens {E = AllocError} (work_left c.args.fuel.now.amount c.args.walk.now.nodes.items) (work_left c.try_next.new.fuel.amount c.try_next.new.walk.nodes.items) (Ok o)) c.in-Some.is c.in_ok-found.ensures.lighter in
+    omega (arith, first, c.jump.ensures.lighter c.try_next.new.fuel.amount)

@@ -1,0 +1,29 @@
+-- The literals that the line of some literals needs.
+use Rattle.std.specs.Prelude.{◌≡◌, ℕ, ◌<◌, List, slice_get, All, Contains, Option, Some}
+use Rattle.fapp_model.specs.declared.instance.Instance.{Instance}
+use Rattle.fapp_model.specs.declared.literal.Literal.{Literal}
+use Rattle.fapp_model.specs.Tags.{triple_from}
+use Rattle.fapp_model.specs.search.Dead.{Dead}
+use Rattle.fapp_model.specs.search.Partials.{HasAll, IsPartial}
+use Rattle.log_laws.specs.declared.line.ChoiceRef.{ChoiceRef}
+use Rattle.log_laws.specs.declared.line.LogLine.{LogLine}
+use Rattle.log_laws.specs.declared.line.Ref.{Ref}
+use Rattle.log_laws.specs.declared.line.Ref.TheVariants.{Own, Row}
+use Rattle.log_laws.specs.GoodLines.{IsSettled}
+use Rattle.settle_laws.specs.declared.node.Node.{Node}
+
+-- fewer literals still have those that a line has of them; where a row is named, all of them
+abbrev pub StaysFor : List LogLine → List Literal → List Literal → Ref → Type 0
+StaysFor lines literals fewer (Own n) = (line : LogLine) → slice_get lines n ≡ Some line → (a : Literal) → Contains line.lits a → Contains literals a → Contains fewer a
+StaysFor lines literals fewer (Row r) = HasAll fewer literals
+
+-- each choice of a node's path has a reference or is dead with the literals
+abbrev pub IsClosedBy : Instance → List Literal → Node → Type 0
+IsClosedBy instance literals node = (i : ℕ) → i < node.count → IsSettled instance node.tag.code literals node.path node.refs i
+
+-- Fewer literals that close a node as well, by tests that were made of them.
+pub record Explains (instance : Instance) (lines : List LogLine) (literals fewer : List Literal) (node : Node) : Type 0 where
+  pub partial : IsPartial instance fewer
+  pub within : HasAll literals fewer
+  pub stay : All (λ ref. StaysFor lines literals fewer ref.line) node.refs
+  pub closed : IsClosedBy instance fewer node

@@ -1,0 +1,26 @@
+-- What is asked of the literals of a node whose choices were tried.
+use Rattle.std.specs.Prelude.{◌≡◌, ℕ, ◌<◌, false, List, length, slice_get, All, Contains, Option, Some}
+use Rattle.fapp_model.specs.declared.instance.Instance.{Instance}
+use Rattle.fapp_model.specs.declared.literal.Literal.{Literal}
+use Rattle.fapp_model.specs.Assignments.{count_at}
+use Rattle.fapp_model.specs.InstanceTags.{IsTagFor}
+use Rattle.fapp_model.specs.Instances.{IsInstance}
+use Rattle.fapp_model.specs.search.Partials.{IsPartial, names}
+use Rattle.log_laws.specs.declared.line.LogLine.{LogLine}
+use Rattle.log_laws.specs.declared.line.Ref.{Ref}
+use Rattle.log_laws.specs.declared.line.Ref.TheVariants.{Own, Row}
+use Rattle.settle_laws.specs.declared.node.Node.{Node}
+
+-- a node of a further path of the instance, with a tag of it
+pub record IsAsked (instance : Instance) (literals : List Literal) (node : Node) : Type 0 where
+  pub valid : IsInstance instance
+  pub partial : IsPartial instance literals
+  pub tag : IsTagFor instance node.tag
+  pub small : node.path < length instance.paths
+  pub counted : node.count ≡ count_at instance node.path
+  pub apart : names literals node.path ≡ false
+
+-- a line doesn't name a path; of a row it is not known
+abbrev pub IsFree : List LogLine → ℕ → Ref → Type 0
+IsFree lines path (Own n) = (line : LogLine) → slice_get lines n ≡ Some line → names line.lits path ≡ false
+IsFree lines path (Row r) = ⊥

@@ -1,0 +1,293 @@
+// The line of a node whose choices were tried, on those of its literals that it needs.
+ghost use Rattle.std.specs.Prelude.{◌≡◌, ◌+◌, ◌<◌, ◌==◌, ◌∷◌, true, false, List, Some, length, slice_index_or, All, Contains, IsTrue, IfOk, OnOk};
+ghost use Rattle.std.specs.List.{list_any};
+ghost use Rattle.fapp_model.specs.declared.literal.Literal.{Literal as SomeLiteral};
+ghost use Rattle.fapp_model.specs.Assignments.{count_at};
+ghost use Rattle.fapp_model.specs.InstanceTags.{IsTagFor};
+ghost use Rattle.fapp_model.specs.Instances.{IsInstance};
+ghost use Rattle.fapp_model.specs.Tags.{triple_from};
+ghost use Rattle.fapp_model.specs.search.Dead.{Dead};
+ghost use Rattle.fapp_model.specs.search.Partials.{IsLiteral, IsPartial, literal, names};
+ghost use Rattle.fapp_model.specs.search.Prefixes.{IsPrefix};
+ghost use Rattle.count_laws.specs.CountedSums.{RemainsAt};
+ghost use Rattle.count_laws.specs.ForwardStates.{with_literals};
+ghost use Rattle.log_laws.specs.GoodLines.{IsSettled};
+ghost use Rattle.settle_laws.specs.Explained.{Explains, IsClosedBy};
+ghost use Rattle.settle_laws.specs.Lines.{IsLined};
+ghost use Rattle.subtree_search.specs.Explaining.{IsAsked, IsFree};
+
+use crate::lines::add_line;
+use crate::prefix::{push_all, take_all_back};
+use fapp_model::{Literal, NoMemory, Tag, level_of};
+use forward_count::Forward;
+use search_log::{ChoiceRef, Log, Ref};
+use settle_laws::{Found, Node};
+use std::alloc::Global;
+
+/// After so many literals in a row that are needed, the others are kept untried.
+const FAILURES: u32 = 4;
+
+/// Room for what an explanation notes.
+#[derive(Drop)]
+pub struct Scratch {
+    /// The literals of the node, in their order.
+    pub literals: Vec<Literal>,
+    /// For each path, whether its literal is likely needed.
+    pub needed: Vec<bool>,
+}
+
+impl Scratch {
+    /// Room for so many paths.
+    pub fn new(alloc: Global, paths: usize) -> Result<Scratch, NoMemory> {
+        let literals = Vec::with_capacity(alloc, paths)?;
+        let needed = vec![in alloc; false; paths]?;
+        Ok(Scratch { literals, needed })
+    }
+}
+
+/// Whether some literal is of a path.
+pub fn names_path(literals: &[Literal], path: u16) -> bool
+    ensures { result ≡ names literals.now path }
+{
+    literals.iter().any(|literal| literal.path == path)
+}
+
+/// Whether some reference is of a choice.
+fn is_listed(refs: &[ChoiceRef], choice: u32) -> bool
+    ensures { result ≡ list_any (λ r. r.choice == choice) refs.now }
+{
+    refs.iter().any(|r| u32::from(r.choice) == choice)
+}
+
+/// Whether a choice is seen to be left at a tag's level.
+fn is_left(forward: &Forward, tag: Tag, path: u16, choice: u16) -> bool
+    requires valid { IsInstance forward.now.instance }
+    requires path { path < length forward.now.instance.paths }
+    requires choice { choice < count_at forward.now.instance path }
+    requires partial { IsPartial forward.now.instance (literal path choice ∷ forward.now.pushed) }
+    ensures { result ≡ false → Dead forward.now.instance (triple_from tag.code) (literal path choice ∷ forward.now.pushed) }
+{
+    if tag.code == 0 {
+        return true;
+    }
+    if level_of(tag) != forward.level() {
+        return true;
+    }
+    forward.remains(path, choice)
+}
+
+/// Whether the literals are dead with a choice of a further path.
+fn is_dead_with(forward: &mut Forward, tag: Tag, path: u16, choice: u16) -> bool
+    requires valid { IsInstance forward.old.instance }
+    requires tag { IsTagFor forward.old.instance tag }
+    requires path { path < length forward.old.instance.paths }
+    requires choice { choice < count_at forward.old.instance path }
+    requires free { names forward.old.pushed path ≡ false }
+    requires partial { IsPartial forward.old.instance forward.old.pushed }
+    ensures front { forward.new ≡ forward.old }
+    ensures dead { IsTrue result → Dead forward.old.instance (triple_from tag.code) (literal path choice ∷ forward.old.pushed) }
+{
+    if !is_left(forward, tag, path, choice) {
+        return true;
+    }
+    forward.push(path, choice);
+    let dead = forward.is_dead(tag);
+    forward.pop();
+    dead
+}
+
+/// Whether a choice of the node has a reference or is dead with the literals.
+fn is_settled(forward: &mut Forward, node: &Node, choice: u16) -> bool
+    requires asked { IsAsked forward.old.instance forward.old.pushed node.now }
+    requires choice { choice < node.now.count }
+    ensures front { forward.new ≡ forward.old }
+    ensures settled { IsTrue result → IsSettled forward.old.instance node.now.tag.code forward.old.pushed node.now.path node.now.refs choice }
+{
+    if is_listed(node.refs.as_slice(), u32::from(choice)) {
+        return true;
+    }
+    is_dead_with(forward, node.tag, node.path, choice)
+}
+
+/// Whether each choice of the node has a reference or is dead with the literals.
+fn is_closed(forward: &mut Forward, node: &Node) -> bool
+    requires asked { IsAsked forward.old.instance forward.old.pushed node.now }
+    ensures front { forward.new ≡ forward.old }
+    ensures closed { IsTrue result → IsClosedBy forward.old.instance forward.old.pushed node.now }
+{
+    for choice in 0..node.count {
+        if !is_settled(forward, node, choice as u16) {
+            return false;
+        }
+    }
+    true
+}
+
+/// Whether what a reference names may name a path: a line that does, or any row.
+fn may_name(line: Ref, log: &Log, path: u16) -> bool
+    ensures { result ≡ false → IsFree log.now.lines path line }
+{
+    match line {
+        Ref::Own(place) => match log.lines().get(place as usize) {
+            Some(line) => names_path(line.lits.as_slice(), path),
+            None => false,
+        },
+        Ref::Row(_) => true,
+    }
+}
+
+/// Whether what settles some choice may name a path.
+fn is_used(refs: &[ChoiceRef], log: &Log, path: u16) -> bool
+    ensures { result ≡ false → All (λ r. IsFree log.now.lines path r.line) refs.now }
+{
+    for r in refs {
+        if may_name(r.line, log, path) {
+            return true;
+        }
+    }
+    false
+}
+
+/// Takes out one of the node's literals where what is left closes the node too. Whether it did so.
+fn leave_out(
+    forward: &mut Forward,
+    node: &Node,
+    log: &Log,
+    literals: &[Literal],
+    place: usize,
+) -> bool
+    requires place { place < length literals.now }
+    requires asked { IsAsked forward.old.instance literals.now node.now }
+    requires explains { Explains forward.old.instance log.now.lines literals.now forward.old.pushed node.now }
+    ensures front { forward.new ≡ with_literals forward.old forward.new.pushed }
+    ensures explains { Explains forward.old.instance log.now.lines literals.now forward.new.pushed node.now }
+{
+    let literal = literals[place];
+    if !forward.is_set(literal.path) {
+        return false;
+    }
+    if is_used(node.refs.as_slice(), log, literal.path) {
+        return false;
+    }
+    forward.remove(literal.path);
+    if is_closed(forward, node) {
+        return true;
+    }
+    forward.push(literal.path, literal.choice);
+    false
+}
+
+/// Takes out the node's literals one by one, the last one first, but those that seem to be needed and those without
+/// which the node is not closed.
+fn reduce(forward: &mut Forward, node: &Node, log: &Log, literals: &[Literal], needed: &[bool])
+    requires asked { IsAsked forward.old.instance literals.now node.now }
+    requires explains { Explains forward.old.instance log.now.lines literals.now forward.old.pushed node.now }
+    ensures front { forward.new ≡ with_literals forward.old forward.new.pushed }
+    ensures explains { Explains forward.old.instance log.now.lines literals.now forward.new.pushed node.now }
+{
+    let mut failures = 0;
+    for step in 0..literals.len() {
+        let place = literals.len() - 1 - step;
+        if failures < FAILURES {
+            if !is_marked(needed, literals[place].path) {
+                let out = leave_out(forward, node, log, literals, place);
+                failures = if out { 0 } else { failures + 1 };
+            }
+        }
+    }
+}
+
+/// Whether a path's literal is marked.
+fn is_marked(needed: &[bool], path: u16) -> bool {
+    needed.get(path as usize).copied().unwrap_or(false)
+}
+
+/// Marks a path's literal.
+fn mark(needed: &mut [bool], path: u16) {
+    if (path as usize) < needed.len() {
+        needed[path as usize] = true;
+    }
+}
+
+/// Marks nothing.
+fn mark_none(needed: &mut [bool]) {
+    for path in 0..needed.len() {
+        needed[path] = false;
+    }
+}
+
+/// Marks what a line names.
+fn mark_all(needed: &mut [bool], literals: &[Literal]) {
+    for literal in literals {
+        mark(needed, literal.path);
+    }
+}
+
+/// Marks what the lines of the log name that settle choices.
+fn mark_lines(needed: &mut [bool], refs: &[ChoiceRef], log: &Log) {
+    for r in refs {
+        if let Ref::Own(place) = r.line {
+            if let Some(line) = log.lines().get(place as usize) {
+                mark_all(needed, line.lits.as_slice());
+            }
+        }
+    }
+}
+
+/// The path of a literal that clashes with a choice: one that is marked, else the first.
+fn clashing(forward: &Forward, needed: &[bool], path: u16, choice: u16) -> Option<u16>
+    requires literal { IsLiteral forward.now.instance (literal path choice) }
+    requires apart { names forward.now.pushed path ≡ false }
+{
+    let mut first = None;
+    for literal in forward.pushed() {
+        if forward.clash(Literal { path, choice }, *literal) {
+            if is_marked(needed, literal.path) {
+                return Some(literal.path);
+            }
+            if first.is_none() {
+                first = Some(literal.path);
+            }
+        }
+    }
+    first
+}
+
+/// Marks, for each choice of the node that isn't left, a literal that clashes with it.
+fn mark_clashes(needed: &mut [bool], forward: &Forward, node: &Node)
+    requires asked { IsAsked forward.now.instance forward.now.pushed node.now }
+{
+    for choice in 0..node.count {
+        if !forward.remains(node.path, choice as u16) {
+            if let Some(path) = clashing(forward, needed, node.path, choice as u16) {
+                mark(needed, path);
+            }
+        }
+    }
+}
+
+/// Adds the line of a node whose choices were tried, on literals that it needs.
+pub fn add_explained(
+    alloc: Global,
+    scratch: &mut Scratch,
+    node: Node,
+    forward: &mut Forward,
+    log: &mut Log,
+) -> Result<Found, NoMemory>
+    requires asked { IsAsked forward.old.instance forward.old.pushed node }
+    requires prefix { IsPrefix forward.old.instance forward.old.pushed }
+    requires closed { IsClosedBy forward.old.instance forward.old.pushed node }
+    ensures front { forward.new ≡ forward.old }
+    ensures lined { (fewer : List SomeLiteral) × Explains forward.old.instance log.old.lines forward.old.pushed fewer node × IsLined forward.old.instance fewer node.tag (Some node.path) node.refs log.old log.new result }
+{
+    scratch.literals.clear();
+    scratch.literals.extend_from_slice(forward.pushed())?;
+    mark_none(&mut scratch.needed);
+    mark_lines(&mut scratch.needed, node.refs.as_slice(), log);
+    mark_clashes(&mut scratch.needed, forward, &node);
+    reduce(forward, &node, log, &scratch.literals, &scratch.needed);
+    let found = add_line(alloc, node.tag, Some(node.path), node.refs, forward, log);
+    take_all_back(forward);
+    push_all(forward, &scratch.literals);
+    found
+}
