@@ -50,15 +50,14 @@ pair_small instance valid level low a b =
 
 -- the word that was found for choices that are told by equations
 pub word_found : (instance : Instance) (level : ℕ) (a b : Literal) → a.path ≢ b.path → (link : Link) → IsLink instance level a.path b.path link →
-    (place : ℕ) (x y : Choice) (n : ℕ) → x ≡ choice_of instance a → y ≡ choice_of instance b →
-    place < length link.cells → IsFound link place (distance x y) (same_polarization x y) n → n ≡ pair_word instance level b a
-word_found instance level a b apart link is place x y n ex ey inside found =
-    by_case (subst (λ p. IsFound link place (distance p (choice_of instance b)) (same_polarization p (choice_of instance b)) n) ex
-    (subst (λ q. IsFound link place (distance x q) (same_polarization x q) n) ey found))
+    (x y : Choice) (n : ℕ) → x ≡ choice_of instance a → y ≡ choice_of instance b → IsFound link (distance x y) (same_polarization x y) n → n ≡ pair_word instance level b a
+word_found instance level a b apart link is x y n ex ey found =
+    by_case (subst (λ p. IsFound link (distance p (choice_of instance b)) (same_polarization p (choice_of instance b)) n) ex
+    (subst (λ q. IsFound link (distance x q) (same_polarization x q) n) ey found))
   where
-    by_case : IsFound link place (distance (choice_of instance a) (choice_of instance b)) (same_polarization (choice_of instance a) (choice_of instance b)) n → n ≡ pair_word instance level b a
+    by_case : IsFound link (distance (choice_of instance a) (choice_of instance b)) (same_polarization (choice_of instance a) (choice_of instance b)) n → n ≡ pair_word instance level b a
     by_case (inl none) = none.1.1 ∙ sym (far_word instance level a b apart link is none.0 none.1.0)
-    by_case (inr some) = some.1.1 ∙ cell_word instance level a b apart link is place inside some.0 some.1.0
+    by_case (inr some) = some.4 ∙ cell_word instance level a b apart link is some.0 some.1 some.2 some.3
 
 pub word_by_choices : (instance i : Instance) (level : ℕ) (a b : Literal) (x y : Choice) (n : ℕ) → i ≡ instance → x ≡ choice_of instance a → y ≡ choice_of instance b →
     n ≡ choices_word i level a.path b.path x y → n ≡ pair_word instance level b a

@@ -12,7 +12,7 @@ pub record IsLink (instance : Instance) (level path other : ℕ) (link : Link) :
   pub whole : 0 < length link.cells → AreWhole link.cells
   pub far : (same : Bool) (d : ℕ) → link.far ≤ d → d < NO_REACH → word_apart instance level path other same d ≡ 0
 
--- the word of a distance, which is far, or whose cell is at a place
-abbrev pub IsFound : Link → ℕ → ℕ → Bool → ℕ → Type 0
-IsFound link place d same word = ((link.far ≤ d) × ((d < NO_REACH) × (word ≡ 0)))
-    ⊎ ((start_of link.cells place ≤ d) × ((d < (cell_at link.cells place).reach) × (word ≡ word_in (cell_at link.cells place) same)))
+-- the word of a distance, which is far, or has a cell
+abbrev pub IsFound : Link → ℕ → Bool → ℕ → Type 0
+IsFound link d same word = ((link.far ≤ d) × ((d < NO_REACH) × (word ≡ 0)))
+    ⊎ ((place : ℕ) × (place < length link.cells) × (start_of link.cells place ≤ d) × (d < (cell_at link.cells place).reach) × (word ≡ word_in (cell_at link.cells place) same))

@@ -1,4 +1,4 @@
-ghost use Rattle.std.specs.Prelude.{◌≡◌, ◌↔◌, [], false, length, IfOk, IsTrue};
+ghost use Rattle.std.specs.Prelude.{◌≡◌, ◌↔◌, ◌<◌, [], false, length, IfOk, IsTrue};
 ghost use Rattle.distance_words.specs.Cells.{Extends, word_in};
 
 use fapp_model::NoMemory;
@@ -25,10 +25,25 @@ impl Cell {
     }
 }
 
-/// Cells that follow one another. Contracts see the list.
+/// So many hints for distances that are evenly spread.
+const HINTS: usize = 64;
+
+/// Cells that follow one another, and hints where to look for those of some distances. Contracts see the list of cells.
 #[derive(Debug, Drop)]
 pub struct Cells {
     cells: Vec<Cell>,
+    /// The places of the cells of the multiples of a power of two.
+    hints: Vec<u8>,
+    shift: u32,
+}
+
+/// The place of the first cell, at a place or behind it, that reaches over a distance.
+fn place_over(cells: &[Cell], from: usize, distance: u64) -> usize {
+    let mut place = from;
+    while place < cells.len() && cells[place].reach <= distance {
+        place += 1;
+    }
+    place
 }
 
 impl Model for Cells {
@@ -46,7 +61,12 @@ impl Cells {
         ensures { IfOk result (λ cells. cells ≡ []) }
     {
         let cells = Vec::with_capacity(alloc, room)?;
-        Ok(Cells { cells })
+        let hints = vec![in alloc; 0u8; HINTS]?;
+        Ok(Cells {
+            cells,
+            hints,
+            shift: 0,
+        })
     }
 
     /// The cells.
@@ -86,5 +106,41 @@ impl Cells {
         }
         self.cells.push_reserved(cell);
         true
+    }
+
+    /// Where the last cell starts.
+    fn last_start(&self) -> u64 {
+        let count = self.cells.len();
+        if count > 1 {
+            self.cells[count - 2].reach
+        } else {
+            0
+        }
+    }
+
+    /// Makes the hints for the cells anew. It changes no cell.
+    pub fn note_places(&mut self)
+        ensures { self.new ≡ self.old }
+    {
+        let bits = 64 - self.last_start().leading_zeros();
+        self.shift = bits.saturating_sub(6);
+        let mut place = 0;
+        for slot in 0..self.hints.len() {
+            let distance = (slot as u64).wrapping_shl(self.shift);
+            place = place_over(self.cells.as_slice(), place, distance);
+            self.hints[slot] = u8::try_from(place).unwrap_or(0);
+        }
+    }
+
+    /// A place from which to look for the cell of a distance.
+    pub fn near(&self, distance: u64) -> usize
+        requires { 0 < length self.now }
+        ensures { result < length self.now }
+    {
+        let last = self.cells.len() - 1;
+        match self.hints.get(distance.wrapping_shr(self.shift) as usize) {
+            Some(hint) => last.min(usize::from(*hint)),
+            None => last,
+        }
     }
 }

@@ -62,6 +62,7 @@ impl Link {
         self.far = NO_REACH;
         if add_cells(pair, &mut self.cells) {
             self.far = far_of(self.cells.as_slice());
+            self.cells.note_places();
         } else {
             self.cells.clear();
         }

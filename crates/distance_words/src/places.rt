@@ -74,20 +74,17 @@ fn word_for(cells: &[Cell], place: usize, first: Choice, second: Choice) -> u64
 }
 
 impl Link {
-    /// What two choices count in each other's words, where each distance has a cell. The cell is looked for from a place on, and
-    /// its own place is left there.
-    pub fn word(&self, place: &mut usize, first: Choice, second: Choice) -> u64
-        requires whole { AreWhole self.now.cells }
-        requires place { place.old < length self.now.cells }
-        ensures inside { place.new < length self.now.cells }
-        ensures word { IsFound self.now place.new (distance first second) (same_polarization first second) result }
+    /// What two choices count in each other's words, where each distance has a cell.
+    pub fn word(&self, first: Choice, second: Choice) -> u64
+        requires { AreWhole self.now.cells }
+        ensures { IsFound self.now (distance first second) (same_polarization first second) result }
     {
         let distance = distance(first, second);
         if distance >= self.far {
             return 0;
         }
         let cells = self.cells.as_slice();
-        *place = place_of(cells, *place, distance);
-        word_for(cells, *place, first, second)
+        let place = place_of(cells, self.cells.near(distance), distance);
+        word_for(cells, place, first, second)
     }
 }

@@ -57,7 +57,7 @@ impl<'a> Model for Forward<'a> {
 }
 
 impl<'a> Forward<'a> {
-    /// Starts with no literal, counting at the instance's highest level. It takes 8 bytes a choice, 64 a path and, seen from
+    /// Starts with no literal, counting at the instance's highest level. It takes 8 bytes a choice, 72 a path and, seen from
     /// each of two neighbouring paths, at most 32 cells of 24 bytes (12 for one record) and 40 bytes more; no other call takes
     /// memory.
     pub fn new(
@@ -157,8 +157,9 @@ impl<'a> Forward<'a> {
         self.level = level;
     }
 
-    /// Adds a literal. It costs a look at each choice of the neighbouring paths, and a few cells of each of these paths; where
-    /// their cells would be too many, the records between the two paths for each choice.
+    /// Adds a literal. Of each neighbouring path it looks at the choices that are less than the pair's far distance away, and at
+    /// a few cells of the pair; at all choices once more where the least word was raised, up to one that is as low as it was.
+    /// Where the cells would be too many, it reads the records between the two paths for each choice.
     pub fn push(&mut self, path: u16, choice: u16)
         requires path { path < length self.old.instance.paths }
         requires choice { choice < count_at self.old.instance path }
@@ -177,7 +178,7 @@ impl<'a> Forward<'a> {
         let _ = self.pushed.push(literal);
     }
 
-    /// Takes back the last literal.
+    /// Takes back the last literal. It costs what `push` does, and looks for no least word.
     pub fn pop(&mut self)
         requires { 0 < length self.old.pushed }
         ensures { self.new ≡ without_last self.old }

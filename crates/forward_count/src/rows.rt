@@ -80,13 +80,12 @@ fn move_by_cells(step: &Step, words: &mut Words, link: &Link, other: u16, floor:
     let start = first_within(owner, step.choice.freq, link.far);
     let count = choice_count(owner);
     let mut lowest = floor;
-    let mut place = link.cells.len() - 1;
     for index in start..count {
         let second = choice_at(owner, index);
         if u64::from(second.freq) >= end {
             return lowest;
         }
-        let pair = link.word(&mut place, step.choice, second);
+        let pair = link.word(step.choice, second);
         lowest = move_word(step.taking, words, index as usize, pair, lowest);
     }
     lowest

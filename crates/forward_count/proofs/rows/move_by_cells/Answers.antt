@@ -23,7 +23,6 @@ loop-index-init c =
     let owner = c.owner-owner.ensures.path in
     let first : c.first_within-start.result ≤ count_at instance c.args.other = subst (λ (p : Path). c.first_within-start.result ≤ length (choices p)) owner c.first_within-start.ensures.inside in
     record {
-      inside = omega (arith, c.requires.some);
       mapped = mapped_skip f words words 0 c.first_within-start.result (mapped_none f words) (omega arith) (λ k from before.
           before_stays instance c.requires.instance step.level step.literal step.home c.args.other c.requires.apart c.requires.other c.args.link.now c.requires.link step.taking (word_at words k) k (omega (arith, first, before))
           (omega (arith, subst (λ (p : Path). (choice p k).freq + c.args.link.now.far ≤ step.choice.freq) owner (c.first_within-start.ensures.below k before), ap (λ x. x.freq) step.chosen)));
@@ -36,7 +35,7 @@ move_word-lowest-requires-clause-can c =
     let index = c.loop-index.index in
     let second_is : c.choice_at-second.result ≡ choice_of step.tables.now (literal c.args.other index) = c.choice_at-second.ensures ∙ ap (λ (p : Path). choice p index) c.owner-owner.ensures.path in
     let word_is = word_found step.tables.now step.level step.literal (literal c.args.other index) c.requires.apart c.args.link.now c.requires.link
-    c.word-pair.new.place step.choice c.choice_at-second.result c.word-pair.result step.chosen second_is c.word-pair.ensures.inside c.word-pair.ensures.word in
+    step.choice c.choice_at-second.result c.word-pair.result step.chosen second_is c.word-pair.ensures in
     let inside : index < length c.args.words.now = omega (arith, c.loop-index.invariant.mapped.count, c.choice_count-count.ensures.count, ap (λ (p : Path). length (choices p)) c.owner-owner.ensures.path, c.requires.count, c.loop-index-test.true) in
     subst (λ (n : ℕ). CanMove step.taking (word_at c.loop-index.words index) n) (sym word_is)
     (subst (λ (w : ℕ). CanMove step.taking w (pair_word step.tables.now step.level (literal c.args.other index) step.literal)) (sym (c.loop-index.invariant.mapped.waiting index (omega arith)))
@@ -48,7 +47,7 @@ move_word-lowest-requires-clause-small c =
     let index = c.loop-index.index in
     let second_is : c.choice_at-second.result ≡ choice_of step.tables.now (literal c.args.other index) = c.choice_at-second.ensures ∙ ap (λ (p : Path). choice p index) c.owner-owner.ensures.path in
     let word_is = word_found step.tables.now step.level step.literal (literal c.args.other index) c.requires.apart c.args.link.now c.requires.link
-    c.word-pair.new.place step.choice c.choice_at-second.result c.word-pair.result step.chosen second_is c.word-pair.ensures.inside c.word-pair.ensures.word in
+    step.choice c.choice_at-second.result c.word-pair.result step.chosen second_is c.word-pair.ensures in
     let small = pair_small step.tables.now c.requires.instance step.level step.low (literal c.args.other index) step.literal in
     omega (arith, small, word_is)
 
@@ -58,7 +57,7 @@ loop-index-preserved c =
     let index = c.loop-index.index in
     let second_is : c.choice_at-second.result ≡ choice_of step.tables.now (literal c.args.other index) = c.choice_at-second.ensures ∙ ap (λ (p : Path). choice p index) c.owner-owner.ensures.path in
     let word_is = word_found step.tables.now step.level step.literal (literal c.args.other index) c.requires.apart c.args.link.now c.requires.link
-    c.word-pair.new.place step.choice c.choice_at-second.result c.word-pair.result step.chosen second_is c.word-pair.ensures.inside c.word-pair.ensures.word in
+    step.choice c.choice_at-second.result c.word-pair.result step.chosen second_is c.word-pair.ensures in
     let f = λ (k : ℕ) (word : ℕ). moved step.taking word (pair_word step.tables.now step.level (literal c.args.other k) step.literal) in
     let old = c.args.words.now in
     let words = c.loop-index.words in
@@ -68,7 +67,6 @@ loop-index-preserved c =
     let same : c.move_word-lowest.new.words ≡ set words index word = c.move_word-lowest.ensures.words ∙ ap (set words index) is in
     let low : c.move_word-lowest.result ≡ min c.loop-index.lowest word = c.move_word-lowest.ensures.floor ∙ ap (min c.loop-index.lowest) is in
     record {
-      inside = c.word-pair.ensures.inside;
       mapped = subst (λ (ws : List ℕ). IsMapped f old ws (index + 1)) (sym same) (mapped_more f old words index word c.loop-index.invariant.mapped inside refl);
       floor = subst (λ (ws : List ℕ). IsFloor ws c.move_word-lowest.result) (sym same) (floor_write words index word c.loop-index.lowest c.move_word-lowest.result inside c.loop-index.invariant.floor low);
     }

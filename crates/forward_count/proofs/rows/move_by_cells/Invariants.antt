@@ -1,4 +1,3 @@
-use Rattle.std.proofs.Common.{◌<◌, length}
 use Rattle.fapp_model.specs.search.Partials.{literal}
 use Rattle.count_laws.specs.Counts.{pair_word}
 use Rattle.count_laws.specs.Moves.{moved}
@@ -8,7 +7,6 @@ use Rattle.forward_count.proofs.rows.move_by_cells.Given as goal
 
 abbrev pub invariant-loop-index : goal.invariant-loop-index
 invariant-loop-index l = record {
-  inside : l.place < length l.link.cells;
   mapped : IsMapped (λ k word. moved l.step.taking word (pair_word l.step.tables.now l.step.level (literal l.other k) l.step.literal)) l.fn.words l.words l.index;
   floor : IsFloor l.words l.lowest;
 }

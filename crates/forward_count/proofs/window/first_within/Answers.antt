@@ -28,3 +28,19 @@ returns-else-path-eq0-clause-below c index before =
     let inside : index < length path.freqs = omega (arith, before, c.place_within-place.ensures.inside, ap length c.as_slice.ensures) in
     let at = ap (λ (x : Choice). x.freq) (fixed_choice path index fixed inside) in
     omega (arith, at, ap (λ fs. get_or fs index 0) c.as_slice.ensures, c.place_within-place.ensures.below index before)
+
+pub returns-then-path-eq0-clause-near : goal.returns-then-path-eq0-clause-near
+returns-then-path-eq0-clause-near c index from inside =
+    let path = c.args.path.now in
+    let free = free_of path.pol c.requires.polarization c.if-path-eq0.true in
+    let small : index < 2 * length path.freqs = omega (arith, inside, free_count path free) in
+    let at = ap (λ (x : Choice). x.freq) (free_choice path index free small) in
+    omega (arith, at, ap (λ fs. get_or fs (index / 2) 0) c.as_slice.ensures, c.place_within-place.ensures.near (index / 2) (omega (arith, from)) (omega (arith, small, ap length c.as_slice.ensures)))
+
+pub returns-else-path-eq0-clause-near : goal.returns-else-path-eq0-clause-near
+returns-else-path-eq0-clause-near c index from inside =
+    let path = c.args.path.now in
+    let fixed = fixed_of path.pol c.requires.polarization c.if-path-eq0.false in
+    let small : index < length path.freqs = omega (arith, inside, fixed_count path fixed) in
+    let at = ap (λ (x : Choice). x.freq) (fixed_choice path index fixed small) in
+    omega (arith, at, ap (λ fs. get_or fs index 0) c.as_slice.ensures, c.place_within-place.ensures.near index from (omega (arith, small, ap length c.as_slice.ensures)))

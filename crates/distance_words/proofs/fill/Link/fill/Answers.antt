@@ -1,6 +1,7 @@
-use Rattle.std.proofs.Common.{List, subst}
+use Rattle.std.proofs.Common.{List, subst, sym}
 use Rattle.distance_words.specs.declared.cells.Cell.{Cell}
 use Rattle.distance_words.specs.Cells.{IsFar}
+use Rattle.distance_words.specs.Links.{IsLink}
 use Rattle.distance_words.proofs.CellLaws.{far_none}
 use Rattle.distance_words.proofs.fill.Link.fill.Goals as goal
 
@@ -8,9 +9,10 @@ pub returns-then-add_cells : goal.returns-then-add_cells
 returns-then-add_cells c =
     let p = c.args.pair.now in
     let whole = c.add_cells.ensures.whole c.if-add_cells.true in
-    record {
+    subst (λ (cells : List Cell). IsLink p.instance.now p.level p.path p.other (record { cells = cells; far = c.far_of-self.result })) (sym c.note_places.ensures)
+    (record {
       cells = c.add_cells.ensures.cells;
       whole = λ some. whole;
       far = far_none p.instance.now p.level p.path p.other c.add_cells.new.cells c.far_of-self.result c.add_cells.ensures.cells whole
           (subst (λ (cells : List Cell). IsFar cells c.far_of-self.result) c.as_slice.ensures c.far_of-self.ensures);
-    }
+    })
