@@ -45,7 +45,7 @@ use Rattle.settle_laws.specs.Ticks.{OffersCost, Ticks, TicksBelow}
 use Rattle.settle_laws.specs.Trying.{AreTriedChoices, IsChild, Trying}
 use Rattle.settle_laws.specs.Worlds.{IsKeptRight, IsLeastOffered, IsPlain, Keeps, KeepsAtMost, World, world}
 use Rattle.settle_laws.proofs.Adding.{gains-none, gains-one, gains-trans, has-same, has-trans}
-use Rattle.settle_laws.proofs.FullPrefixes.{cost-low, cost-own, dead-at-cost, same-plan}
+use Rattle.settle_laws.proofs.FullPrefixes.{cost-low, cost-own, same-plan}
 use Rattle.settle_laws.proofs.Keeping.{keeps-same, keeps-trans}
 use Rattle.settle_laws.proofs.LineParts.{branch-good, count-good, names-same}
 use Rattle.settle_laws.proofs.NextPaths.{next-apart, next-short, next-small, prefix-short}
@@ -276,16 +276,15 @@ module _ (instance : Instance) (valid : IsInstance instance) (level : ℕ) (with
       full-own : IsTagFor instance c.adds.line.tag
       full-own = subst (λ n. IsTagOf instance (triple_from n)) (sym code-is) (cost-own instance c.offered.plan valid)
 
-      full-dead : Dead instance (triple_from c.adds.line.tag.code) literals
-      full-dead = subst (λ n. Dead instance (triple_from n) literals) (sym code-is)
-          (dead-at-cost instance valid literals prefix full c.offered.plan c.offered.feasible.assignment c.offered.extends)
+      full-dead : Dead instance (triple_from c.adds.line.tag.code) c.fewer
+      full-dead = subst (λ (t : Tag). Dead instance (triple_from t.code) c.fewer) (sym c.adds.tag_is) c.part.dead
 
       full-good : IsGoodLine instance (known now.shared) c.kept.lines c.adds.line
-      full-good = count-good instance valid literals partial (known now.shared) c.kept.lines c.adds.line c.adds.sorted full-own c.adds.path_is c.adds.refs_are full-dead
+      full-good = count-good instance valid c.fewer c.part.partial (known now.shared) c.kept.lines c.adds.line c.adds.sorted full-own c.adds.path_is c.adds.refs_are full-dead
 
       full-implied : Implied instance (triple_from c.adds.line.tag.code) c.adds.line.lits
-      full-implied = Implied-more instance (triple_from c.adds.line.tag.code) literals c.adds.line.lits c.adds.sorted.has
-          (dead-implied instance (triple_from c.adds.line.tag.code) literals valid full-own partial full-dead)
+      full-implied = Implied-more instance (triple_from c.adds.line.tag.code) c.fewer c.adds.line.lits c.adds.sorted.has
+          (dead-implied instance (triple_from c.adds.line.tag.code) c.fewer valid full-own c.part.partial full-dead)
 
       same-cost : (plan : List ℕ) → IsWhole instance literals plan → code_of (cost instance c.offered.plan) ≡ code_of (cost instance plan)
       same-cost plan whole = ap (λ p. code_of (cost instance p)) (same-plan instance valid literals prefix full c.offered.plan plan c.offered.feasible.assignment whole.feasible.assignment c.offered.extends whole.extends)
@@ -306,7 +305,7 @@ module _ (instance : Instance) (valid : IsInstance instance) (level : ℕ) (with
             cost-low instance valid literals prefix full c.offered.plan c.offered.feasible.assignment c.offered.extends tag.code ticked.own still-judged,
           );
           exact = λ same. absurd (omega (arith, ticked.took));
-          refuted = line-refutes instance literals old (world now.fuel after now.shared c.kept) to-kept c.adds.line log c.adds.added literals (has-same literals) c.adds.sorted full-implied full-own c.tag.code (omega (arith, ap (λ (t : Tag). t.code) c.adds.tag_is));
+          refuted = line-refutes instance literals old (world now.fuel after now.shared c.kept) to-kept c.adds.line log c.adds.added c.fewer c.part.within c.adds.sorted full-implied full-own c.tag.code (omega (arith, ap (λ (t : Tag). t.code) c.adds.tag_is));
           last = line-last instance literals old (world now.fuel after now.shared c.kept) to-kept c.adds.line log c.adds.added;
         };
         refused_at = [];
@@ -322,7 +321,7 @@ module _ (instance : Instance) (valid : IsInstance instance) (level : ℕ) (with
           there = line-is instance literals old (world now.fuel after now.shared c.kept) to-kept c.adds.line log c.adds.added;
           count = c.adds.path_is;
           tag = omega (arith, code-is, same-cost plan whole);
-          within = c.adds.sorted.only;
+          within = has-trans c.adds.line.lits c.fewer literals c.adds.sorted.only c.part.within;
         });
       }
 

@@ -27,3 +27,9 @@ pub record Explains (instance : Instance) (lines : List LogLine) (literals fewer
   pub within : HasAll literals fewer
   pub stay : All (λ ref. StaysFor lines literals fewer ref.line) node.refs
   pub closed : IsClosedBy instance fewer node
+
+-- Fewer literals that are dead as well.
+pub record IsDeadPart (instance : Instance) (tag : ℕ) (literals fewer : List Literal) : Type 0 where
+  pub partial : IsPartial instance fewer
+  pub within : HasAll literals fewer
+  pub dead : Dead instance (triple_from tag) fewer

@@ -5,8 +5,8 @@ pub mod Ticks
 pub mod Founds
 pub mod Ticked
 pub mod Trying
-pub mod Explained
 pub mod OpenNodes
+pub mod Explained
 pub mod Lines
 pub mod Noted
 pub mod Lined

@@ -15,6 +15,7 @@ use Rattle.search_log.specs.LogStates.{LogState}
 use Rattle.search_log.specs.Logs.{KeepsBest, with_line}
 use Rattle.settle_laws.specs.declared.found.Found.{Found}
 use Rattle.settle_laws.specs.declared.found.Found.TheVariants.{Settled}
+use Rattle.settle_laws.specs.Explained.{IsDeadPart}
 
 -- the literals pushed, ascending by path
 pub record AreSorted (instance : Instance) (pushed literals : List Literal) : Type 0 where
@@ -45,13 +46,15 @@ pub record Offered (instance : Instance) (literals : List Literal) (bound after 
   pub keeps : KeepsBest old (cost instance plan) plan new
   pub offers : Offers bound after (code_of (cost instance plan))
 
--- then a Count line at that cost was added
+-- then a Count line at that cost was added, on literals that are dead at it
 pub record Concludes (instance : Instance) (literals : List Literal) (bound after : BoundState) (old new : LogState) (found : Found) : Type 0 where
   pub kept : LogState
   pub tag : Tag
   pub offered : Offered instance literals bound after old kept
   pub tag_is : tag.code ≡ code_of (cost instance offered.plan)
-  pub adds : AddsLine instance literals tag None [] kept new found
+  pub fewer : List Literal
+  pub part : IsDeadPart instance tag.code literals fewer
+  pub adds : AddsLine instance fewer tag None [] kept new found
 
 -- or there was no memory, to keep it or for the line
 abbrev pub IsConcluded : {E : Type 0} → Instance → List Literal → BoundState → BoundState → LogState → LogState → Result Found E → Type 0

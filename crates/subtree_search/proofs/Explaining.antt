@@ -30,7 +30,7 @@ use Rattle.search_log.specs.LogStates.{LogState}
 use Rattle.settle_laws.specs.declared.found.Found.{Found}
 use Rattle.settle_laws.specs.declared.node.Node.{Node}
 use Rattle.settle_laws.specs.Lines.{IsLined}
-use Rattle.settle_laws.specs.Explained.{Explains, IsClosedBy, StaysFor}
+use Rattle.settle_laws.specs.Explained.{Explains, IsClosedBy, IsDeadPart, StaysFor}
 use Rattle.settle_laws.proofs.Adding.{has-cons, has-front, has-same, has-trans, pairs-join}
 use Rattle.settle_laws.proofs.LineParts.{names-same, with-literal}
 use Rattle.subtree_search.specs.Explaining.{IsAsked, IsFree}
@@ -130,6 +130,27 @@ others-has : (literals : List Literal) (path : ℕ) (a : Literal) → Contains l
 others-has [] path a m e = absurd (no_member a m)
 others-has (b ∷ literals) path a m e = has-more b literals path a e m (λ later. others-has literals path a later e)
 
+-- without a path's literal, and with it again
+module _ (instance : Instance) (literals pushed : List Literal) (whole : IsPartial instance literals) (partial : IsPartial instance pushed) (within : HasAll literals pushed) (a : Literal) (m : Contains literals a) where
+  abbrev again : List Literal
+  again = other_paths a.path pushed ++ a ∷ []
+
+  same-path : (b : Literal) → Contains literals b → b.path ≡ a.path → b ≡ a
+  same-path b n same = one-of-path literals whole.distinct b a n m same
+
+  has-again : HasAll again pushed
+  has-again = All-from_members (Contains again) pushed (λ b n. ⊎_elim
+      (λ yes. subst (λ x. Contains again x) (sym (same-path b (All-contains (Contains literals) pushed b within n) (eqb-true b.path a.path yes)))
+      (Contains-append_right (other_paths a.path pushed) (a ∷ []) a (at_front a [])))
+      (λ no. Contains-append_left (other_paths a.path pushed) (a ∷ []) b (others-has pushed a.path b n no))
+      (cases_Bool (eqb b.path a.path)))
+
+  again-partial : IsPartial instance again
+  again-partial = snoc-partial instance (other_paths a.path pushed) a (others-partial instance pushed a.path partial) (All-contains (IsLiteral instance) literals a whole.in_range m) (others-apart pushed a.path)
+
+  again-within : HasAll literals again
+  again-within = All-append (Contains literals) (other_paths a.path pushed) (a ∷ []) (has-trans (other_paths a.path pushed) pushed literals (others-within pushed a.path) within) (All-cons (Contains literals) a [] m (All-nil (Contains literals)))
+
 module _ (instance : Instance) (lines : List LogLine) (literals pushed : List Literal) (node : Node) (asked : IsAsked instance literals node) (why : Explains instance lines literals pushed node) where
   module _ (path : ℕ) where
     free-stays : (ref : Ref) → IsFree lines path ref → StaysFor lines literals pushed ref → StaysFor lines literals (other_paths path pushed) ref
@@ -151,41 +172,34 @@ module _ (instance : Instance) (lines : List LogLine) (literals pushed : List Li
 
   -- and with it again
   module _ (a : Literal) (m : Contains literals a) where
-    abbrev again : List Literal
-    again = other_paths a.path pushed ++ a ∷ []
+    abbrev once : List Literal
+    once = again instance literals pushed asked.partial why.partial why.within a m
 
-    same-path : (b : Literal) → Contains literals b → b.path ≡ a.path → b ≡ a
-    same-path b n same = one-of-path literals asked.partial.distinct b a n m same
+    has-once : HasAll once pushed
+    has-once = has-again instance literals pushed asked.partial why.partial why.within a m
 
-    has-again : HasAll again pushed
-    has-again = All-from_members (Contains again) pushed (λ b n. ⊎_elim
-        (λ yes. subst (λ x. Contains again x) (sym (same-path b (All-contains (Contains literals) pushed b why.within n) (eqb-true b.path a.path yes)))
-        (Contains-append_right (other_paths a.path pushed) (a ∷ []) a (at_front a [])))
-        (λ no. Contains-append_left (other_paths a.path pushed) (a ∷ []) b (others-has pushed a.path b n no))
-        (cases_Bool (eqb b.path a.path)))
+    once-partial : IsPartial instance once
+    once-partial = again-partial instance literals pushed asked.partial why.partial why.within a m
 
-    again-partial : IsPartial instance again
-    again-partial = snoc-partial instance (other_paths a.path pushed) a (others-partial instance pushed a.path why.partial) (All-contains (IsLiteral instance) literals a asked.partial.in_range m) (others-apart pushed a.path)
+    once-within : HasAll literals once
+    once-within = again-within instance literals pushed asked.partial why.partial why.within a m
 
-    again-within : HasAll literals again
-    again-within = All-append (Contains literals) (other_paths a.path pushed) (a ∷ []) (has-trans (other_paths a.path pushed) pushed literals (others-within pushed a.path) why.within) (All-cons (Contains literals) a [] m (All-nil (Contains literals)))
+    stays-more : (ref : Ref) → StaysFor lines literals pushed ref → StaysFor lines literals once ref
+    stays-more (Own n) stay = λ line at b k l. All-contains (Contains once) pushed b has-once (stay line at b k l)
+    stays-more (Row r) stay = has-trans literals pushed once stay has-once
 
-    stays-more : (ref : Ref) → StaysFor lines literals pushed ref → StaysFor lines literals again ref
-    stays-more (Own n) stay = λ line at b k l. All-contains (Contains again) pushed b has-again (stay line at b k l)
-    stays-more (Row r) stay = has-trans literals pushed again stay has-again
-
-    closed-more : (i : ℕ) → i < node.count → IsSettled instance node.tag.code pushed node.path node.refs i → IsSettled instance node.tag.code again node.path node.refs i
+    closed-more : (i : ℕ) → i < node.count → IsSettled instance node.tag.code pushed node.path node.refs i → IsSettled instance node.tag.code once node.path node.refs i
     closed-more i l (inl listed) = inl listed
-    closed-more i l (inr dead) = inr (dead-more instance (triple_from node.tag.code) (literal node.path i ∷ pushed) (literal node.path i ∷ again) asked.valid
+    closed-more i l (inr dead) = inr (dead-more instance (triple_from node.tag.code) (literal node.path i ∷ pushed) (literal node.path i ∷ once) asked.valid
         (with-literal instance pushed node.path i why.partial asked.small (omega (arith, l, asked.counted)) (names-same literals pushed node.path why.within asked.apart))
-        (with-literal instance again node.path i again-partial asked.small (omega (arith, l, asked.counted)) (names-same literals again node.path again-within asked.apart))
-        (has-cons (literal node.path i) pushed again has-again) dead)
+        (with-literal instance once node.path i once-partial asked.small (omega (arith, l, asked.counted)) (names-same literals once node.path once-within asked.apart))
+        (has-cons (literal node.path i) pushed once has-once) dead)
 
-    pub explains-again : Explains instance lines literals again node
+    pub explains-again : Explains instance lines literals once node
     explains-again = record {
-      partial = again-partial;
-      within = again-within;
-      stay = All-from_members (λ (r : ChoiceRef). StaysFor lines literals again r.line) node.refs (λ r k. stays-more r.line (All-contains (λ (x : ChoiceRef). StaysFor lines literals pushed x.line) node.refs r why.stay k));
+      partial = once-partial;
+      within = once-within;
+      stay = All-from_members (λ (r : ChoiceRef). StaysFor lines literals once r.line) node.refs (λ r k. stays-more r.line (All-contains (λ (x : ChoiceRef). StaysFor lines literals pushed x.line) node.refs r why.stay k));
       closed = λ i l. closed-more i l (why.closed i l);
     }
 
@@ -206,3 +220,24 @@ explains-all instance lines literals node asked closed = record {
 pub lined-err : {E : Type 0} → (instance : Instance) (literals : List Literal) (tag : Tag) (path : Option ℕ) (refs : List ChoiceRef) (log : LogState) (result : Result Found E) → IsErr result → IsLined instance literals tag path refs log log result
 lined-err instance literals tag path refs log (Ok found) err = cc
 lined-err instance literals tag path refs log (Err e) err = refl
+
+-- ---- literals that are dead
+
+module _ (instance : Instance) (valid : IsInstance instance) (tag : ℕ) (literals pushed : List Literal) (whole : IsPartial instance literals) (part : IsDeadPart instance tag literals pushed) where
+  pub part-without : (path : ℕ) → Dead instance (triple_from tag) (other_paths path pushed) → IsDeadPart instance tag literals (other_paths path pushed)
+  part-without path dead = record {
+    partial = others-partial instance pushed path part.partial;
+    within = has-trans (other_paths path pushed) pushed literals (others-within pushed path) part.within;
+    dead = dead;
+  }
+
+  pub part-again : (a : Literal) → Contains literals a → IsDeadPart instance tag literals (other_paths a.path pushed ++ a ∷ [])
+  part-again a m = record {
+    partial = again-partial instance literals pushed whole part.partial part.within a m;
+    within = again-within instance literals pushed whole part.partial part.within a m;
+    dead = dead-more instance (triple_from tag) pushed (other_paths a.path pushed ++ a ∷ []) valid part.partial (again-partial instance literals pushed whole part.partial part.within a m)
+        (has-again instance literals pushed whole part.partial part.within a m) part.dead;
+  }
+
+pub part-all : (instance : Instance) (tag : ℕ) (literals : List Literal) → IsPartial instance literals → Dead instance (triple_from tag) literals → IsDeadPart instance tag literals literals
+part-all instance tag literals partial dead = record { partial = partial; within = has-same literals; dead = dead }

@@ -1,5 +1,5 @@
 // The line of a node whose choices were tried, on those of its literals that it needs.
-ghost use Rattle.std.specs.Prelude.{◌≡◌, ◌+◌, ◌<◌, ◌==◌, ◌∷◌, true, false, List, Some, length, slice_index_or, All, Contains, IsTrue, IfOk, OnOk};
+ghost use Rattle.std.specs.Prelude.{◌≡◌, ◌+◌, ◌<◌, ◌==◌, ◌∷◌, [], true, false, List, None, Some, length, slice_index_or, All, Contains, IsTrue, IfOk, OnOk};
 ghost use Rattle.std.specs.List.{list_any};
 ghost use Rattle.fapp_model.specs.declared.literal.Literal.{Literal as SomeLiteral};
 ghost use Rattle.fapp_model.specs.Assignments.{count_at};
@@ -12,13 +12,13 @@ ghost use Rattle.fapp_model.specs.search.Prefixes.{IsPrefix};
 ghost use Rattle.count_laws.specs.CountedSums.{RemainsAt};
 ghost use Rattle.count_laws.specs.ForwardStates.{with_literals};
 ghost use Rattle.log_laws.specs.GoodLines.{IsSettled};
-ghost use Rattle.settle_laws.specs.Explained.{Explains, IsClosedBy};
+ghost use Rattle.settle_laws.specs.Explained.{Explains, IsClosedBy, IsDeadPart};
 ghost use Rattle.settle_laws.specs.Lines.{IsLined};
 ghost use Rattle.subtree_search.specs.Explaining.{IsAsked, IsFree};
 
 use crate::lines::add_line;
 use crate::prefix::{push_all, take_all_back};
-use fapp_model::{Literal, NoMemory, Tag, level_of};
+use fapp_model::{Items, Literal, NoMemory, Tag, level_of};
 use forward_count::Forward;
 use search_log::{ChoiceRef, Log, Ref};
 use settle_laws::{Found, Node};
@@ -195,6 +195,82 @@ fn reduce(forward: &mut Forward, node: &Node, log: &Log, literals: &[Literal], n
             }
         }
     }
+}
+
+/// Takes out one of some literals where what is left is dead at the tag too. Whether it did so.
+fn leave_out_of_dead(forward: &mut Forward, tag: Tag, literals: &[Literal], place: usize) -> bool
+    requires place { place < length literals.now }
+    requires valid { IsInstance forward.old.instance }
+    requires tag { IsTagFor forward.old.instance tag }
+    requires literals { IsPartial forward.old.instance literals.now }
+    requires part { IsDeadPart forward.old.instance tag.code literals.now forward.old.pushed }
+    ensures front { forward.new ≡ with_literals forward.old forward.new.pushed }
+    ensures part { IsDeadPart forward.old.instance tag.code literals.now forward.new.pushed }
+{
+    let literal = literals[place];
+    if !forward.is_set(literal.path) {
+        return false;
+    }
+    forward.remove(literal.path);
+    if forward.is_dead(tag) {
+        return true;
+    }
+    forward.push(literal.path, literal.choice);
+    false
+}
+
+/// Takes out literals one by one, the last one first, but those without which the others are not dead at the tag. None
+/// where the counts of the tag's level are not at hand.
+fn reduce_dead(forward: &mut Forward, tag: Tag, literals: &[Literal])
+    requires valid { IsInstance forward.old.instance }
+    requires tag { IsTagFor forward.old.instance tag }
+    requires literals { IsPartial forward.old.instance literals.now }
+    requires part { IsDeadPart forward.old.instance tag.code literals.now forward.old.pushed }
+    ensures front { forward.new ≡ with_literals forward.old forward.new.pushed }
+    ensures part { IsDeadPart forward.old.instance tag.code literals.now forward.new.pushed }
+{
+    if !is_at_hand(forward, tag) {
+        return;
+    }
+    let mut failures = 0;
+    for step in 0..literals.len() {
+        if failures < FAILURES {
+            let out = leave_out_of_dead(forward, tag, literals, literals.len() - 1 - step);
+            failures = if out { 0 } else { failures + 1 };
+        }
+    }
+}
+
+/// Whether the counts are kept at a tag's level.
+fn is_at_hand(forward: &Forward, tag: Tag) -> bool {
+    if tag.code == 0 {
+        return false;
+    }
+    level_of(tag) == forward.level()
+}
+
+/// Adds a Count line on literals that are dead at a tag, on those of them that it needs.
+pub fn add_dead(
+    alloc: Global,
+    scratch: &mut Scratch,
+    tag: Tag,
+    forward: &mut Forward,
+    log: &mut Log,
+) -> Result<Found, NoMemory>
+    requires valid { IsInstance forward.old.instance }
+    requires tag { IsTagFor forward.old.instance tag }
+    requires prefix { IsPrefix forward.old.instance forward.old.pushed }
+    requires dead { Dead forward.old.instance (triple_from tag.code) forward.old.pushed }
+    ensures front { forward.new ≡ forward.old }
+    ensures lined { (fewer : List SomeLiteral) × IsDeadPart forward.old.instance tag.code forward.old.pushed fewer × IsLined forward.old.instance fewer tag None [] log.old log.new result }
+{
+    scratch.literals.clear();
+    scratch.literals.extend_from_slice(forward.pushed())?;
+    reduce_dead(forward, tag, &scratch.literals);
+    let found = add_line(alloc, tag, None, Items::new(alloc), forward, log);
+    take_all_back(forward);
+    push_all(forward, &scratch.literals);
+    found
 }
 
 /// Whether a path's literal is marked.

@@ -13,6 +13,7 @@ ghost use Rattle.fapp_model.specs.search.WorkOrder.{work_order};
 ghost use Rattle.settle_laws.specs.Lines.{AreSorted, IsConcluded, IsLined};
 ghost use Rattle.subtree_search.specs.Plans.{IsNotAfter, IsPlanOf};
 
+use crate::explain::{Scratch, add_dead};
 use fapp_cost::cost;
 use fapp_model::{Items, Literal, NoMemory, Tag, tag_of};
 use forward_count::Forward;
@@ -76,17 +77,19 @@ fn fill(plan: &mut [u16], part: &Partial)
 /// Gives the assignment that is pushed to the log, offers its cost, and adds a Count line at that cost.
 pub fn conclude<B: Bound>(
     alloc: Global,
+    scratch: &mut Scratch,
     plan: &mut [u16],
-    forward: &Forward,
+    forward: &mut Forward,
     bound: &mut B,
     log: &mut Log,
 ) -> Result<Found, NoMemory>
-    requires valid { IsInstance forward.now.instance }
-    requires room { length plan.old ≡ length forward.now.instance.paths }
-    requires prefix { IsPrefix forward.now.instance forward.now.pushed }
-    requires full { length (work_order forward.now.instance) ≤ length forward.now.pushed }
-    requires alive { (tag : SomeTag) × IsTagFor forward.now.instance tag × (tag.code ≤ (B.state bound.old).told) × (Dead forward.now.instance (triple_from tag.code) forward.now.pushed → ⊥) }
-    ensures { IsConcluded forward.now.instance forward.now.pushed (B.state bound.old) (B.state bound.new) log.old log.new result }
+    requires valid { IsInstance forward.old.instance }
+    requires room { length plan.old ≡ length forward.old.instance.paths }
+    requires prefix { IsPrefix forward.old.instance forward.old.pushed }
+    requires full { length (work_order forward.old.instance) ≤ length forward.old.pushed }
+    requires alive { (tag : SomeTag) × IsTagFor forward.old.instance tag × (tag.code ≤ (B.state bound.old).told) × (Dead forward.old.instance (triple_from tag.code) forward.old.pushed → ⊥) }
+    ensures front { forward.new ≡ forward.old }
+    ensures concluded { IsConcluded forward.old.instance forward.old.pushed (B.state bound.old) (B.state bound.new) log.old log.new result }
 {
     fill(plan, forward.partial());
     let Some(triple) = cost(forward.tables().instance(), plan) else {
@@ -95,5 +98,5 @@ pub fn conclude<B: Bound>(
     log.keep_best(triple, plan)?;
     let tag = tag_of(triple);
     bound.offer(tag);
-    add_line(alloc, tag, None, Items::new(alloc), forward, log)
+    add_dead(alloc, scratch, tag, forward, log)
 }

@@ -57,19 +57,20 @@ impl Walk {
 /// Comes to the prefix that is pushed. Where it isn't settled at once, it is the innermost node from then on.
 fn visit<B: Bound, H: Shared>(
     walk: &mut Walk,
-    forward: &Forward,
+    forward: &mut Forward,
     fuel: &mut Fuel,
     bound: &mut B,
     shared: &mut H,
     log: &mut Log,
 ) -> Result<Option<Found>, NoMemory>
-    requires ready { IsReady forward.now.instance walk.old }
-    requires prefix { IsPrefix forward.now.instance forward.now.pushed }
-    requires serves { H.serves shared.old forward.now.instance }
-    ensures ready { IsReady forward.now.instance walk.new }
+    requires ready { IsReady forward.old.instance walk.old }
+    requires prefix { IsPrefix forward.old.instance forward.old.pushed }
+    requires serves { H.serves shared.old forward.old.instance }
+    ensures ready { IsReady forward.old.instance walk.new }
+    ensures front { forward.new ≡ forward.old }
     ensures level { walk.new.level ≡ walk.old.level }
     ensures serves { (instance : Instance) → H.serves shared.old instance ↔ H.serves shared.new instance }
-    ensures visited { IsVisited forward.now.instance walk.old.level forward.now.pushed walk.old.nodes.items walk.new.nodes.items
+    ensures visited { IsVisited forward.old.instance walk.old.level forward.old.pushed walk.old.nodes.items walk.new.nodes.items
         (world fuel.old.amount (B.state bound.old) (H.state shared.old) log.old) (world fuel.new.amount (B.state bound.new) (H.state shared.new) log.new) result }
 {
     let target = match enter(walk.level, forward, fuel, bound, shared) {
@@ -80,7 +81,14 @@ fn visit<B: Bound, H: Shared>(
     let order = tables.order();
     let depth = forward.pushed().len();
     if depth >= order.len() {
-        let found = conclude(walk.alloc, &mut walk.plan, forward, bound, log)?;
+        let found = conclude(
+            walk.alloc,
+            &mut walk.scratch,
+            &mut walk.plan,
+            forward,
+            bound,
+            log,
+        )?;
         return Ok(Some(found));
     }
     let path = order[depth];

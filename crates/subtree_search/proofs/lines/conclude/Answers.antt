@@ -1,11 +1,12 @@
-use Rattle.std.proofs.Common.{◌≡◌, None, true, false, ◌∙◌, sym, ap, subst, arith}
+use Rattle.std.proofs.Common.{◌≡◌, true, false, ◌∙◌, sym, ap, subst, arith}
 use Rattle.fapp_model.specs.Assignments.{IsAssignment, meets}
 use Rattle.fapp_model.specs.Costs.{cost}
-use Rattle.fapp_model.specs.Tags.{code_of}
+use Rattle.fapp_model.specs.Tags.{IsTagOf, code_of, triple_from}
+use Rattle.fapp_model.specs.search.Dead.{Dead}
 use Rattle.search_log.specs.Logs.{KeepsBest}
 use Rattle.search_log.specs.Bounds.{Offers}
-use Rattle.settle_laws.specs.Lines.{IsLined, Offered}
-use Rattle.settle_laws.proofs.FullPrefixes.{cost-low, unmet-dead}
+use Rattle.settle_laws.specs.Lines.{Offered}
+use Rattle.settle_laws.proofs.FullPrefixes.{cost-low, cost-own, dead-at-cost, unmet-dead}
 use Rattle.settle_laws.proofs.Offering.{concluded, cost-tag-code}
 use Rattle.subtree_search.specs.Plans.{IsPlanOf}
 use Rattle.subtree_search.proofs.Planned.{plan-assignment, plan-extends, plan-feasible, plan-unmet}
@@ -53,8 +54,8 @@ offer-requires g c =
     a.0.code a.1 a.3 in
     omega (arith, low, code, a.2)
 
-pub returns : goal.returns
-returns g c =
+pub returns-clause-concluded : goal.returns-clause-concluded
+returns-clause-concluded g c =
     let costs : c.in-Some.triple ≡ cost c.args.forward.now.instance c.fill.new.plan = c.in-Some.ensures.1 ∙ ap (λ i. cost i c.fill.new.plan) (c.instance.ensures.value ∙ c.tables.ensures) in
     let code : c.tag_of-tag.result.code ≡ code_of (cost c.args.forward.now.instance c.fill.new.plan) = c.tag_of-tag.ensures.code ∙ ap code_of costs in
     let met : meets c.args.forward.now.instance c.fill.new.plan ≡ true = subst (λ i. meets i c.fill.new.plan ≡ true) (c.instance.ensures.value ∙ c.tables.ensures) c.in-Some.ensures.0 in
@@ -69,5 +70,23 @@ returns g c =
       keeps = subst (λ t. KeepsBest c.args.log.now t c.fill.new.plan c.keep_best.new.self) costs c.in_ok-keep_best.ensures.ok;
       offers = subst (λ n. Offers (g.B.Bound.state c.args.bound.now) (g.B.Bound.state c.offer.new.self) n) code c.offer.ensures;
     } in
-    concluded c.args.forward.now.instance c.args.forward.now.pushed (g.B.Bound.state c.args.bound.now) (g.B.Bound.state c.offer.new.self) c.args.log.now c.keep_best.new.self c.add_line.new.log c.tag_of-tag.result o code c.add_line.result
-    (subst (λ refs. IsLined c.args.forward.now.instance c.args.forward.now.pushed c.tag_of-tag.result None refs c.keep_best.new.self c.add_line.new.log c.add_line.result) c.new.ensures c.add_line.ensures)
+    concluded c.args.forward.now.instance c.args.forward.now.pushed (g.B.Bound.state c.args.bound.now) (g.B.Bound.state c.offer.new.self) c.args.log.now c.keep_best.new.self c.add_dead.new.log c.tag_of-tag.result o code c.add_dead.ensures.lined.0 c.add_dead.ensures.lined.1 c.add_dead.result
+    c.add_dead.ensures.lined.2
+
+pub add_dead-requires-clause-tag : goal.add_dead-requires-clause-tag
+add_dead-requires-clause-tag g c =
+    let costs : c.in-Some.triple ≡ cost c.args.forward.now.instance c.fill.new.plan = c.in-Some.ensures.1 ∙ ap (λ i. cost i c.fill.new.plan) (c.instance.ensures.value ∙ c.tables.ensures) in
+    let code : c.tag_of-tag.result.code ≡ code_of (cost c.args.forward.now.instance c.fill.new.plan) = c.tag_of-tag.ensures.code ∙ ap code_of costs in
+    subst (λ n. IsTagOf c.args.forward.now.instance (triple_from n)) (sym code) (cost-own c.args.forward.now.instance c.fill.new.plan c.requires.valid)
+
+pub add_dead-requires-clause-dead : goal.add_dead-requires-clause-dead
+add_dead-requires-clause-dead g c =
+    let costs : c.in-Some.triple ≡ cost c.args.forward.now.instance c.fill.new.plan = c.in-Some.ensures.1 ∙ ap (λ i. cost i c.fill.new.plan) (c.instance.ensures.value ∙ c.tables.ensures) in
+    let code : c.tag_of-tag.result.code ≡ code_of (cost c.args.forward.now.instance c.fill.new.plan) = c.tag_of-tag.ensures.code ∙ ap code_of costs in
+    subst (λ n. Dead c.args.forward.now.instance (triple_from n) c.args.forward.now.pushed) (sym code) (dead-at-cost c.args.forward.now.instance c.requires.valid c.args.forward.now.pushed c.requires.prefix c.requires.full c.fill.new.plan
+    (plan-assignment c.args.forward.now.instance c.requires.valid c.args.forward.now.pushed c.requires.prefix c.requires.full
+    (prefix-is_partial c.args.forward.now.instance c.args.forward.now.pushed c.requires.prefix) c.partial.result.now c.partial.ensures c.fill.new.plan (c.fill.auto.plan ∙ c.requires.room)
+    (subst (λ n. IsPlanOf c.partial.result.now n c.fill.new.plan) c.requires.room c.fill.ensures))
+    (plan-extends c.args.forward.now.instance c.requires.valid c.args.forward.now.pushed c.requires.prefix c.requires.full
+    (prefix-is_partial c.args.forward.now.instance c.args.forward.now.pushed c.requires.prefix) c.partial.result.now c.partial.ensures c.fill.new.plan (c.fill.auto.plan ∙ c.requires.room)
+    (subst (λ n. IsPlanOf c.partial.result.now n c.fill.new.plan) c.requires.room c.fill.ensures)))

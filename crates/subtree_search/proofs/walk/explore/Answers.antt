@@ -1,5 +1,7 @@
-use Rattle.std.proofs.Common.{◌<◌, ◌≤◌, Ok, Err, refl, sym, subst, arith}
+use Rattle.std.proofs.Common.{◌<◌, ◌≤◌, Ok, Err, sym, ap, subst, ◌∙◌, arith}
 use Rattle.std.specs.declared.alloc.AllocError.{AllocError}
+use Rattle.count_laws.specs.ForwardStates.{ForwardState, with_literals}
+use Rattle.settle_laws.specs.OpenNodes.{IsTrying}
 use Rattle.settle_laws.specs.Worlds.{world}
 use Rattle.subtree_search.specs.Steps.{IsAdvanced, IsNoted, IsVisited, Lightens, NotesLess}
 use Rattle.subtree_search.specs.Walks.{work_left}
@@ -11,9 +13,10 @@ pub loop-found-init : goal.loop-found-init
 loop-found-init g c = record {
   serves = c.visit.ensures.serves;
   exploring = record {
-    fronted = record { front = refl; level_is = c.visit.ensures.level; ready = c.visit.ensures.ready; prefix = c.requires.prefix };
-    trying = opened-trying c.args.forward.now.instance c.args.walk.now.level c.args.forward.now.pushed c.args.walk.now.nodes.items c.visit.new.walk.nodes.items (world c.args.fuel.now.amount (g.B.Bound.state c.args.bound.now) (g.H.Shared.state c.args.shared.now) c.args.log.now) (world c.visit.new.fuel.amount (g.B.Bound.state c.visit.new.bound) (g.H.Shared.state c.visit.new.shared) c.visit.new.log) c.requires.empty
-        (subst (λ o. IsVisited {E = AllocError} c.args.forward.now.instance c.args.walk.now.level c.args.forward.now.pushed c.args.walk.now.nodes.items c.visit.new.walk.nodes.items (world c.args.fuel.now.amount (g.B.Bound.state c.args.bound.now) (g.H.Shared.state c.args.shared.now) c.args.log.now) (world c.visit.new.fuel.amount (g.B.Bound.state c.visit.new.bound) (g.H.Shared.state c.visit.new.shared) c.visit.new.log) (Ok o)) c.in_default.is c.in_ok-found.ensures.visited);
+    fronted = record { front = c.visit.ensures.front ∙ ap (λ (s : ForwardState). with_literals c.args.forward.now s.pushed) (sym c.visit.ensures.front); level_is = c.visit.ensures.level; ready = c.visit.ensures.ready; prefix = c.requires.prefix };
+    trying = subst (λ (s : ForwardState). IsTrying c.args.forward.now.instance c.args.walk.now.level c.args.forward.now.pushed (world c.args.fuel.now.amount (g.B.Bound.state c.args.bound.now) (g.H.Shared.state c.args.shared.now) c.args.log.now) c.visit.new.walk.nodes.items s.pushed (world c.visit.new.fuel.amount (g.B.Bound.state c.visit.new.bound) (g.H.Shared.state c.visit.new.shared) c.visit.new.log)) (sym c.visit.ensures.front)
+        (opened-trying c.args.forward.now.instance c.args.walk.now.level c.args.forward.now.pushed c.args.walk.now.nodes.items c.visit.new.walk.nodes.items (world c.args.fuel.now.amount (g.B.Bound.state c.args.bound.now) (g.H.Shared.state c.args.shared.now) c.args.log.now) (world c.visit.new.fuel.amount (g.B.Bound.state c.visit.new.bound) (g.H.Shared.state c.visit.new.shared) c.visit.new.log) c.requires.empty
+        (subst (λ o. IsVisited {E = AllocError} c.args.forward.now.instance c.args.walk.now.level c.args.forward.now.pushed c.args.walk.now.nodes.items c.visit.new.walk.nodes.items (world c.args.fuel.now.amount (g.B.Bound.state c.args.bound.now) (g.H.Shared.state c.args.shared.now) c.args.log.now) (world c.visit.new.fuel.amount (g.B.Bound.state c.visit.new.bound) (g.H.Shared.state c.visit.new.shared) c.visit.new.log) (Ok o)) c.in_default.is c.in_ok-found.ensures.visited));
   };
 }
 

@@ -89,9 +89,10 @@ returns-clause-advanced g c =
     let same : c.push.new.self.instance ≡ f.instance = ap (λ (s : ForwardState). s.instance) c.push.ensures in
     λ root from prefix trying.
     let h = trying-at f.instance c.args.walk.now.level root from prefix c.args.walk.now.nodes.items c.pop.new.self.items c.in-Some.node f.pushed now c.in-Some.ensures.items trying in
-    visits f.instance c.args.walk.now.level root from prefix c.requires.ready.valid c.requires.ready.level c.pop.new.self.items c.in-Some.node f.pushed now h c.if-node.false
+    subst (λ (s : ForwardState). IsAdvanced f.instance c.args.walk.now.level root from c.visit.new.walk.nodes.items s.pushed after c.visit.result) (sym c.visit.ensures.front)
+    (visits f.instance c.args.walk.now.level root from prefix c.requires.ready.valid c.requires.ready.level c.pop.new.self.items c.in-Some.node f.pushed now h c.if-node.false
     c.push.new.self.pushed (ap (λ (s : ForwardState). s.pushed) c.push.ensures) c.push-2.new.self.items c.in_ok-push.ensures.items c.visit.new.walk.nodes.items after c.visit.result
-    (subst (λ i. IsVisited i c.args.walk.now.level c.push.new.self.pushed c.push-2.new.self.items c.visit.new.walk.nodes.items now after c.visit.result) same c.visit.ensures.visited)
+    (subst (λ i. IsVisited i c.args.walk.now.level c.push.new.self.pushed c.push-2.new.self.items c.visit.new.walk.nodes.items now after c.visit.result) same c.visit.ensures.visited))
 
 pub add_explained-requires-clause-asked : goal.add_explained-requires-clause-asked
 add_explained-requires-clause-asked g c =

@@ -27,7 +27,7 @@ returns-in_err-found-clause-visited g c =
     let full = full-length f.instance f.pushed c.order-order.result.now c.pushed-depth.result.now (c.order-order.ensures ∙ ap work_order c.tables-tables.ensures) c.pushed-depth.ensures.literals (omega arith) in
     visited-err f.instance c.args.walk.now.level f.pushed c.args.walk.now.nodes.items c.args.walk.now.nodes.items old (world c.enter.new.fuel.amount (g.B.Bound.state c.conclude.new.bound) (g.H.Shared.state c.enter.new.shared) c.conclude.new.log) c.from_residual.result c.from_residual.ensures.0
     (λ e. full-searched f.instance c.requires.ready.valid c.args.walk.now.level c.requires.ready.level f.pushed c.requires.prefix old now c.in-Ticked.target (c.in-Ticked.ensures.entry c.args.log.now)
-    (prefix-is_partial f.instance f.pushed c.requires.prefix) full (g.B.Bound.state c.conclude.new.bound) c.conclude.new.log (Err e) c.in_err-found.ensures)
+    (prefix-is_partial f.instance f.pushed c.requires.prefix) full (g.B.Bound.state c.conclude.new.bound) c.conclude.new.log (Err e) c.in_err-found.ensures.concluded)
 
 pub returns-then-depth-order-clause-ready : goal.returns-then-depth-order-clause-ready
 returns-then-depth-order-clause-ready g c = record { valid = c.requires.ready.valid; level = c.requires.ready.level; room = written-length c.args.walk.now.plan.items c.conclude.new.plan c.args.walk.now.plan.len (omega (arith, c.args.walk.now.plan.ok.0)) (c.conclude.auto.plan ∙ ap length c.deref_mut.ensures.value) ∙ c.requires.ready.room }
@@ -40,7 +40,7 @@ returns-then-depth-order-clause-visited g c =
     let full = full-length f.instance f.pushed c.order-order.result.now c.pushed-depth.result.now (c.order-order.ensures ∙ ap work_order c.tables-tables.ensures) c.pushed-depth.ensures.literals (omega arith) in (
       refl,
       full-searched f.instance c.requires.ready.valid c.args.walk.now.level c.requires.ready.level f.pushed c.requires.prefix old now c.in-Ticked.target (c.in-Ticked.ensures.entry c.args.log.now)
-          (prefix-is_partial f.instance f.pushed c.requires.prefix) full (g.B.Bound.state c.conclude.new.bound) c.conclude.new.log (Ok c.in_ok-found.found) c.in_ok-found.ensures,
+          (prefix-is_partial f.instance f.pushed c.requires.prefix) full (g.B.Bound.state c.conclude.new.bound) c.conclude.new.log (Ok c.in_ok-found.found) c.in_ok-found.ensures.concluded,
     )
 
 pub bounds-as_slice-path : goal.bounds-as_slice-path
