@@ -14,4 +14,5 @@ pub mod Ends
 pub mod Steps
 pub mod Opening
 pub mod Lining
+pub mod Passing
 pub mod Settling
