@@ -119,8 +119,8 @@ fn blank_table(alloc: Global, tables: &Tables) -> Result<Vec<Links>, NoMemory>
 
 /// What the choices of neighbouring paths count in each other's words at a level. Contracts see the instance and the level.
 ///
-/// It takes at most 24 bytes for each of the cells of two paths, which are at most 12 a record and 32 in all, seen from both
-/// of the paths.
+/// It takes at most 24 bytes for each of the cells of two paths, which are at most 12 a record and 32 in all, and 64 bytes of
+/// hints, seen from both of the paths.
 #[derive(Debug, Drop)]
 pub struct WordTable<'a> {
     tables: &'a Tables<'a>,

@@ -58,7 +58,7 @@ impl<'a> Model for Forward<'a> {
 
 impl<'a> Forward<'a> {
     /// Starts with no literal, counting at the instance's highest level. It takes 8 bytes a choice, 72 a path and, seen from
-    /// each of two neighbouring paths, at most 32 cells of 24 bytes (12 for one record) and 40 bytes more; no other call takes
+    /// each of two neighbouring paths, at most 32 cells of 24 bytes (12 for one record) and 136 bytes more; no other call takes
     /// memory.
     pub fn new(
         alloc: Global,
