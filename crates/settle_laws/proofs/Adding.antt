@@ -1,10 +1,18 @@
 -- Lists that have all of others, and lines that are added.
-use Rattle.std.proofs.Common.{◌≡◌, List, [], ◌∷◌, ◌++◌, All, AllPairs, Contains, sym, ap, ◌∙◌, ⊎_elim, append_assoc, append-nil}
+use Rattle.std.proofs.Common.{◌≡◌, ◌≤◌, ◌<◌, Some, length, subst, arith, List, [], ◌∷◌, ◌++◌, All, AllPairs, Contains, sym, ap, ◌∙◌, ⊎_elim, append_assoc, append-nil}
 use Rattle.std.proofs.lemmas.List.Elements.{All-append, All-contains, All-cons, All-nil, Contains-append_cases}
 use Rattle.fapp_model.proofs.InOrder.{pairs-append}
 use Rattle.fapp_model.proofs.Members.{All-from_members, at_front, behind}
 use Rattle.log_laws.specs.declared.line.LogLine.{LogLine}
-use Rattle.settle_laws.specs.Worlds.{Gains, IsPlain}
+use Rattle.std.specs.List.{slice_get}
+use Rattle.std.proofs.lemmas.Bool.{cases_lt}
+use Rattle.std.proofs.lemmas.Option.{slice_get_within}
+use Rattle.fapp_model.specs.declared.instance.Instance.{Instance}
+use Rattle.fapp_model.specs.InstanceTags.{IsTagFor}
+use Rattle.log_laws.specs.Contents.{content_of}
+use Rattle.log_laws.proofs.Places.{front-or-last, get-front, last-is}
+use Rattle.search_log.specs.Shares.{IsServed}
+use Rattle.settle_laws.specs.Worlds.{AreServed, Gains, IsPlain}
 
 module _ {X : Type 0} where
   pub has-same : (xs : List X) → All (Contains xs) xs
@@ -37,3 +45,25 @@ gains-trans a b c h k = record {
 
 pub gains-one : (lines longer : List LogLine) (line : LogLine) → longer ≡ lines ++ line ∷ [] → IsPlain line → Gains lines longer
 gains-one lines longer line e plain = record { more = line ∷ []; are = e; plain = All-cons IsPlain line [] plain (All-nil IsPlain) }
+
+-- ---- lines that are implied
+
+pub served-none : (instance : Instance) (lines : List LogLine) → AreServed instance (length lines) lines
+served-none instance lines n line low at = absurd (omega (arith, low, slice_get_within lines n line at))
+
+pub served-same : (instance : Instance) (lines longer : List LogLine) → longer ≡ lines → AreServed instance (length lines) longer
+served-same instance lines longer same = subst (λ ls. AreServed instance (length lines) ls) (sym same) (served-none instance lines)
+
+pub served-trans : (instance : Instance) (a b c : List LogLine) → Gains b c → AreServed instance (length a) b → AreServed instance (length b) c → AreServed instance (length a) c
+served-trans instance a b c gains h k n line low at = ⊎_elim
+    (λ early. h n line low (get-front b gains.more n line early (subst (λ ls. slice_get ls n ≡ Some line) gains.are at)))
+    (λ late. k n line late at)
+    (cases_lt n (length b))
+
+pub served-one : (instance : Instance) (lines longer : List LogLine) (line : LogLine) → longer ≡ lines ++ line ∷ [] → IsServed instance (content_of line) → IsTagFor instance line.tag → AreServed instance (length lines) longer
+served-one instance lines longer line e served own n other low at =
+    let there : slice_get (lines ++ line ∷ []) n ≡ Some other = subst (λ ls. slice_get ls n ≡ Some other) e at in
+    ⊎_elim
+    (λ early. absurd (omega (arith, low, early)))
+    (λ last. subst (λ (l : LogLine). IsServed instance (content_of l) × IsTagFor instance l.tag) (last-is lines line other n last there) (served, own))
+    (front-or-last lines line n other there)

@@ -32,7 +32,7 @@ use Rattle.log_laws.proofs.Segmenting.{log-push}
 use Rattle.search_log.specs.Bounds.{BoundState}
 use Rattle.search_log.specs.LogStates.{LogState}
 use Rattle.search_log.specs.Logs.{with_line}
-use Rattle.search_log.specs.Shares.{SharedState, known}
+use Rattle.search_log.specs.Shares.{IsServed, SharedState, known}
 use Rattle.settle_laws.specs.declared.found.Found.{Found}
 use Rattle.settle_laws.specs.declared.found.Found.TheVariants.{Settled}
 use Rattle.settle_laws.specs.declared.node.Node.{Node}
@@ -44,7 +44,7 @@ use Rattle.settle_laws.specs.Ticked.{IsTicked}
 use Rattle.settle_laws.specs.Ticks.{OffersCost, Ticks, TicksBelow}
 use Rattle.settle_laws.specs.Trying.{AreTriedChoices, IsChild, Trying}
 use Rattle.settle_laws.specs.Worlds.{IsKeptRight, IsLeastOffered, IsPlain, Keeps, KeepsAtMost, World, world}
-use Rattle.settle_laws.proofs.Adding.{gains-none, gains-one, gains-trans, has-same, has-trans}
+use Rattle.settle_laws.proofs.Adding.{gains-none, gains-one, gains-trans, has-same, has-trans, served-one, served-trans}
 use Rattle.settle_laws.proofs.FullPrefixes.{cost-low, cost-own, same-plan}
 use Rattle.settle_laws.proofs.Keeping.{keeps-same, keeps-trans}
 use Rattle.settle_laws.proofs.LineParts.{branch-good, count-good, names-same}
@@ -77,14 +77,16 @@ module _ (instance : Instance) (literals : List Literal) (old now : World) (keep
   line-good good_line good = subst (λ (l : LogState). IsGoodLog instance (known now.shared) l.lines l.segments) (sym added)
       (log-push instance (known now.shared) now.log.lines now.log.segments line good good_line)
 
-  pub line-keeps : IsPlain line → IsGoodLine instance (known now.shared) now.log.lines line → Keeps instance old (world now.fuel now.bound now.shared log)
-  line-keeps plain good_line = record {
+  pub line-keeps : IsPlain line → IsGoodLine instance (known now.shared) now.log.lines line → IsServed instance (content_of line) → IsTagFor instance line.tag → Keeps instance old (world now.fuel now.bound now.shared log)
+  line-keeps plain good_line served own = record {
     fuel = keeps.fuel;
     copied = keeps.copied;
     published = keeps.published;
     takes = keeps.takes;
     refusals = keeps.refusals;
     lines = gains-trans old.log.lines now.log.lines log.lines keeps.lines (gains-one now.log.lines log.lines line (ap (λ (l : LogState). l.lines) added) plain);
+    served = served-trans instance old.log.lines now.log.lines log.lines (gains-one now.log.lines log.lines line (ap (λ (l : LogState). l.lines) added) plain) keeps.served
+        (served-one instance now.log.lines log.lines line (ap (λ (l : LogState). l.lines) added) served own);
     segments = ap (λ (l : LogState). l.segments) added ∙ keeps.segments;
     good = λ good. line-good good_line (keeps.good good);
     began = keeps.began;
@@ -158,7 +160,7 @@ module _ (instance : Instance) (valid : IsInstance instance) (level : ℕ) (limi
 
     branch-by : {E : Type 0} → Searched {E = E} instance level literals old (world now.fuel now.bound now.shared log) (Ok (Settled (Own (length now.log.lines)) node.tag))
     branch-by = record {
-      keeps = line-keeps instance literals old now trying.keeps adds.line log adds.added plain good;
+      keeps = line-keeps instance literals old now trying.keeps adds.line log adds.added plain good (record { lits = adds.sorted.are; implied = implied }) (subst (λ (t : Tag). IsTagFor instance t) (sym adds.tag_is) node-own);
       few = omega (arith, trying.fewer, line-adds instance literals old now trying.keeps adds.line log adds.added);
       read = trying.read;
       is = record {
@@ -291,7 +293,7 @@ module _ (instance : Instance) (valid : IsInstance instance) (level : ℕ) (with
 
       full-by : {E : Type 0} → Searched {E = E} instance level literals old (world now.fuel after now.shared log) (Ok (Settled (Own (length c.kept.lines)) c.tag))
       full-by = record {
-        keeps = line-keeps instance literals old (world now.fuel after now.shared c.kept) to-kept c.adds.line log c.adds.added (λ none. c.adds.refs_are) full-good;
+        keeps = line-keeps instance literals old (world now.fuel after now.shared c.kept) to-kept c.adds.line log c.adds.added (λ none. c.adds.refs_are) full-good (record { lits = c.adds.sorted.are; implied = full-implied }) full-own;
         read = omega (arith, c.offered.offers.told, ticked.after.told);
         few = omega (arith, kept-few, ticked.took, few-lines, line-adds instance literals old (world now.fuel after now.shared c.kept) to-kept c.adds.line log c.adds.added);
         is = record {

@@ -26,7 +26,7 @@ use Rattle.settle_laws.specs.Levels.{level_code, target_code}
 use Rattle.settle_laws.specs.Stops.{ComesAfter, IsUndecided, NoneFits, stop_at}
 use Rattle.settle_laws.specs.Ticked.{IsTicked}
 use Rattle.settle_laws.specs.Worlds.{IsLeastOffered, Keeps, world}
-use Rattle.settle_laws.proofs.Adding.{gains-none, has-same}
+use Rattle.settle_laws.proofs.Adding.{gains-none, has-same, served-none}
 use Rattle.settle_laws.proofs.Keeping.{rows-grow}
 pub use Rattle.settle_laws.proofs.StopJoin.{floor-le}
 use Rattle.settle_laws.proofs.StopJoin.{none-counted, none-offered}
@@ -91,6 +91,7 @@ module _ (instance : Instance) (level : ℕ) (literals : List Literal) (fuel : �
       takes = refl;
       refusals = omega arith;
       lines = gains-none log.lines;
+      served = served-none instance log.lines;
       segments = refl;
       good = λ good. good;
       began = tells.began;
@@ -129,6 +130,7 @@ module _ (instance : Instance) (level : ℕ) (literals : List Literal) (fuel : �
       takes = looks.takes;
       refusals = looks.refusals;
       lines = gains-none log.lines;
+      served = served-none instance log.lines;
       segments = refl;
       good = λ good. log-more instance (known s) (known t) log.lines log.segments (rows-grow s t looks.kept looks.published) good;
       began = tells.began;

@@ -5,7 +5,7 @@ use Rattle.fapp_model.specs.declared.instance.Instance.{Instance}
 use Rattle.fapp_model.proofs.Members.{All-from_members}
 use Rattle.search_log.specs.Shares.{SharedState, known}
 use Rattle.settle_laws.specs.Worlds.{Keeps, World}
-use Rattle.settle_laws.proofs.Adding.{gains-none, gains-trans, has-same, has-trans}
+use Rattle.settle_laws.proofs.Adding.{gains-none, gains-trans, has-same, has-trans, served-none, served-trans}
 
 pub rows-grow : (old new : SharedState) → All (Contains new.copied) old.copied → new.published ≡ old.published → All (Contains (known new)) (known old)
 rows-grow old new copied published = All-from_members (Contains (known new)) (known old) (λ row m. ⊎_elim
@@ -21,6 +21,7 @@ keeps-same instance w = record {
   takes = refl;
   refusals = omega arith;
   lines = gains-none w.log.lines;
+  served = served-none instance w.log.lines;
   segments = refl;
   good = λ good. good;
   began = refl;
@@ -40,6 +41,7 @@ keeps-trans instance a b c h k = record {
   takes = k.takes ∙ h.takes;
   refusals = omega (arith, h.refusals, k.refusals);
   lines = gains-trans a.log.lines b.log.lines c.log.lines h.lines k.lines;
+  served = served-trans instance a.log.lines b.log.lines c.log.lines k.lines h.served k.served;
   segments = k.segments ∙ h.segments;
   good = λ good. k.good (h.good good);
   began = k.began ∙ h.began;

@@ -92,7 +92,7 @@ module _ {E : Type 0} (instance : Instance) (valid : IsInstance instance) (level
     dead-by : Lined {E = E} instance level literals old (world now.fuel now.bound now.shared log) (Ok (Settled (Own (length now.log.lines)) tag))
     dead-by = record {
       keeps = line-keeps instance literals old now s.keeps adds.line log adds.added (λ none. adds.refs_are)
-          (count-good instance valid literals partial (known now.shared) now.log.lines adds.line adds.sorted line-own adds.path_is adds.refs_are line-dead);
+          (count-good instance valid literals partial (known now.shared) now.log.lines adds.line adds.sorted line-own adds.path_is adds.refs_are line-dead) (record { lits = adds.sorted.are; implied = implied }) line-own;
       few = omega (arith, one-more);
       read = s.read;
       is = (

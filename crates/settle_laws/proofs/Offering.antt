@@ -29,7 +29,7 @@ use Rattle.settle_laws.specs.Explained.{IsDeadPart}
 use Rattle.settle_laws.specs.Lines.{IsConcluded, IsLined, Offered}
 use Rattle.settle_laws.specs.Ticks.{OfferedAtMost, OffersCost}
 use Rattle.settle_laws.specs.Worlds.{IsKeptRight, IsLeastOffered, Keeps, KeepsAtMost, world}
-use Rattle.settle_laws.proofs.Adding.{has-same}
+use Rattle.settle_laws.proofs.Adding.{has-same, served-same}
 use Rattle.settle_laws.proofs.FullPrefixes.{cost-back, not-below}
 use Rattle.settle_laws.proofs.TagCodes.{same-triple}
 
@@ -167,6 +167,7 @@ module _ (instance : Instance) (valid : IsInstance instance) (literals : List Li
     takes = refl;
     refusals = omega arith;
     lines = record { more = []; are = kept-lines ∙ sym (append-nil old.lines); plain = λ k d l. absurd (omega arith) };
+    served = served-same instance old.lines new.lines kept-lines;
     segments = kept-segments;
     good = λ good. subst (λ segments. IsGoodLog instance (known shared) new.lines segments) (sym kept-segments) (subst (λ lines. IsGoodLog instance (known shared) lines old.segments) (sym kept-lines) good);
     began = o.offers.began;

@@ -10,7 +10,8 @@ use Rattle.settle_laws.specs.Founds.{Searched}
 use Rattle.settle_laws.specs.Noted.{IsEnding}
 use Rattle.settle_laws.specs.OpenNodes.{OpenTo}
 use Rattle.settle_laws.specs.Trying.{Trying}
-use Rattle.settle_laws.specs.Worlds.{World}
+use Rattle.settle_laws.specs.Worlds.{Keeps, World}
+use Rattle.settle_laws.proofs.Keeping.{keeps-trans}
 use Rattle.settle_laws.proofs.NextPaths.{next-prefix}
 use Rattle.settle_laws.proofs.Steps.{ends}
 
@@ -55,3 +56,8 @@ module _ (instance : Instance) (level : ℕ) where
   pub open-out : (Q : Type 0) (nodes : List Node) (literals : List Literal) (old : World) → OpenTo (λ reached entered. Q) instance level literals old nodes → Q
   open-out Q [] literals old h = h
   open-out Q (node ∷ more) literals old h = open-out Q more (literals ++ literal node.path node.choice ∷ []) h.0 h.3
+
+  -- with what was kept since the search began
+  pub open-kept : (P : List Literal → World → Type 0) (nodes : List Node) (literals : List Literal) (start old : World) → Keeps instance start old → OpenTo P instance level literals old nodes → OpenTo (λ reached entered. Keeps instance start entered × P reached entered) instance level literals old nodes
+  open-kept P [] literals start old keeps h = (keeps, h)
+  open-kept P (node ∷ more) literals start old keeps h = (h.0, h.1, h.2, open-kept P more (literals ++ literal node.path node.choice ∷ []) start h.0 (keeps-trans instance start old h.0 keeps h.1.keeps) h.3)

@@ -1,6 +1,5 @@
 -- Choices of a node are passed by that are dead at its tag.
-use Rattle.std.proofs.Common.{below_more, ◌≡◌, ◌⊎◌, ℕ, zero, suc, ◌+◌, ◌-◌, ◌<◌, ◌≤◌, false, List, ◌∷◌, length, All, Some, refl, sym, ap, subst, ◌∙◌, inl, inr, ⊎_elim, arith}
-use Rattle.std.proofs.lemmas.Bool.{cases_lt}
+use Rattle.std.proofs.Common.{below_more, ◌≡◌, ◌⊎◌, ℕ, zero, suc, ◌+◌, ◌-◌, ◌<◌, ◌≤◌, false, List, [], ◌∷◌, ◌++◌, length, All, Some, refl, sym, ap, subst, ◌∙◌, inl, inr, ⊎_elim, arith}
 use Rattle.std.proofs.lemmas.List.Elements.{All-contains}
 use Rattle.fapp_model.specs.declared.instance.Instance.{Instance}
 use Rattle.fapp_model.specs.declared.literal.Literal.{Literal}
@@ -11,18 +10,24 @@ use Rattle.fapp_model.specs.Levels.{levels_of}
 use Rattle.fapp_model.specs.Tags.{triple_from}
 use Rattle.fapp_model.specs.search.Dead.{Dead}
 use Rattle.fapp_model.specs.search.Implied.{Implied}
-use Rattle.fapp_model.specs.search.Partials.{IsPartial, literal}
+use Rattle.fapp_model.specs.search.Partials.{HasAll, IsPartial, literal, names}
 use Rattle.fapp_model.specs.search.Prefixes.{IsPrefix}
 use Rattle.fapp_model.proofs.Members.{All-from_members}
 use Rattle.dead_laws.proofs.DeadImplied.{dead-implied}
 use Rattle.log_laws.specs.declared.line.ChoiceRef.{ChoiceRef}
+use Rattle.log_laws.specs.declared.line.LogLine.{LogLine}
+use Rattle.log_laws.specs.declared.line.Ref.TheVariants.{Own}
+use Rattle.log_laws.specs.Contents.{content_of}
 use Rattle.log_laws.specs.GoodLines.{IsSettled}
+use Rattle.std.specs.List.{slice_get}
+use Rattle.fapp_model.specs.InstanceTags.{IsTagFor}
 use Rattle.settle_laws.specs.declared.node.Node.{Node}
 use Rattle.settle_laws.specs.Founds.{IsTarget}
-use Rattle.settle_laws.specs.Passed.{Passes}
 use Rattle.settle_laws.specs.Ticks.{IsEarlier, TicksBelow}
 use Rattle.settle_laws.specs.Trying.{AreTriedChoices, Trying}
-use Rattle.settle_laws.specs.Worlds.{World}
+use Rattle.settle_laws.specs.Worlds.{AreServed, World}
+use Rattle.settle_laws.specs.Noted.{by_choice}
+use Rattle.settle_laws.proofs.Tried.{tried-settled}
 use Rattle.settle_laws.proofs.LineParts.{with-literal}
 use Rattle.settle_laws.proofs.NextPaths.{next-apart, next-small}
 use Rattle.settle_laws.proofs.TagCodes.{tag-small}
@@ -38,38 +43,58 @@ ticks-later instance level prefix path index later old new low t = record {
   counted = t.counted;
 }
 
--- before or not
-split : (P : ℕ → Type 0) (a b : ℕ) → ((i : ℕ) → i < a → P i) → ((i : ℕ) → a ≤ i → i < b → P i) → (i : ℕ) → i < b → P i
-split P a b before behind i l = ⊎_elim (λ e. before i e) (λ e. behind i e l) (cases_lt i a)
-
-module _ (instance : Instance) (valid : IsInstance instance) (level : ℕ) (limit : level ≤ levels_of instance) (literals : List Literal) (prefix : IsPrefix instance literals) (old now : World) (node new : Node) (trying : Trying instance level literals old now node) (p : Passes instance literals node new) where
+module _ (instance : Instance) (valid : IsInstance instance) (level : ℕ) (limit : level ≤ levels_of instance) (literals : List Literal) (prefix : IsPrefix instance literals) (old now : World) (node : Node) (trying : Trying instance level literals old now node) (more : node.choice < node.count) where
   partial : IsPartial instance literals
   partial = prefix-is_partial instance literals prefix
 
-  few : new.choice ≤ count_at instance node.path
-  few = omega (arith, p.within, p.count_is, trying.counted)
+  small : node.path < length instance.paths
+  small = next-small instance literals prefix node.path trying.next
 
-  tried : AreTriedChoices instance now.shared.copied now.log.lines literals node.tag.code node.path new.choice node.refs
-  tried = record {
-    ascending = trying.choices.ascending;
-    below = All-from_members (λ (ref : ChoiceRef). ref.choice < new.choice) node.refs (λ ref m. let l = All-contains (λ (r : ChoiceRef). r.choice < node.choice) node.refs ref trying.choices.below m in omega (arith, l, p.later));
-    children = trying.choices.children;
-    settled = split (λ i. IsSettled instance node.tag.code literals node.path node.refs i) node.choice new.choice trying.choices.settled (λ i low l. inr (p.dead i low l));
-    implied = split (λ i. Implied instance (triple_from node.tag.code) (literal node.path i ∷ literals)) node.choice new.choice trying.choices.implied
-        (λ i low l. dead-implied instance (triple_from node.tag.code) (literal node.path i ∷ literals) valid (tag-small instance level node.tag limit (omega (arith, trying.target)))
-        (with-literal instance literals node.path i partial (next-small instance literals prefix node.path trying.next) (omega (arith, l, few)) (next-apart instance literals prefix node.path trying.next)) (p.dead i low l));
-  }
+  apart : names literals node.path ≡ false
+  apart = next-apart instance literals prefix node.path trying.next
 
-  pub passes-on : Trying instance level literals old now new
-  passes-on = record {
-    next = trying.next ∙ ap (λ (q : ℕ). Some q) (sym p.path_is);
-    counted = p.count_is ∙ (trying.counted ∙ ap (λ q. count_at instance q) (sym p.path_is));
-    within = p.within;
+  below : node.choice < count_at instance node.path
+  below = omega (arith, more, trying.counted)
+
+  own : IsTagFor instance node.tag
+  own = tag-small instance level node.tag limit (omega (arith, trying.target))
+
+  with-next : (refs : List ChoiceRef) → AreTriedChoices instance now.shared.copied now.log.lines literals node.tag.code node.path (node.choice + 1) refs → (new : Node) → new.tag ≡ node.tag → new.path ≡ node.path → new.count ≡ node.count → new.choice ≡ node.choice + 1 → new.refs ≡ refs → Trying instance level literals old now new
+  with-next refs tried new tag_is path_is count_is choice_is refs_are = record {
+    next = trying.next ∙ ap (λ (q : ℕ). Some q) (sym path_is);
+    counted = count_is ∙ (trying.counted ∙ ap (λ q. count_at instance q) (sym path_is));
+    within = omega (arith, more, choice_is, count_is);
     read = trying.read;
     keeps = trying.keeps;
     fewer = trying.fewer;
     is_open = trying.is_open;
-    target = subst (λ (t : Tag). IsTarget level now.bound t.code) (sym p.tag_is) trying.target;
-    choices = rw (p.tag_is, p.path_is, p.refs_are) tried;
-    ticks = rw (p.path_is) (ticks-later instance level literals node.path node.choice new.choice old now p.later trying.ticks);
+    target = subst (λ (t : Tag). IsTarget level now.bound t.code) (sym tag_is) trying.target;
+    choices = rw (tag_is, path_is, choice_is, refs_are) tried;
+    ticks = rw (path_is, choice_is) (ticks-later instance level literals node.path node.choice (node.choice + 1) old now (omega arith) trying.ticks);
   }
+
+  -- the choice is dead with the literals
+  pub dead-next : Dead instance (triple_from node.tag.code) (literal node.path node.choice ∷ literals) → (new : Node) → new.tag ≡ node.tag → new.path ≡ node.path → new.count ≡ node.count → new.choice ≡ node.choice + 1 → new.refs ≡ node.refs → Trying instance level literals old now new
+  dead-next dead = with-next node.refs (record {
+    ascending = trying.choices.ascending;
+    below = All-from_members (λ (ref : ChoiceRef). ref.choice < node.choice + 1) node.refs (λ ref m. let l = All-contains (λ (r : ChoiceRef). r.choice < node.choice) node.refs ref trying.choices.below m in omega (arith, l));
+    children = trying.choices.children;
+    settled = below_more (λ i. IsSettled instance node.tag.code literals node.path node.refs i) node.choice trying.choices.settled (inr dead);
+    implied = below_more (λ i. Implied instance (triple_from node.tag.code) (literal node.path i ∷ literals)) node.choice trying.choices.implied
+        (dead-implied instance (triple_from node.tag.code) (literal node.path node.choice ∷ literals) valid own (with-literal instance literals node.path node.choice partial small below apart) dead);
+  })
+
+  -- an earlier line of the log is within the literals and the choice
+  pub cited-next : (first n : ℕ) (line : LogLine) → AreServed instance first now.log.lines → first ≤ n → slice_get now.log.lines n ≡ Some line → node.tag.code ≤ line.tag.code → HasAll (literals ++ literal node.path node.choice ∷ []) line.lits →
+      (new : Node) → new.tag ≡ node.tag → new.path ≡ node.path → new.count ≡ node.count → new.choice ≡ node.choice + 1 → new.refs ≡ node.refs ++ by_choice node.choice (Own n) ∷ [] → Trying instance level literals old now new
+  cited-next first n line served low at reaches contained =
+      let s = served n line low at in
+      with-next (node.refs ++ by_choice node.choice (Own n) ∷ []) (tried-settled instance valid literals partial node.path node.choice small below apart now.shared.copied now.log.lines node.tag.code own node.refs trying.choices
+      (Own n) node.tag.code (omega arith) (record {
+        content = content_of line;
+        cited = (line, at, refl);
+        reaches = reaches;
+        contained = contained;
+        served = s.0;
+        own = s.1;
+      }))

@@ -1,16 +1,18 @@
 -- All that a search changes, and what it keeps.
-use Rattle.std.specs.Prelude.{◌≡◌, ℕ, ◌≤◌, List, [], ◌++◌, All, Contains, Option, Some, None}
+use Rattle.std.specs.Prelude.{◌≡◌, ℕ, ◌≤◌, List, [], ◌++◌, length, slice_get, All, Contains, Option, Some, None}
 use Rattle.fapp_model.specs.declared.instance.Instance.{Instance}
 use Rattle.fapp_model.specs.Costs.{cost}
+use Rattle.fapp_model.specs.InstanceTags.{IsTagFor}
 use Rattle.fapp_model.specs.Least.{IsFeasible}
 use Rattle.fapp_model.specs.Tags.{triple_from}
 use Rattle.fapp_model.specs.Triples.{IsAtMost}
 use Rattle.log_laws.specs.declared.line.LogLine.{LogLine}
+use Rattle.log_laws.specs.Contents.{content_of}
 use Rattle.log_laws.specs.Segments.{IsGoodLog}
 use Rattle.search_log.specs.declared.log.KeptPlan.{KeptPlan}
 use Rattle.search_log.specs.Bounds.{BoundState, floor, lowest}
 use Rattle.search_log.specs.LogStates.{LogState}
-use Rattle.search_log.specs.Shares.{SharedState, known}
+use Rattle.search_log.specs.Shares.{IsServed, SharedState, known}
 
 -- the fuel, the bound, the shared rows and the log
 pub record World : Type 0 where
@@ -21,6 +23,10 @@ pub record World : Type 0 where
 
 abbrev pub world : ℕ → BoundState → SharedState → LogState → World
 world fuel bound shared log = record { fuel = fuel; bound = bound; shared = shared; log = log }
+
+-- each line from some place on has literals of the instance, and is implied at its tag, which is one of it
+abbrev pub AreServed : Instance → ℕ → List LogLine → Type 0
+AreServed instance from lines = (n : ℕ) (line : LogLine) → from ≤ n → slice_get lines n ≡ Some line → IsServed instance (content_of line) × IsTagFor instance line.tag
 
 -- the log is good over the rows that are known
 abbrev pub IsGood : Instance → World → Type 0
@@ -62,6 +68,7 @@ pub record Keeps (instance : Instance) (old new : World) : Type 0 where
   pub takes : new.shared.takes ≡ old.shared.takes
   pub refusals : old.shared.refusals ≤ new.shared.refusals
   pub lines : Gains old.log.lines new.log.lines
+  pub served : AreServed instance (length old.log.lines) new.log.lines
   pub segments : new.log.segments ≡ old.log.segments
   pub good : IsGood instance old → IsGood instance new
   pub began : new.bound.began ≡ old.bound.began

@@ -26,12 +26,12 @@ use Rattle.settle_laws.specs.Lines.{IsLined}
 use Rattle.settle_laws.specs.Noted.{IsEnding, Notes}
 use Rattle.settle_laws.specs.OpenNodes.{IsTrying, OpenTo}
 use Rattle.settle_laws.specs.Trying.{Trying}
-use Rattle.settle_laws.specs.Worlds.{World, world}
+use Rattle.settle_laws.specs.Worlds.{AreServed, Keeps, World, world}
 use Rattle.settle_laws.proofs.Ends.{branch-searched}
 use Rattle.settle_laws.proofs.NextPaths.{next-small}
-use Rattle.settle_laws.proofs.Opening.{Passing, open-end, open-map, open-out, open-pop, open-prefix, open-push}
+use Rattle.settle_laws.proofs.Opening.{Passing, open-end, open-kept, open-map, open-out, open-pop, open-prefix, open-push}
 use Rattle.settle_laws.specs.Passed.{Passes}
-use Rattle.settle_laws.proofs.Passing.{passes-on}
+use Rattle.settle_laws.proofs.Keeping.{keeps-same, keeps-trans}
 use Rattle.settle_laws.proofs.Steps.{ends, ends-unnoted, goes-on, jumps}
 use Rattle.subtree_search.specs.Walks.{work_left}
 use Rattle.subtree_search.specs.Steps.{ComesTo, IsAdvanced, IsBack, IsNoted, IsVisited}
@@ -92,13 +92,17 @@ module _ (instance : Instance) (level : ℕ) (root : List Literal) (from : World
       outer root from (open-prefix instance level (Tries pushed now node) outer root from prefix h))
 
   -- choices of the innermost node are passed by
-  pub passed-by : IsInstance instance → level ≤ levels_of instance → (outer : List Node) (node new : Node) (pushed : List Literal) (now : World) → Passes instance pushed node new → OpenTo (Tries pushed now node) instance level root from outer → OpenTo (Tries pushed now new) instance level root from outer
-  passed-by valid within outer node new pushed now p h = open-map instance level (λ reached entered. IsPrefix instance reached × Tries pushed now node reached entered) (Tries pushed now new)
+  pub passed-by : level ≤ levels_of instance → (outer : List Node) (node new : Node) (pushed : List Literal) (now : World) (first : ℕ) → first ≡ length from.log.lines → Passes instance first pushed now.log node new →
+      OpenTo (Tries pushed now node) instance level root from outer → OpenTo (Tries pushed now new) instance level root from outer
+  passed-by within outer node new pushed now first begins p h = open-map instance level (λ reached entered. Keeps instance from entered × (IsPrefix instance reached × Tries pushed now node reached entered)) (Tries pushed now new)
       (λ reached entered t. (
-        t.1.0,
-        passes-on instance valid level within reached t.0 entered now node new t.1.1 (subst (λ lits. Passes instance lits node new) t.1.0 p),
+        t.1.1.0,
+        subst (λ lits. Trying instance level lits entered now new) t.1.1.0
+            (p.goes level within entered now (subst (λ lits. IsPrefix instance lits) (sym t.1.1.0) t.1.0) refl
+            (subst (λ n. AreServed instance n now.log.lines) (sym begins) (keeps-trans instance from entered now t.0 t.1.1.1.keeps).served)
+            (subst (λ lits. Trying instance level lits entered now node) (sym t.1.1.0) t.1.1.1)),
       ))
-      outer root from (open-prefix instance level (Tries pushed now node) outer root from prefix h)
+      outer root from (open-kept instance level (λ reached entered. IsPrefix instance reached × Tries pushed now node reached entered) outer root from from (keeps-same instance from) (open-prefix instance level (Tries pushed now node) outer root from prefix h))
 
   module _ (valid : IsInstance instance) (within : level ≤ levels_of instance) (outer : List Node) (node : Node) (pushed : List Literal) (now : World) (h : OpenTo (Tries pushed now node) instance level root from outer) where
     -- the node is closed

@@ -12,7 +12,7 @@ use Rattle.settle_laws.specs.OpenNodes.{IsTrying}
 use Rattle.settle_laws.specs.Worlds.{World}
 use Rattle.subtree_search.specs.declared.walk.Walk.{Walk}
 use Rattle.subtree_search.specs.Steps.{ComesTo, Opens}
-use Rattle.subtree_search.specs.Walks.{IsReady}
+use Rattle.subtree_search.specs.Walks.{BeginsAt, IsReady}
 
 pub err-any : {E F : Type 0} → (instance : Instance) (level : ℕ) (literals : List Literal) (old new : World) (e : E) → Searched instance level literals old new (Err e) → (f : F) → Searched instance level literals old new (Err f)
 err-any instance level literals old new e s f = record { keeps = s.keeps; few = s.few; read = s.read; is = tt; refused_at = s.refused_at; refused_count = s.refused_count; ticks = s.ticks; offered = tt; counted = tt }
@@ -83,4 +83,5 @@ module _ (first forward : ForwardState) (level : ℕ) (walk : Walk) (e : Fronted
 -- from the literals that the search came to first on, choices of the innermost node are tried
 pub record Exploring (first forward : ForwardState) (level : ℕ) (from now : World) (walk : Walk) : Type 0 where
   pub fronted : Fronted first forward level walk
+  pub begins : BeginsAt walk from
   pub trying : IsTrying first.instance level first.pushed from walk.nodes.items forward.pushed now

@@ -1,4 +1,5 @@
 pub mod Explaining
+pub mod Recalling
 pub mod Entries
 pub mod Plans
 pub mod Walks

@@ -33,6 +33,7 @@ fn search_prefix<B: Bound, H: Shared>(
 ) -> Result<Found, NoMemory>
     requires ready { IsReady forward.old.instance walk.old }
     requires empty { walk.old.nodes.items ≡ [] }
+    requires begins { walk.old.recall.first ≡ length log.old.lines }
     requires prefix { IsPrefix forward.old.instance forward.old.pushed }
     requires serves { H.serves shared.old forward.old.instance }
     ensures serves { (instance : Instance) → H.serves shared.old instance ↔ H.serves shared.new instance }
@@ -117,10 +118,15 @@ pub fn settle<B: Bound, H: Shared>(
     ensures settles { Settles forward.old.instance job.now.level job.now.prefix (world fuel.old.amount (B.state bound.old) (H.state shared.old) log.old)
         (world fuel.new.amount (B.state bound.new) (H.state shared.new) log.new) result }
 {
-    let mut walk = Walk::new(alloc, job.level, forward.tables().instance().paths.len())?;
+    let from = log.len();
+    let mut walk = Walk::new(
+        alloc,
+        job.level,
+        forward.tables().instance().paths.len(),
+        from,
+    )?;
     let before = forward.level();
     forward.keep_level(job.level);
-    let from = log.len();
     push_all(forward, job.prefix.as_slice());
     let found = search_prefix(&mut walk, forward, fuel, bound, shared, log);
     take_all_back(forward);

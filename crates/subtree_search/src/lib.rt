@@ -7,7 +7,9 @@ mod job;
 mod lines;
 mod node;
 mod offering;
+mod pass;
 mod prefix;
+mod recall;
 mod tags;
 mod walk;
 

@@ -9,13 +9,15 @@ ghost use Rattle.count_laws.specs.ForwardStates.{with_literals};
 ghost use Rattle.settle_laws.specs.Founds.{Searched};
 ghost use Rattle.settle_laws.specs.OpenNodes.{IsTrying};
 ghost use Rattle.settle_laws.specs.Worlds.{World, world};
-ghost use Rattle.subtree_search.specs.Walks.{IsReady, work_left};
+ghost use Rattle.subtree_search.specs.Walks.{BeginsAt, IsReady, work_left};
 ghost use Rattle.subtree_search.specs.Steps.{ComesTo, IsAdvanced, IsBack, IsNoted, IsVisited, Lightens, NotesLess};
 
 use crate::enter::{Entry, enter};
-use crate::explain::{Scratch, add_explained, names_path, pass_dead};
+use crate::explain::{Scratch, add_explained, names_path};
 use crate::lines::conclude;
 use crate::node::note_choice;
+use crate::pass::pass_settled;
+use crate::recall::Recall;
 use fapp_model::{Items, Literal, NoMemory, choice_count};
 use forward_count::Forward;
 use search_log::{Bound, Fuel, Log, Ref, Shared};
@@ -34,22 +36,27 @@ pub struct Walk {
     pub plan: Vec<u16>,
     /// Room for explanations.
     pub scratch: Scratch,
+    /// The lines of the search, to be found again.
+    pub recall: Recall,
 }
 
 impl Walk {
-    /// No node is open. Room is made for an assignment of so many paths, and for as many nodes.
-    pub fn new(alloc: Global, level: u32, paths: usize) -> Result<Walk, NoMemory>
-        ensures { IfOk result (λ walk. (walk.level ≡ level) × (walk.nodes.items ≡ []) × (length walk.plan.items ≡ paths)) }
+    /// No node is open. Room is made for an assignment of so many paths, and for as many nodes. The lines of the search
+    /// begin at that place.
+    pub fn new(alloc: Global, level: u32, paths: usize, first: u32) -> Result<Walk, NoMemory>
+        ensures { IfOk result (λ walk. (walk.level ≡ level) × (walk.nodes.items ≡ []) × (length walk.plan.items ≡ paths) × (walk.recall.first ≡ first)) }
     {
         let nodes = Vec::with_capacity(alloc, paths)?;
         let plan = vec![in alloc; 0; paths]?;
         let scratch = Scratch::new(alloc, paths)?;
+        let recall = Recall::new(alloc, first)?;
         Ok(Walk {
             alloc,
             level,
             nodes,
             plan,
             scratch,
+            recall,
         })
     }
 }
@@ -69,6 +76,7 @@ fn visit<B: Bound, H: Shared>(
     ensures ready { IsReady forward.old.instance walk.new }
     ensures front { forward.new ≡ forward.old }
     ensures level { walk.new.level ≡ walk.old.level }
+    ensures first { walk.new.recall.first ≡ walk.old.recall.first }
     ensures serves { (instance : Instance) → H.serves shared.old instance ↔ H.serves shared.new instance }
     ensures visited { IsVisited forward.old.instance walk.old.level forward.old.pushed walk.old.nodes.items walk.new.nodes.items
         (world fuel.old.amount (B.state bound.old) (H.state shared.old) log.old) (world fuel.new.amount (B.state bound.new) (H.state shared.new) log.new) result }
@@ -115,13 +123,14 @@ fn try_next<B: Bound, H: Shared>(
 ) -> Result<Option<Found>, NoMemory>
     requires ready { IsReady forward.old.instance walk.old }
     requires serves { H.serves shared.old forward.old.instance }
-    requires trying { (root : List Literal) × (from : World) × IsPrefix forward.old.instance root × IsTrying forward.old.instance walk.old.level root from walk.old.nodes.items forward.old.pushed
+    requires trying { (root : List Literal) × (from : World) × IsPrefix forward.old.instance root × BeginsAt walk.old from × IsTrying forward.old.instance walk.old.level root from walk.old.nodes.items forward.old.pushed
         (world fuel.old.amount (B.state bound.old) (H.state shared.old) log.old) }
     ensures ready { IsReady forward.old.instance walk.new }
     ensures level { walk.new.level ≡ walk.old.level }
+    ensures first { walk.new.recall.first ≡ walk.old.recall.first }
     ensures serves { (instance : Instance) → H.serves shared.old instance ↔ H.serves shared.new instance }
     ensures front { forward.new ≡ with_literals forward.old forward.new.pushed }
-    ensures advanced { (root : List Literal) (from : World) → IsPrefix forward.old.instance root → IsTrying forward.old.instance walk.old.level root from walk.old.nodes.items forward.old.pushed
+    ensures advanced { (root : List Literal) (from : World) → IsPrefix forward.old.instance root → BeginsAt walk.old from → IsTrying forward.old.instance walk.old.level root from walk.old.nodes.items forward.old.pushed
         (world fuel.old.amount (B.state bound.old) (H.state shared.old) log.old) → IsAdvanced forward.old.instance walk.old.level root from walk.new.nodes.items forward.new.pushed
         (world fuel.new.amount (B.state bound.new) (H.state shared.new) log.new) result }
     ensures lighter { Lightens (work_left fuel.old.amount walk.old.nodes.items) (work_left fuel.new.amount walk.new.nodes.items) result }
@@ -129,7 +138,7 @@ fn try_next<B: Bound, H: Shared>(
     let Some(mut node) = walk.nodes.pop() else {
         unreachable!()
     };
-    pass_dead(&mut node, forward);
+    pass_settled(&mut node, forward, &walk.recall, log);
     if node.choice >= node.count {
         let found = add_explained(walk.alloc, &mut walk.scratch, node, forward, log)?;
         return Ok(Some(found));
@@ -139,6 +148,38 @@ fn try_next<B: Bound, H: Shared>(
     visit(walk, forward, fuel, bound, shared, log)
 }
 
+/// Notes the line that settles the literals that are pushed with the last of them that it has.
+fn remember(walk: &mut Walk, forward: &Forward, found: Found, log: &Log)
+    ensures level { walk.new.level ≡ walk.old.level }
+    ensures first { walk.new.recall.first ≡ walk.old.recall.first }
+    ensures nodes { walk.new.nodes.items ≡ walk.old.nodes.items }
+    ensures plan { length walk.new.plan.items ≡ length walk.old.plan.items }
+{
+    let Found::Settled { line, .. } = found else {
+        return;
+    };
+    let Ref::Own(place) = line else {
+        return;
+    };
+    let Some(line) = log.lines().get(place as usize) else {
+        return;
+    };
+    if let Some(last) = last_named(forward.pushed(), line.lits.as_slice()) {
+        walk.recall.note(place, last);
+    }
+}
+
+/// The last of some literals whose path others name.
+fn last_named(literals: &[Literal], others: &[Literal]) -> Option<Literal> {
+    for step in 0..literals.len() {
+        let literal = literals[literals.len() - 1 - step];
+        if names_path(others, literal.path) {
+            return Some(literal);
+        }
+    }
+    None
+}
+
 /// Leaves the innermost nodes whose paths the line doesn't name that settles their choices: it settles them too. A row
 /// settles no node above.
 fn jump(walk: &mut Walk, forward: &mut Forward, found: Found, log: &Log)
@@ -146,6 +187,7 @@ fn jump(walk: &mut Walk, forward: &mut Forward, found: Found, log: &Log)
     requires coming { (root : List Literal) × (from : World) × (now : World) × IsPrefix forward.old.instance root × (now.log ≡ log.now) × ComesTo {E = AllocError} forward.old.instance walk.old.level root from walk.old.nodes.items forward.old.pushed now (Ok found) }
     ensures ready { IsReady forward.old.instance walk.new }
     ensures level { walk.new.level ≡ walk.old.level }
+    ensures first { walk.new.recall.first ≡ walk.old.recall.first }
     ensures front { forward.new ≡ with_literals forward.old forward.new.pushed }
     ensures comes { (root : List Literal) (from now : World) → IsPrefix forward.old.instance root → now.log ≡ log.now → ComesTo {E = AllocError} forward.old.instance walk.old.level root from walk.old.nodes.items forward.old.pushed now (Ok found) →
         ComesTo {E = AllocError} forward.old.instance walk.old.level root from walk.new.nodes.items forward.new.pushed now (Ok found) }
@@ -188,13 +230,14 @@ fn advance<B: Bound, H: Shared>(
 ) -> Result<Option<Found>, NoMemory>
     requires ready { IsReady forward.old.instance walk.old }
     requires serves { H.serves shared.old forward.old.instance }
-    requires trying { (root : List Literal) × (from : World) × IsPrefix forward.old.instance root × IsTrying forward.old.instance walk.old.level root from walk.old.nodes.items forward.old.pushed
+    requires trying { (root : List Literal) × (from : World) × IsPrefix forward.old.instance root × BeginsAt walk.old from × IsTrying forward.old.instance walk.old.level root from walk.old.nodes.items forward.old.pushed
         (world fuel.old.amount (B.state bound.old) (H.state shared.old) log.old) }
     ensures ready { IsReady forward.old.instance walk.new }
     ensures level { walk.new.level ≡ walk.old.level }
+    ensures first { walk.new.recall.first ≡ walk.old.recall.first }
     ensures serves { (instance : Instance) → H.serves shared.old instance ↔ H.serves shared.new instance }
     ensures front { forward.new ≡ with_literals forward.old forward.new.pushed }
-    ensures advanced { (root : List Literal) (from : World) → IsPrefix forward.old.instance root → IsTrying forward.old.instance walk.old.level root from walk.old.nodes.items forward.old.pushed
+    ensures advanced { (root : List Literal) (from : World) → IsPrefix forward.old.instance root → BeginsAt walk.old from → IsTrying forward.old.instance walk.old.level root from walk.old.nodes.items forward.old.pushed
         (world fuel.old.amount (B.state bound.old) (H.state shared.old) log.old) → IsAdvanced forward.old.instance walk.old.level root from walk.new.nodes.items forward.new.pushed
         (world fuel.new.amount (B.state bound.new) (H.state shared.new) log.new) result }
     ensures lighter { Lightens (work_left fuel.old.amount walk.old.nodes.items) (work_left fuel.new.amount walk.new.nodes.items) result }
@@ -202,6 +245,7 @@ fn advance<B: Bound, H: Shared>(
     let Some(found) = try_next(walk, forward, fuel, bound, shared, log)? else {
         return Ok(None);
     };
+    remember(walk, forward, found, log);
     jump(walk, forward, found, log);
     Ok(Some(found))
 }
@@ -213,6 +257,7 @@ fn note(walk: &mut Walk, forward: &mut Forward, found: Found) -> Result<Option<F
     requires coming { (root : List Literal) × (from : World) × (now : World) × IsPrefix forward.old.instance root × ComesTo {E = AllocError} forward.old.instance walk.old.level root from walk.old.nodes.items forward.old.pushed now (Ok found) }
     ensures ready { IsReady forward.old.instance walk.new }
     ensures level { walk.new.level ≡ walk.old.level }
+    ensures first { walk.new.recall.first ≡ walk.old.recall.first }
     ensures front { forward.new ≡ with_literals forward.old forward.new.pushed }
     ensures noted { (root : List Literal) (from now : World) → IsPrefix forward.old.instance root → ComesTo {E = AllocError} forward.old.instance walk.old.level root from walk.old.nodes.items forward.old.pushed now (Ok found) →
         IsNoted forward.old.instance walk.old.level root from walk.new.nodes.items forward.new.pushed now result }
@@ -241,6 +286,7 @@ pub fn explore<B: Bound, H: Shared>(
 ) -> Result<Found, NoMemory>
     requires ready { IsReady forward.old.instance walk.old }
     requires empty { walk.old.nodes.items ≡ [] }
+    requires begins { walk.old.recall.first ≡ length log.old.lines }
     requires prefix { IsPrefix forward.old.instance forward.old.pushed }
     requires serves { H.serves shared.old forward.old.instance }
     ensures serves { (instance : Instance) → H.serves shared.old instance ↔ H.serves shared.new instance }

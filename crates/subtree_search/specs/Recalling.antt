@@ -1,0 +1,17 @@
+-- A line of the search that is found again.
+use Rattle.std.specs.Prelude.{◌≡◌, ℕ, ◌≤◌, List, slice_get, Some}
+use Rattle.fapp_model.specs.declared.literal.Literal.{Literal}
+use Rattle.fapp_model.specs.search.Partials.{HasAll}
+use Rattle.log_laws.specs.declared.line.LogLine.{LogLine}
+
+-- a line that stands at a place has at least the tag and only these literals
+pub record SaysOf (lines : List LogLine) (tag : ℕ) (literals : List Literal) (place : ℕ) : Type 0 where
+  pub line : LogLine
+  pub there : slice_get lines place ≡ Some line
+  pub reaches : tag ≤ line.tag.code
+  pub contained : HasAll literals line.lits
+
+-- and is one of the search's
+pub record IsRecalled (lines : List LogLine) (first tag : ℕ) (literals : List Literal) (place : ℕ) : Type 0 where
+  pub says : SaysOf lines tag literals place
+  pub own : first ≤ place
