@@ -17,7 +17,7 @@ ghost use Rattle.settle_laws.specs.Lines.{IsLined};
 ghost use Rattle.subtree_search.specs.Explaining.{IsAsked, IsFree};
 
 use crate::lines::add_line;
-use crate::prefix::{push_all, take_all_back};
+use crate::prefix::push_instead;
 use fapp_model::{Items, Literal, NoMemory, Tag, level_of};
 use forward_count::Forward;
 use search_log::{ChoiceRef, Log, Ref};
@@ -268,8 +268,7 @@ pub fn add_dead(
     scratch.literals.extend_from_slice(forward.pushed())?;
     reduce_dead(forward, tag, &scratch.literals);
     let found = add_line(alloc, tag, None, Items::new(alloc), forward, log);
-    take_all_back(forward);
-    push_all(forward, &scratch.literals);
+    push_instead(forward, &scratch.literals);
     found
 }
 
@@ -363,7 +362,6 @@ pub fn add_explained(
     mark_clashes(&mut scratch.needed, forward, &node);
     reduce(forward, &node, log, &scratch.literals, &scratch.needed);
     let found = add_line(alloc, node.tag, Some(node.path), node.refs, forward, log);
-    take_all_back(forward);
-    push_all(forward, &scratch.literals);
+    push_instead(forward, &scratch.literals);
     found
 }

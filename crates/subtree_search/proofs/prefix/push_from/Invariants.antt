@@ -1,0 +1,7 @@
+use Rattle.std.proofs.Common.{◌≡◌, take}
+use Rattle.count_laws.specs.ForwardStates.{with_literals}
+use Rattle.subtree_search.proofs.prefix.push_from.Given as goal
+
+-- the first few literals are pushed
+abbrev pub invariant-loop-place : goal.invariant-loop-place
+invariant-loop-place l = l.forward ≡ with_literals l.fn.forward (take l.place l.prefix)
