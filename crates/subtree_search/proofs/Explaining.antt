@@ -241,3 +241,7 @@ module _ (instance : Instance) (valid : IsInstance instance) (tag : ℕ) (litera
 
 pub part-all : (instance : Instance) (tag : ℕ) (literals : List Literal) → IsPartial instance literals → Dead instance (triple_from tag) literals → IsDeadPart instance tag literals literals
 part-all instance tag literals partial dead = record { partial = partial; within = has-same literals; dead = dead }
+
+pub over-false : (b : Bool) → not b ≡ false → b ≡ true
+over-false true e = refl
+over-false false e = cc

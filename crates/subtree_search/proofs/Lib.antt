@@ -1,6 +1,7 @@
 pub mod Planned
 pub mod Visited
 pub mod Explaining
+pub mod SumDead
 pub mod PassingBy
 pub mod Advancing
 pub mod Exploring

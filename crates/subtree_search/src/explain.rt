@@ -5,7 +5,7 @@ ghost use Rattle.fapp_model.specs.declared.literal.Literal.{Literal as SomeLiter
 ghost use Rattle.fapp_model.specs.Assignments.{count_at};
 ghost use Rattle.fapp_model.specs.InstanceTags.{IsTagFor};
 ghost use Rattle.fapp_model.specs.Instances.{IsInstance};
-ghost use Rattle.fapp_model.specs.Tags.{triple_from};
+ghost use Rattle.fapp_model.specs.Tags.{mode_level, triple_from};
 ghost use Rattle.fapp_model.specs.search.Dead.{Dead};
 ghost use Rattle.fapp_model.specs.search.Partials.{IsLiteral, IsPartial, literal, names};
 ghost use Rattle.fapp_model.specs.search.Prefixes.{IsPrefix};
@@ -18,7 +18,8 @@ ghost use Rattle.subtree_search.specs.Explaining.{IsAsked, IsFree};
 
 use crate::lines::add_line;
 use crate::prefix::push_instead;
-use fapp_model::{Items, Literal, NoMemory, Tag, level_of};
+use crate::tags::limit_code;
+use fapp_model::{Items, Literal, NoMemory, Tag, level_of, triple_of};
 use forward_count::Forward;
 use search_log::{ChoiceRef, Log, Ref};
 use settle_laws::{Found, Node};
@@ -59,12 +60,44 @@ fn is_listed(refs: &[ChoiceRef], choice: u32) -> bool
     refs.iter().any(|r| u32::from(r.choice) == choice)
 }
 
-/// Whether a choice is seen to be left at a tag's level.
-pub fn is_left(forward: &Forward, tag: Tag, path: u16, choice: u16) -> bool
+/// Whether the literals' sum with a choice comes to the tag's limit, by what the choice adds in place of the least.
+fn is_over(forward: &Forward, tag: Tag, path: u16, choice: u16) -> bool
     requires valid { IsInstance forward.now.instance }
+    requires tag { IsTagFor forward.now.instance tag }
+    requires level { forward.now.level ≡ mode_level (triple_from tag.code) }
     requires path { path < length forward.now.instance.paths }
     requires choice { choice < count_at forward.now.instance path }
     requires partial { IsPartial forward.now.instance (literal path choice ∷ forward.now.pushed) }
+    requires own { IsPartial forward.now.instance forward.now.pushed }
+    ensures { IsTrue result → Dead forward.now.instance (triple_from tag.code) (literal path choice ∷ forward.now.pushed) }
+{
+    let triple = triple_of(tag);
+    if triple.v == 0 {
+        return false;
+    }
+    if !forward.is_calm(forward.level()) {
+        return false;
+    }
+    let Some(least) = forward.least_sum(path) else {
+        return false;
+    };
+    let Some(low) = limit_code(triple).checked_add(least) else {
+        return false;
+    };
+    let Some(high) = forward.sum().checked_add(forward.sum_at(path, choice)) else {
+        return false;
+    };
+    low <= high
+}
+
+/// Whether a choice is seen to be left at a tag's level, and below its limit.
+pub fn is_left(forward: &Forward, tag: Tag, path: u16, choice: u16) -> bool
+    requires valid { IsInstance forward.now.instance }
+    requires tag { IsTagFor forward.now.instance tag }
+    requires path { path < length forward.now.instance.paths }
+    requires choice { choice < count_at forward.now.instance path }
+    requires partial { IsPartial forward.now.instance (literal path choice ∷ forward.now.pushed) }
+    requires own { IsPartial forward.now.instance forward.now.pushed }
     ensures { result ≡ false → Dead forward.now.instance (triple_from tag.code) (literal path choice ∷ forward.now.pushed) }
 {
     if tag.code == 0 {
@@ -73,7 +106,10 @@ pub fn is_left(forward: &Forward, tag: Tag, path: u16, choice: u16) -> bool
     if level_of(tag) != forward.level() {
         return true;
     }
-    forward.remains(path, choice)
+    if !forward.remains(path, choice) {
+        return false;
+    }
+    !is_over(forward, tag, path, choice)
 }
 
 /// Whether the literals are dead with a choice of a further path.
