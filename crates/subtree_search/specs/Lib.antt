@@ -1,4 +1,5 @@
 pub mod Explaining
+pub mod Looking
 pub mod Entries
 pub mod Plans
 pub mod Walks
