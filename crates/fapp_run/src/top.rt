@@ -44,8 +44,8 @@ pub fn run<R: Threads + Sync, S: Source, K: Sink, G: Gate>(
     // On the words of gen and no fault, the network is written.
     ensures completes_gen { CompletesGen words.now (K.moment sink.old) (K.moment sink.new) result }
 
-    // On the words of demo and no fault, the verdict on the made network is written, and it is not Open where the fuel
-    // is enough for one level.
+    // On the words of demo and no fault, the verdict on the made network is written, or there was no memory; and it is
+    // not Open where the fuel is enough for one level.
     ensures completes_demo { CompletesDemo words.now (K.moment sink.old) (K.moment sink.new) result }
 
     // What an accepted answer claims is so.

@@ -24,8 +24,8 @@ abbrev pub IsPutAt : ℕ → ℕ → Placed → ℕ → Type 0
 IsPutAt place fuel None ticks = ⊥
 IsPutAt place fuel (Some placed) ticks = (placed.0 ≡ place) × IsAllTaken fuel placed.1 ticks
 
--- there is a log for each worker, in the order of their numbers; and each job, also one that is Moot or Spent, was put with the
--- place of its worker's log
+-- there are as many logs as workers; and each job, also one that is Moot or Spent, was put with the place of its worker's log,
+-- and took all its fuel where it is Spent
 pub record AreDealtTo (split : Split) (workers fuel : ℕ) (gathered : Gathered) : Type 0 where
   pub logs : length gathered.logs.items ≡ workers
   pub each : (id : ℕ) → id < job_count split.instance split.split →

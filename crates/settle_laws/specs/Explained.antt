@@ -1,4 +1,4 @@
--- The literals that the line of some literals needs.
+-- What a line may leave out.
 use Rattle.std.specs.Prelude.{◌≡◌, ℕ, ◌<◌, List, slice_get, All, Contains, Option, Some}
 use Rattle.fapp_model.specs.declared.instance.Instance.{Instance}
 use Rattle.fapp_model.specs.declared.literal.Literal.{Literal}

@@ -40,7 +40,7 @@ IsTarget level bound tag = tag ≡ target_code level (floor bound)
 abbrev pub IsOpen : ℕ → BoundState → Type 0
 IsOpen level bound = level_code level < bound.told
 
--- a line of the log is one of those that were added, and the last; where a row is named, no tick was taken
+-- a line of the log is one of those that were added, and the last; where a row is named, no tick was taken and no line was added
 abbrev pub IsLastRef : World → World → Ref → Type 0
 IsLastRef old new (Own n) = (length old.log.lines ≤ n) × (n + 1 ≡ length new.log.lines)
 IsLastRef old new (Row r) = (new.fuel ≡ old.fuel) × (new.log.lines ≡ old.log.lines)
@@ -49,8 +49,8 @@ IsLastRef old new (Row r) = (new.fuel ≡ old.fuel) × (new.log.lines ≡ old.lo
 abbrev pub IsExact : ℕ → World → World → ℕ → Type 0
 IsExact level old new tag = new.fuel ≡ old.fuel → tag ≡ target_code level new.bound.told
 
--- A line or a row settles some literals. Its tag is the least of the targets that their parts were judged at: the bound was read
--- at each part, never told more, and was offered the cost of each assignment that was come to.
+-- A line or a row settles some literals. Its tag is the lesser of the level's target and of what the bound told last or was
+-- offered: where the bound is read at each part, the least of the targets that the parts were judged at.
 pub record IsSettledBy (instance : Instance) (level : ℕ) (literals : List Literal) (old new : World) (line : Ref) (tag : ℕ) : Type 0 where
   pub is_open : IsOpen level new.bound
   pub target : IsTarget level new.bound tag
@@ -58,7 +58,7 @@ pub record IsSettledBy (instance : Instance) (level : ℕ) (literals : List Lite
   pub refuted : IsRefuted instance new.shared.copied new.log.lines literals line tag
   pub last : IsLastRef old new line
 
--- some literals are dead at the target, where no row says so
+-- some literals are dead at the target, where no copied row says so
 pub record IsFoundDead (instance : Instance) (level : ℕ) (literals : List Literal) (old new : World) (tag : ℕ) : Type 0 where
   pub is_open : IsOpen level new.bound
   pub target : IsTarget level new.bound tag
@@ -85,7 +85,7 @@ IsFoundBy instance level literals old new (Ok Spent) = IsOpen level new.bound ×
 IsFoundBy instance level literals old new (Err e) = Unit {0}
 
 -- what was found, what was kept, and at which prefixes ticks were taken or refused; with each line at least one was taken, the
--- bound was read, and each assignment that a tick fell on was offered and has its line
+-- bound was read, and the cost of each assignment that a tick fell on was offered, or less, and it has its line
 pub record Searched {E : Type 0} (instance : Instance) (level : ℕ) (literals : List Literal) (old new : World) (result : Result Found E) : Type 0 where
   pub keeps : Keeps instance old new
   pub few : length new.log.lines + new.fuel ≤ length old.log.lines + old.fuel

@@ -14,7 +14,7 @@ use Rattle.settle_laws.specs.Stops.{NoneFits}
 use Rattle.settle_laws.specs.Ticks.{AreCounted, AreOffered, Ticks}
 use Rattle.settle_laws.specs.Worlds.{Keeps, World}
 
--- one Count line on the literals, where no row says as much
+-- one Count line on the literals, where no copied row says as much
 pub record IsOneCount (instance : Instance) (literals : List Literal) (copied : List KnownRow) (old new : List LogLine) : Type 0 where
   pub line : LogLine
   pub added : new ≡ old ++ line ∷ []

@@ -109,7 +109,7 @@ OnRefuted (Ok Spent) P = Unit {0}
 OnRefuted (Err e) P = Unit {0}
 
 -- Refuted: the line or row lies within the literals, at no lower tag; the tag is the least target, and that of the last reading
--- where no tick was taken. Moot: what the bound told last is at most the level. After all but Refuted the lines are cut; only for
+-- where no tick was taken; then at most one Count line was added. A line is offered to the shared rows. Moot: what the bound told last is at most the level. After all but Refuted the lines are cut; only for
 -- want of memory may a row have been published then.
 abbrev pub IsOutcome : {E : Type 0} → Instance → ℕ → List Literal → World → World → Result Outcome E → Type 0
 IsOutcome instance level literals old new (Ok (Refuted line tag)) = IsSettledBy instance level literals old new line tag.code
@@ -120,7 +120,8 @@ IsOutcome instance level literals old new (Ok Spent) = RunsOut instance level li
 IsOutcome instance level literals old new (Err e) = IsCut old new × (PublishesNone old new ⊎ IsUnkept instance literals old new)
 
 -- What a job's search keeps and finds, and at which prefixes ticks were taken or, at the end, one was refused. Whatever it finds,
--- the bound was read, and each assignment that a tick fell on was offered; where the job is refuted, it has its Count line.
+-- the bound was read, and the cost of each assignment that a tick fell on was offered, or less; where the job is refuted, it has
+-- its Count line.
 pub record Settles {E : Type 0} (instance : Instance) (level : ℕ) (literals : List Literal) (old new : World) (result : Result Outcome E) : Type 0 where
   pub fuel : new.fuel ≤ old.fuel
   pub copied : All (Contains new.shared.copied) old.shared.copied

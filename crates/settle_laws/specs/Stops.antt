@@ -54,6 +54,7 @@ pub record ComesAfter (old : World) (stop : Stop) : Type 0 where
   pub told : stop.told ≤ floor old.bound
   pub copied : All (Contains stop.copied) (known old.shared)
 
+-- it told no less than what was told last, and the rows copied by then are still copied
 pub record ComesBefore (new : World) (stop : Stop) : Type 0 where
   pub told : new.bound.told ≤ stop.told
   pub copied : All (Contains new.shared.copied) stop.copied

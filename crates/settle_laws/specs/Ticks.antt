@@ -60,8 +60,8 @@ AreCounted instance tried old new =
 
 -- The prefixes at which ticks fell, in order, as many as the fuel fell by; and behind them those at which fuel was refused. They
 -- go on from a prefix, each once and behind the one that is one shorter, none dead at the level's target (as the law of tries
--- asks). At each of them the bound was read, then it was looked up, then it was tested whether it is dead, and none of these
--- decided; where fuel was refused nothing came after. Only at such a tick was a cost offered.
+-- asks). At each of them neither what the bound told, nor the rows copied by then, nor the test whether it is dead decided; where
+-- fuel was refused, nothing changed after. The least offer, where it fell, was made at such a tick.
 pub record Ticks (instance : Instance) (level : ℕ) (prefix : List Literal) (old new : World) (refused : List (List Literal)) : Type 0 where
   pub tried : List (List Literal)
   pub asked : List (List Literal)

@@ -34,7 +34,7 @@ pub record AreTriedChoices (instance : Instance) (rows : List KnownRow) (lines :
   pub settled : (i : ℕ) → i < choice → IsSettled instance tag literals path refs i
   pub implied : (i : ℕ) → i < choice → Implied instance (triple_from tag) (literal path i ∷ literals)
 
--- From the search's coming to the literals on, a tick more was taken than lines were added, each tick so far is there, and
+-- From the search's coming to the literals on, at least a tick more was taken than lines were added, each tick so far is there, and
 -- the node's choices before its own were tried.
 pub record Trying (instance : Instance) (level : ℕ) (literals : List Literal) (old now : World) (node : Node) : Type 0 where
   pub next : slice_get (work_order instance) (length literals) ≡ Some node.path

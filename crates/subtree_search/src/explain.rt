@@ -1,4 +1,4 @@
-// The line of a node whose choices were tried, on those of its literals that it needs.
+// The line of a node whose choices were tried, without some literals that it can do without.
 ghost use Rattle.std.specs.Prelude.{◌≡◌, ◌+◌, ◌<◌, ◌==◌, ◌∷◌, [], true, false, List, None, Some, length, slice_index_or, All, Contains, IsTrue, IfOk, OnOk};
 ghost use Rattle.std.specs.List.{list_any};
 ghost use Rattle.fapp_model.specs.declared.literal.Literal.{Literal as SomeLiteral};
@@ -24,7 +24,7 @@ use search_log::{ChoiceRef, Log, Ref};
 use settle_laws::{Found, Node};
 use std::alloc::Global;
 
-/// After so many literals in a row that are needed, the others are kept untried.
+/// After so many literals in a row that could not be left out, the others are kept untried.
 const FAILURES: u32 = 4;
 
 /// Room for what an explanation notes.
@@ -177,8 +177,8 @@ fn leave_out(
     false
 }
 
-/// Takes out the node's literals one by one, the last one first, but those that seem to be needed and those without
-/// which the node is not closed.
+/// Takes out the node's literals one by one, the last one first, but those that are marked and those without which the
+/// node is not closed, until `FAILURES` in a row could not be left out.
 fn reduce(forward: &mut Forward, node: &Node, log: &Log, literals: &[Literal], needed: &[bool])
     requires asked { IsAsked forward.old.instance literals.now node.now }
     requires explains { Explains forward.old.instance log.now.lines literals.now forward.old.pushed node.now }
@@ -219,8 +219,8 @@ fn leave_out_of_dead(forward: &mut Forward, tag: Tag, literals: &[Literal], plac
     false
 }
 
-/// Takes out literals one by one, the last one first, but those without which the others are not dead at the tag. None
-/// where the counts of the tag's level are not at hand.
+/// Takes out literals one by one, the last one first, but those without which the others are not dead at the tag, until
+/// `FAILURES` in a row could not be left out. None where the counts of the tag's level are not at hand.
 fn reduce_dead(forward: &mut Forward, tag: Tag, literals: &[Literal])
     requires valid { IsInstance forward.old.instance }
     requires tag { IsTagFor forward.old.instance tag }
@@ -249,7 +249,7 @@ fn is_at_hand(forward: &Forward, tag: Tag) -> bool {
     level_of(tag) == forward.level()
 }
 
-/// Adds a Count line on literals that are dead at a tag, on those of them that it needs.
+/// Adds a Count line on literals that are dead at a tag, without some that it can do without.
 pub fn add_dead(
     alloc: Global,
     scratch: &mut Scratch,
@@ -342,7 +342,7 @@ fn mark_clashes(needed: &mut [bool], forward: &Forward, node: &Node)
     }
 }
 
-/// Adds the line of a node whose choices were tried, on literals that it needs.
+/// Adds the line of a node whose choices were tried, without some literals that it can do without.
 pub fn add_explained(
     alloc: Global,
     scratch: &mut Scratch,

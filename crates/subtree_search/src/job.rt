@@ -95,7 +95,8 @@ fn finish<H: Shared>(
 /// counts at the job's level after, and at the level that it had where `NoMemory` comes.
 ///
 /// Refuted names the line or row that settles the job, Moot what the bound told where it decided, Spent that the fuel did
-/// not suffice. `NoMemory` comes where room for the open nodes, a line, the kept assignment or a segment could not be had.
+/// not suffice. `NoMemory` comes where room for the open nodes, for explanations, a line, the kept assignment or a segment
+/// could not be had.
 /// After Moot, Spent and `NoMemory` the log has no line of this job; fuel, bound, rows and the kept assignment stay.
 pub fn settle<B: Bound, H: Shared>(
     alloc: Global,

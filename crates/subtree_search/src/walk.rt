@@ -142,7 +142,8 @@ fn try_next<B: Bound, H: Shared>(
     visit(walk, forward, fuel, bound, shared, log)
 }
 
-/// Leaves the innermost nodes whose paths the line doesn't name that settles their choices: it settles them too.
+/// Leaves the innermost nodes whose paths the line doesn't name that settles their choices: it settles them too. A row
+/// settles no node above.
 fn jump(walk: &mut Walk, forward: &mut Forward, found: Found, log: &Log)
     requires ready { IsReady forward.old.instance walk.old }
     requires coming { (root : List Literal) × (from : World) × (now : World) × IsPrefix forward.old.instance root × (now.log ≡ log.now) × ComesTo {E = AllocError} forward.old.instance walk.old.level root from walk.old.nodes.items forward.old.pushed now (Ok found) }

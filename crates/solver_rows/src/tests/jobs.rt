@@ -19,6 +19,10 @@ use worked_networks::PLAIN;
 const APART: &str =
     "DM 1 10\nDM 1 20\nTR 1 1 1\nTR 2 1 1\nTR 3 1 1\nCI 1 2 F I 0\nCI 1 3 F I 0\nCI 2 3 F I 0\n";
 
+// The same, below a path of five choices that breaks nothing with them.
+const BELOW: &str =
+    "DM 1 10\nDM 1 20\nDM 2 1000\nDM 2 1001\nDM 2 1002\nDM 2 1003\nDM 2 1004\nTR 4 2 1\nTR 1 1 1\nTR 2 1 1\nTR 3 1 1\nCI 1 2 F I 0\nCI 1 3 F I 0\nCI 2 3 F I 0\nCI 4 1 F I 1\nCI 4 2 F I 1\nCI 4 3 F I 1\n";
+
 // One of two choices of the first path is far from the second path's.
 const EDGE: &str =
     "DM 1 10\nDM 1 20\nDM 2 10\nTR 1 1 1\nTR 2 2 1\nCE 1 2 10 10 10 10 10 10 10 10 10 10 10\n";
@@ -169,6 +173,18 @@ fn a_job_without_fuel_is_spent(rt: HostRuntime) -> Result<(), Fail> {
     let ended = run_alone(rt.alloc(), APART, 11, tag_of(TOP), 0)?;
     let wanted = Ended {
         end: End::Spent,
+        left: 0,
+        kept: None,
+    };
+    assert_eq!(rt; ended, wanted);
+    Ok(())
+}
+
+#[test]
+fn a_line_settles_each_node_that_it_does_not_name(rt: HostRuntime) -> Result<(), Fail> {
+    let ended = run_alone(rt.alloc(), BELOW, 11, tag_of(TOP), 4)?;
+    let wanted = Ended {
+        end: End::ByLine(TOP),
         left: 0,
         kept: None,
     };

@@ -28,14 +28,23 @@ fn have_ended(collected: &Collected, jobs: u32) -> bool
     true
 }
 
-/// The word that workers find for a network, and whether each job has an outcome.
+/// The sum of some numbers, or the greatest number where it is more.
+fn sum_of(numbers: &[u64]) -> u64 {
+    let mut sum: u64 = 0;
+    for number in numbers {
+        sum = sum.saturating_add(*number);
+    }
+    sum
+}
+
+/// The word that workers find for a network, whether each job has an outcome, and how many ticks they took together.
 fn word_of<R: Threads + Sync, G: Gate>(
     rt: &R,
     alloc: Global,
     text: &str,
     settings: &Settings,
     gate: &G,
-) -> Result<(Triple, bool), Fail>
+) -> Result<(Triple, bool, u64), Fail>
     requires text { length text.now ≤ 1000 }
     requires settings { AreInRange settings.now }
 {
@@ -45,7 +54,7 @@ fn word_of<R: Threads + Sync, G: Gate>(
     let plan = Plan::new(alloc, &tables, settings.split)?;
     let gathered = solve_jobs(rt, alloc, &tables, &arcs, &plan, settings, gate)?;
     let ended = have_ended(&gathered.collected, plan.job_count());
-    Ok((triple_of(gathered.word), ended))
+    Ok((triple_of(gathered.word), ended, sum_of(&gathered.ticks)))
 }
 
 /// So many workers, with fuel for each job of a small network.
@@ -65,9 +74,13 @@ fn settings_of(workers: u32) -> Settings
 #[test]
 fn any_number_of_workers_finds_the_least_cost(rt: HostRuntime) -> Result<(), Fail> {
     assert!(rt; SMALL.len() <= 1000);
-    for workers in [1, 2, 8] {
+    for (workers, ticks) in [(1, 4), (2, 6), (8, 18)] {
         let found = word_of(&rt, rt.alloc(), SMALL, &settings_of(workers), &OpenGate)?;
-        assert_eq!(rt; found, (Triple { k: 4, v: 1, s: 3 }, true), "at {workers}");
+        assert_eq!(rt;
+            found,
+            (Triple { k: 4, v: 1, s: 3 }, true, ticks),
+            "at {workers}"
+        );
     }
     Ok(())
 }
@@ -77,7 +90,7 @@ fn two_workers_meet(rt: HostRuntime) -> Result<(), Fail> {
     assert!(rt; SMALLEST.len() <= 1000);
     let gate = HoldGate::new(0, 1, 200_000_000);
     let found = word_of(&rt, rt.alloc(), SMALLEST, &settings_of(2), &gate)?;
-    assert_eq!(rt; found, (Triple { k: 0, v: 0, s: 0 }, true));
+    assert_eq!(rt; found, (Triple { k: 0, v: 0, s: 0 }, true, 2));
     assert!(rt; !gate.missed());
     Ok(())
 }
