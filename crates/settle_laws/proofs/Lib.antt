@@ -15,4 +15,5 @@ pub mod Ahead
 pub mod Steps
 pub mod Opening
 pub mod Lining
+pub mod Passing
 pub mod Settling

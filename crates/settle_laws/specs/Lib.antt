@@ -8,6 +8,7 @@ pub mod Trying
 pub mod OpenNodes
 pub mod Explained
 pub mod Lines
+pub mod Passed
 pub mod Noted
 pub mod Lined
 pub mod Published

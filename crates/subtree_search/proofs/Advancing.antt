@@ -30,6 +30,8 @@ use Rattle.settle_laws.specs.Worlds.{World, world}
 use Rattle.settle_laws.proofs.Ends.{branch-searched}
 use Rattle.settle_laws.proofs.NextPaths.{next-small}
 use Rattle.settle_laws.proofs.Opening.{Passing, open-end, open-map, open-out, open-pop, open-prefix, open-push}
+use Rattle.settle_laws.specs.Passed.{Passes}
+use Rattle.settle_laws.proofs.Passing.{passes-on}
 use Rattle.settle_laws.proofs.Steps.{ends, ends-unnoted, goes-on, jumps}
 use Rattle.subtree_search.specs.Walks.{work_left}
 use Rattle.subtree_search.specs.Steps.{ComesTo, IsAdvanced, IsBack, IsNoted, IsVisited}
@@ -88,6 +90,15 @@ module _ (instance : Instance) (level : ℕ) (root : List Literal) (from : World
         trying = subst (λ lits. Trying instance level lits entered now node) (sym p.1.0) p.1.1;
       })
       outer root from (open-prefix instance level (Tries pushed now node) outer root from prefix h))
+
+  -- choices of the innermost node are passed by
+  pub passed-by : IsInstance instance → level ≤ levels_of instance → (outer : List Node) (node new : Node) (pushed : List Literal) (now : World) → Passes instance pushed node new → OpenTo (Tries pushed now node) instance level root from outer → OpenTo (Tries pushed now new) instance level root from outer
+  passed-by valid within outer node new pushed now p h = open-map instance level (λ reached entered. IsPrefix instance reached × Tries pushed now node reached entered) (Tries pushed now new)
+      (λ reached entered t. (
+        t.1.0,
+        passes-on instance valid level within reached t.0 entered now node new t.1.1 (subst (λ lits. Passes instance lits node new) t.1.0 p),
+      ))
+      outer root from (open-prefix instance level (Tries pushed now node) outer root from prefix h)
 
   module _ (valid : IsInstance instance) (within : level ≤ levels_of instance) (outer : List Node) (node : Node) (pushed : List Literal) (now : World) (h : OpenTo (Tries pushed now node) instance level root from outer) where
     -- the node is closed

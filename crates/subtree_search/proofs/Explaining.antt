@@ -2,7 +2,7 @@
 use Rattle.std.proofs.Common.{◌≡◌, ◌≢◌, ◌⊎◌, ◌↔◌, ℕ, ◌+◌, ◌<◌, ◌≤◌, ◌^◌, Bool, true, false, eqb, not, IsTrue, List, [], ◌∷◌, ◌++◌, length, All, AllPairs, Contains, Option, Result, Ok, Err, refl, sym, ap, subst, ◌∙◌, inl, inr, ⊎_elim, arith}
 use Rattle.std.specs.List.{slice_get, filter, list_any}
 use Rattle.std.specs.Result.{IsErr}
-use Rattle.std.proofs.lemmas.Bool.{cases_Bool, eq-eqb, eqb-true, true≢false, false_from_ne_true}
+use Rattle.std.proofs.lemmas.Bool.{cases_Bool, cases_lt, eq-eqb, eqb-true, true≢false, false_from_ne_true}
 use Rattle.std.proofs.lemmas.List.Elements.{All-append, All-contains, All-cons, All-filter, All-nil, Contains-append_left, Contains-append_right, Contains-append_cases}
 use Rattle.fapp_model.specs.declared.instance.Instance.{Instance}
 use Rattle.fapp_model.specs.declared.literal.Literal.{Literal}
@@ -30,6 +30,7 @@ use Rattle.search_log.specs.LogStates.{LogState}
 use Rattle.settle_laws.specs.declared.found.Found.{Found}
 use Rattle.settle_laws.specs.declared.node.Node.{Node}
 use Rattle.settle_laws.specs.Lines.{IsLined}
+use Rattle.settle_laws.specs.Passed.{Passes}
 use Rattle.settle_laws.specs.Explained.{Explains, IsClosedBy, IsDeadPart, StaysFor}
 use Rattle.settle_laws.proofs.Adding.{has-cons, has-front, has-same, has-trans, pairs-join}
 use Rattle.settle_laws.proofs.LineParts.{names-same, with-literal}
@@ -241,3 +242,23 @@ module _ (instance : Instance) (valid : IsInstance instance) (tag : ℕ) (litera
 
 pub part-all : (instance : Instance) (tag : ℕ) (literals : List Literal) → IsPartial instance literals → Dead instance (triple_from tag) literals → IsDeadPart instance tag literals literals
 part-all instance tag literals partial dead = record { partial = partial; within = has-same literals; dead = dead }
+
+-- one choice more is passed by
+pub passes-next : (instance : Instance) (literals : List Literal) (old node : Node) → Passes instance literals old node → node.choice < node.count → Dead instance (triple_from node.tag.code) (literal node.path node.choice ∷ literals) →
+    (new : Node) → new.tag ≡ node.tag → new.path ≡ node.path → new.count ≡ node.count → new.refs ≡ node.refs → new.choice ≡ node.choice + 1 → Passes instance literals old new
+passes-next instance literals old node p more dead new tag path count refs next = record {
+  tag_is = tag ∙ p.tag_is;
+  path_is = path ∙ p.path_is;
+  count_is = count ∙ p.count_is;
+  refs_are = refs ∙ p.refs_are;
+  later = omega (arith, p.later, next);
+  within = omega (arith, more, next, count);
+  dead = λ i low l. ⊎_elim
+      (λ early. p.dead i low early)
+      (λ late.
+      let same : node.choice ≡ i = omega (arith, late, l, next) in
+      subst (λ n. Dead instance (triple_from old.tag.code) (literal old.path n ∷ literals)) same
+      (subst (λ n. Dead instance (triple_from old.tag.code) (literal n node.choice ∷ literals)) p.path_is
+      (subst (λ (t : Tag). Dead instance (triple_from t.code) (literal node.path node.choice ∷ literals)) p.tag_is dead)))
+      (cases_lt i node.choice);
+}

@@ -1,5 +1,5 @@
 // The line of a node whose choices were tried, without some literals that it can do without.
-ghost use Rattle.std.specs.Prelude.{◌≡◌, ◌+◌, ◌<◌, ◌==◌, ◌∷◌, [], true, false, List, None, Some, length, slice_index_or, All, Contains, IsTrue, IfOk, OnOk};
+ghost use Rattle.std.specs.Prelude.{◌≡◌, ◌+◌, ◌<◌, ◌≤◌, ◌==◌, ◌∷◌, [], true, false, List, None, Some, length, slice_index_or, All, Contains, IsTrue, IfOk, OnOk};
 ghost use Rattle.std.specs.List.{list_any};
 ghost use Rattle.fapp_model.specs.declared.literal.Literal.{Literal as SomeLiteral};
 ghost use Rattle.fapp_model.specs.Assignments.{count_at};
@@ -14,6 +14,7 @@ ghost use Rattle.count_laws.specs.ForwardStates.{with_literals};
 ghost use Rattle.log_laws.specs.GoodLines.{IsSettled};
 ghost use Rattle.settle_laws.specs.Explained.{Explains, IsClosedBy, IsDeadPart};
 ghost use Rattle.settle_laws.specs.Lines.{IsLined};
+ghost use Rattle.settle_laws.specs.Passed.{Passes};
 ghost use Rattle.subtree_search.specs.Explaining.{IsAsked, IsFree};
 
 use crate::lines::add_line;
@@ -74,6 +75,20 @@ fn is_left(forward: &Forward, tag: Tag, path: u16, choice: u16) -> bool
         return true;
     }
     forward.remains(path, choice)
+}
+
+/// Goes past the choices of a node that are seen not to be left: they need not be pushed.
+pub fn pass_dead(node: &mut Node, forward: &Forward)
+    requires asked { IsAsked forward.now.instance forward.now.pushed node.old }
+    requires within { node.old.choice ≤ node.old.count }
+    ensures { Passes forward.now.instance forward.now.pushed node.old node.new }
+{
+    while node.choice < node.count {
+        if is_left(forward, node.tag, node.path, node.choice as u16) {
+            return;
+        }
+        node.choice += 1;
+    }
 }
 
 /// Whether the literals are dead with a choice of a further path.

@@ -14,7 +14,7 @@ ghost use Rattle.subtree_search.specs.Steps.{ComesTo, IsAdvanced, IsBack, IsNote
 
 use crate::ahead::look_ahead;
 use crate::enter::{Entry, enter};
-use crate::explain::{Scratch, add_explained, names_path};
+use crate::explain::{Scratch, add_explained, names_path, pass_dead};
 use crate::lines::conclude;
 use crate::node::note_choice;
 use fapp_model::{Items, Literal, NoMemory, choice_count};
@@ -130,9 +130,10 @@ fn try_next<B: Bound, H: Shared>(
         (world fuel.new.amount (B.state bound.new) (H.state shared.new) log.new) result }
     ensures lighter { Lightens (work_left fuel.old.amount walk.old.nodes.items) (work_left fuel.new.amount walk.new.nodes.items) result }
 {
-    let Some(node) = walk.nodes.pop() else {
+    let Some(mut node) = walk.nodes.pop() else {
         unreachable!()
     };
+    pass_dead(&mut node, forward);
     if node.choice >= node.count {
         let found = add_explained(walk.alloc, &mut walk.scratch, node, forward, log)?;
         return Ok(Some(found));

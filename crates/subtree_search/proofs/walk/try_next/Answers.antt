@@ -8,7 +8,7 @@ use Rattle.tries_laws.proofs.PrefixParts.{prefix-is_partial}
 use Rattle.settle_laws.proofs.TagCodes.{tag-small}
 use Rattle.settle_laws.proofs.NextPaths.{next-apart, next-prefix, next-small}
 use Rattle.subtree_search.specs.Steps.{ComesTo, IsAdvanced, IsVisited}
-use Rattle.subtree_search.proofs.Advancing.{advanced-err, closes-ending, closes-to, innermost, trying-at, visits}
+use Rattle.subtree_search.proofs.Advancing.{advanced-err, closes-ending, closes-to, innermost, passed-by, trying-at, visits}
 use Rattle.subtree_search.proofs.walk.try_next.Goals as goal
 
 pub returns-in_err-found-clause-advanced : goal.returns-in_err-found-clause-advanced
@@ -16,32 +16,35 @@ returns-in_err-found-clause-advanced g c =
     let f = c.args.forward.now in
     let now = world c.args.fuel.now.amount (g.B.Bound.state c.args.bound.now) (g.H.Shared.state c.args.shared.now) c.args.log.now in
     λ root from prefix trying.
-    let h = trying-at f.instance c.args.walk.now.level root from prefix c.args.walk.now.nodes.items c.pop.new.self.items c.in-Some.node f.pushed now c.in-Some.ensures.items trying in
-    let inner = innermost f.instance c.args.walk.now.level root from prefix c.pop.new.self.items c.in-Some.node f.pushed now h in
+    let h = passed-by f.instance c.args.walk.now.level root from prefix c.requires.ready.valid c.requires.ready.level c.pop.new.self.items c.in-Some.node c.pass_dead.new.node f.pushed now c.pass_dead.ensures
+    (trying-at f.instance c.args.walk.now.level root from prefix c.args.walk.now.nodes.items c.pop.new.self.items c.in-Some.node f.pushed now c.in-Some.ensures.items trying) in
+    let inner = innermost f.instance c.args.walk.now.level root from prefix c.pop.new.self.items c.pass_dead.new.node f.pushed now h in
     let after = world c.args.fuel.now.amount (g.B.Bound.state c.args.bound.now) (g.H.Shared.state c.args.shared.now) c.add_explained.new.log in
     subst (λ (s : ForwardState). IsAdvanced f.instance c.args.walk.now.level root from c.pop.new.self.items s.pushed after c.from_residual.result) (sym c.in_err-found.ensures.front)
     (advanced-err f.instance c.args.walk.now.level root from c.pop.new.self.items f.pushed after c.from_residual.result c.from_residual.ensures.0
-    (λ e. closes-ending f.instance c.args.walk.now.level root from prefix c.requires.ready.valid c.requires.ready.level c.pop.new.self.items c.in-Some.node f.pushed now h (omega (arith, inner.trying.within, c.if-node.true)) c.add_explained.new.log (Err e) c.in_err-found.ensures.lined.0 c.in_err-found.ensures.lined.1 c.in_err-found.ensures.lined.2 tt))
+    (λ e. closes-ending f.instance c.args.walk.now.level root from prefix c.requires.ready.valid c.requires.ready.level c.pop.new.self.items c.pass_dead.new.node f.pushed now h (omega (arith, inner.trying.within, c.if-node.true)) c.add_explained.new.log (Err e) c.in_err-found.ensures.lined.0 c.in_err-found.ensures.lined.1 c.in_err-found.ensures.lined.2 tt))
 
 pub returns-then-node-clause-advanced : goal.returns-then-node-clause-advanced
 returns-then-node-clause-advanced g c =
     let f = c.args.forward.now in
     let now = world c.args.fuel.now.amount (g.B.Bound.state c.args.bound.now) (g.H.Shared.state c.args.shared.now) c.args.log.now in
     λ root from prefix trying.
-    let h = trying-at f.instance c.args.walk.now.level root from prefix c.args.walk.now.nodes.items c.pop.new.self.items c.in-Some.node f.pushed now c.in-Some.ensures.items trying in
-    let inner = innermost f.instance c.args.walk.now.level root from prefix c.pop.new.self.items c.in-Some.node f.pushed now h in
+    let h = passed-by f.instance c.args.walk.now.level root from prefix c.requires.ready.valid c.requires.ready.level c.pop.new.self.items c.in-Some.node c.pass_dead.new.node f.pushed now c.pass_dead.ensures
+    (trying-at f.instance c.args.walk.now.level root from prefix c.args.walk.now.nodes.items c.pop.new.self.items c.in-Some.node f.pushed now c.in-Some.ensures.items trying) in
+    let inner = innermost f.instance c.args.walk.now.level root from prefix c.pop.new.self.items c.pass_dead.new.node f.pushed now h in
     let after = world c.args.fuel.now.amount (g.B.Bound.state c.args.bound.now) (g.H.Shared.state c.args.shared.now) c.add_explained.new.log in
     subst (λ (s : ForwardState). ComesTo {E = AllocError} f.instance c.args.walk.now.level root from c.pop.new.self.items s.pushed after (Ok c.in_ok-found.found)) (sym c.in_ok-found.ensures.front)
-    (closes-to f.instance c.args.walk.now.level root from prefix c.requires.ready.valid c.requires.ready.level c.pop.new.self.items c.in-Some.node f.pushed now h (omega (arith, inner.trying.within, c.if-node.true)) c.add_explained.new.log (Ok c.in_ok-found.found) c.in_ok-found.ensures.lined.0 c.in_ok-found.ensures.lined.1 c.in_ok-found.ensures.lined.2)
+    (closes-to f.instance c.args.walk.now.level root from prefix c.requires.ready.valid c.requires.ready.level c.pop.new.self.items c.pass_dead.new.node f.pushed now h (omega (arith, inner.trying.within, c.if-node.true)) c.add_explained.new.log (Ok c.in_ok-found.found) c.in_ok-found.ensures.lined.0 c.in_ok-found.ensures.lined.1 c.in_ok-found.ensures.lined.2)
 
 pub overflow_cast-node : goal.overflow_cast-node
 overflow_cast-node g c =
     let f = c.args.forward.now in
     let now = world c.args.fuel.now.amount (g.B.Bound.state c.args.bound.now) (g.H.Shared.state c.args.shared.now) c.args.log.now in
     let t = c.requires.trying in
-    let h = trying-at f.instance c.args.walk.now.level t.0 t.1 t.2 c.args.walk.now.nodes.items c.pop.new.self.items c.in-Some.node f.pushed now c.in-Some.ensures.items t.3 in
-    let inner = innermost f.instance c.args.walk.now.level t.0 t.1 t.2 c.pop.new.self.items c.in-Some.node f.pushed now h in
-    let few = few_choices f.instance c.requires.ready.valid c.in-Some.node.path (next-small f.instance f.pushed inner.prefix c.in-Some.node.path inner.trying.next) in
+    let h = passed-by f.instance c.args.walk.now.level t.0 t.1 t.2 c.requires.ready.valid c.requires.ready.level c.pop.new.self.items c.in-Some.node c.pass_dead.new.node f.pushed now c.pass_dead.ensures
+    (trying-at f.instance c.args.walk.now.level t.0 t.1 t.2 c.args.walk.now.nodes.items c.pop.new.self.items c.in-Some.node f.pushed now c.in-Some.ensures.items t.3) in
+    let inner = innermost f.instance c.args.walk.now.level t.0 t.1 t.2 c.pop.new.self.items c.pass_dead.new.node f.pushed now h in
+    let few = few_choices f.instance c.requires.ready.valid c.pass_dead.new.node.path (next-small f.instance f.pushed inner.prefix c.pass_dead.new.node.path inner.trying.next) in
     omega (arith, few, inner.trying.counted, c.if-node.false)
 
 pub push-requires-clause-path : goal.push-requires-clause-path
@@ -49,17 +52,19 @@ push-requires-clause-path g c =
     let f = c.args.forward.now in
     let now = world c.args.fuel.now.amount (g.B.Bound.state c.args.bound.now) (g.H.Shared.state c.args.shared.now) c.args.log.now in
     let t = c.requires.trying in
-    let h = trying-at f.instance c.args.walk.now.level t.0 t.1 t.2 c.args.walk.now.nodes.items c.pop.new.self.items c.in-Some.node f.pushed now c.in-Some.ensures.items t.3 in
-    let inner = innermost f.instance c.args.walk.now.level t.0 t.1 t.2 c.pop.new.self.items c.in-Some.node f.pushed now h in
-    next-small f.instance f.pushed inner.prefix c.in-Some.node.path inner.trying.next
+    let h = passed-by f.instance c.args.walk.now.level t.0 t.1 t.2 c.requires.ready.valid c.requires.ready.level c.pop.new.self.items c.in-Some.node c.pass_dead.new.node f.pushed now c.pass_dead.ensures
+    (trying-at f.instance c.args.walk.now.level t.0 t.1 t.2 c.args.walk.now.nodes.items c.pop.new.self.items c.in-Some.node f.pushed now c.in-Some.ensures.items t.3) in
+    let inner = innermost f.instance c.args.walk.now.level t.0 t.1 t.2 c.pop.new.self.items c.pass_dead.new.node f.pushed now h in
+    next-small f.instance f.pushed inner.prefix c.pass_dead.new.node.path inner.trying.next
 
 pub push-requires-clause-choice : goal.push-requires-clause-choice
 push-requires-clause-choice g c =
     let f = c.args.forward.now in
     let now = world c.args.fuel.now.amount (g.B.Bound.state c.args.bound.now) (g.H.Shared.state c.args.shared.now) c.args.log.now in
     let t = c.requires.trying in
-    let h = trying-at f.instance c.args.walk.now.level t.0 t.1 t.2 c.args.walk.now.nodes.items c.pop.new.self.items c.in-Some.node f.pushed now c.in-Some.ensures.items t.3 in
-    let inner = innermost f.instance c.args.walk.now.level t.0 t.1 t.2 c.pop.new.self.items c.in-Some.node f.pushed now h in
+    let h = passed-by f.instance c.args.walk.now.level t.0 t.1 t.2 c.requires.ready.valid c.requires.ready.level c.pop.new.self.items c.in-Some.node c.pass_dead.new.node f.pushed now c.pass_dead.ensures
+    (trying-at f.instance c.args.walk.now.level t.0 t.1 t.2 c.args.walk.now.nodes.items c.pop.new.self.items c.in-Some.node f.pushed now c.in-Some.ensures.items t.3) in
+    let inner = innermost f.instance c.args.walk.now.level t.0 t.1 t.2 c.pop.new.self.items c.pass_dead.new.node f.pushed now h in
     omega (arith, inner.trying.counted, c.if-node.false)
 
 pub push-requires-clause-free : goal.push-requires-clause-free
@@ -67,19 +72,21 @@ push-requires-clause-free g c =
     let f = c.args.forward.now in
     let now = world c.args.fuel.now.amount (g.B.Bound.state c.args.bound.now) (g.H.Shared.state c.args.shared.now) c.args.log.now in
     let t = c.requires.trying in
-    let h = trying-at f.instance c.args.walk.now.level t.0 t.1 t.2 c.args.walk.now.nodes.items c.pop.new.self.items c.in-Some.node f.pushed now c.in-Some.ensures.items t.3 in
-    let inner = innermost f.instance c.args.walk.now.level t.0 t.1 t.2 c.pop.new.self.items c.in-Some.node f.pushed now h in
-    next-apart f.instance f.pushed inner.prefix c.in-Some.node.path inner.trying.next
+    let h = passed-by f.instance c.args.walk.now.level t.0 t.1 t.2 c.requires.ready.valid c.requires.ready.level c.pop.new.self.items c.in-Some.node c.pass_dead.new.node f.pushed now c.pass_dead.ensures
+    (trying-at f.instance c.args.walk.now.level t.0 t.1 t.2 c.args.walk.now.nodes.items c.pop.new.self.items c.in-Some.node f.pushed now c.in-Some.ensures.items t.3) in
+    let inner = innermost f.instance c.args.walk.now.level t.0 t.1 t.2 c.pop.new.self.items c.pass_dead.new.node f.pushed now h in
+    next-apart f.instance f.pushed inner.prefix c.pass_dead.new.node.path inner.trying.next
 
 pub visit-requires-clause-prefix : goal.visit-requires-clause-prefix
 visit-requires-clause-prefix g c =
     let f = c.args.forward.now in
     let now = world c.args.fuel.now.amount (g.B.Bound.state c.args.bound.now) (g.H.Shared.state c.args.shared.now) c.args.log.now in
     let t = c.requires.trying in
-    let h = trying-at f.instance c.args.walk.now.level t.0 t.1 t.2 c.args.walk.now.nodes.items c.pop.new.self.items c.in-Some.node f.pushed now c.in-Some.ensures.items t.3 in
-    let inner = innermost f.instance c.args.walk.now.level t.0 t.1 t.2 c.pop.new.self.items c.in-Some.node f.pushed now h in
+    let h = passed-by f.instance c.args.walk.now.level t.0 t.1 t.2 c.requires.ready.valid c.requires.ready.level c.pop.new.self.items c.in-Some.node c.pass_dead.new.node f.pushed now c.pass_dead.ensures
+    (trying-at f.instance c.args.walk.now.level t.0 t.1 t.2 c.args.walk.now.nodes.items c.pop.new.self.items c.in-Some.node f.pushed now c.in-Some.ensures.items t.3) in
+    let inner = innermost f.instance c.args.walk.now.level t.0 t.1 t.2 c.pop.new.self.items c.pass_dead.new.node f.pushed now h in
     subst (λ (s : ForwardState). IsPrefix s.instance s.pushed) (sym c.push.ensures)
-    (next-prefix f.instance f.pushed inner.prefix c.in-Some.node.path inner.trying.next c.in-Some.node.choice (omega (arith, inner.trying.counted, c.if-node.false)))
+    (next-prefix f.instance f.pushed inner.prefix c.pass_dead.new.node.path inner.trying.next c.pass_dead.new.node.choice (omega (arith, inner.trying.counted, c.if-node.false)))
 
 pub returns-clause-advanced : goal.returns-clause-advanced
 returns-clause-advanced g c =
@@ -88,14 +95,52 @@ returns-clause-advanced g c =
     let after = world c.visit.new.fuel.amount (g.B.Bound.state c.visit.new.bound) (g.H.Shared.state c.visit.new.shared) c.visit.new.log in
     let same : c.push.new.self.instance ≡ f.instance = ap (λ (s : ForwardState). s.instance) c.push.ensures in
     λ root from prefix trying.
-    let h = trying-at f.instance c.args.walk.now.level root from prefix c.args.walk.now.nodes.items c.pop.new.self.items c.in-Some.node f.pushed now c.in-Some.ensures.items trying in
+    let h = passed-by f.instance c.args.walk.now.level root from prefix c.requires.ready.valid c.requires.ready.level c.pop.new.self.items c.in-Some.node c.pass_dead.new.node f.pushed now c.pass_dead.ensures
+    (trying-at f.instance c.args.walk.now.level root from prefix c.args.walk.now.nodes.items c.pop.new.self.items c.in-Some.node f.pushed now c.in-Some.ensures.items trying) in
     subst (λ (s : ForwardState). IsAdvanced f.instance c.args.walk.now.level root from c.visit.new.walk.nodes.items s.pushed after c.visit.result) (sym c.visit.ensures.front)
-    (visits f.instance c.args.walk.now.level root from prefix c.requires.ready.valid c.requires.ready.level c.pop.new.self.items c.in-Some.node f.pushed now h c.if-node.false
+    (visits f.instance c.args.walk.now.level root from prefix c.requires.ready.valid c.requires.ready.level c.pop.new.self.items c.pass_dead.new.node f.pushed now h c.if-node.false
     c.push.new.self.pushed (ap (λ (s : ForwardState). s.pushed) c.push.ensures) c.push-2.new.self.items c.in_ok-push.ensures.items c.visit.new.walk.nodes.items after c.visit.result
     (subst (λ i. IsVisited i c.args.walk.now.level c.push.new.self.pushed c.push-2.new.self.items c.visit.new.walk.nodes.items now after c.visit.result) same c.visit.ensures.visited))
 
 pub add_explained-requires-clause-asked : goal.add_explained-requires-clause-asked
 add_explained-requires-clause-asked g c =
+    let f = c.args.forward.now in
+    let now = world c.args.fuel.now.amount (g.B.Bound.state c.args.bound.now) (g.H.Shared.state c.args.shared.now) c.args.log.now in
+    let t = c.requires.trying in
+    let h = passed-by f.instance c.args.walk.now.level t.0 t.1 t.2 c.requires.ready.valid c.requires.ready.level c.pop.new.self.items c.in-Some.node c.pass_dead.new.node f.pushed now c.pass_dead.ensures
+    (trying-at f.instance c.args.walk.now.level t.0 t.1 t.2 c.args.walk.now.nodes.items c.pop.new.self.items c.in-Some.node f.pushed now c.in-Some.ensures.items t.3) in
+    let inner = innermost f.instance c.args.walk.now.level t.0 t.1 t.2 c.pop.new.self.items c.pass_dead.new.node f.pushed now h in
+    record {
+      valid = c.requires.ready.valid;
+      partial = prefix-is_partial f.instance f.pushed inner.prefix;
+      tag = tag-small f.instance c.args.walk.now.level c.pass_dead.new.node.tag c.requires.ready.level (omega (arith, inner.trying.target));
+      small = next-small f.instance f.pushed inner.prefix c.pass_dead.new.node.path inner.trying.next;
+      counted = inner.trying.counted;
+      apart = next-apart f.instance f.pushed inner.prefix c.pass_dead.new.node.path inner.trying.next;
+    }
+
+pub add_explained-requires-clause-prefix : goal.add_explained-requires-clause-prefix
+add_explained-requires-clause-prefix g c =
+    let f = c.args.forward.now in
+    let now = world c.args.fuel.now.amount (g.B.Bound.state c.args.bound.now) (g.H.Shared.state c.args.shared.now) c.args.log.now in
+    let t = c.requires.trying in
+    let h = passed-by f.instance c.args.walk.now.level t.0 t.1 t.2 c.requires.ready.valid c.requires.ready.level c.pop.new.self.items c.in-Some.node c.pass_dead.new.node f.pushed now c.pass_dead.ensures
+    (trying-at f.instance c.args.walk.now.level t.0 t.1 t.2 c.args.walk.now.nodes.items c.pop.new.self.items c.in-Some.node f.pushed now c.in-Some.ensures.items t.3) in
+    let inner = innermost f.instance c.args.walk.now.level t.0 t.1 t.2 c.pop.new.self.items c.pass_dead.new.node f.pushed now h in
+    inner.prefix
+
+pub add_explained-requires-clause-closed : goal.add_explained-requires-clause-closed
+add_explained-requires-clause-closed g c =
+    let f = c.args.forward.now in
+    let now = world c.args.fuel.now.amount (g.B.Bound.state c.args.bound.now) (g.H.Shared.state c.args.shared.now) c.args.log.now in
+    let t = c.requires.trying in
+    let h = passed-by f.instance c.args.walk.now.level t.0 t.1 t.2 c.requires.ready.valid c.requires.ready.level c.pop.new.self.items c.in-Some.node c.pass_dead.new.node f.pushed now c.pass_dead.ensures
+    (trying-at f.instance c.args.walk.now.level t.0 t.1 t.2 c.args.walk.now.nodes.items c.pop.new.self.items c.in-Some.node f.pushed now c.in-Some.ensures.items t.3) in
+    let inner = innermost f.instance c.args.walk.now.level t.0 t.1 t.2 c.pop.new.self.items c.pass_dead.new.node f.pushed now h in
+    λ i l. inner.trying.choices.settled i (omega (arith, l, c.if-node.true))
+
+pub pass_dead-requires-clause-asked : goal.pass_dead-requires-clause-asked
+pass_dead-requires-clause-asked g c =
     let f = c.args.forward.now in
     let now = world c.args.fuel.now.amount (g.B.Bound.state c.args.bound.now) (g.H.Shared.state c.args.shared.now) c.args.log.now in
     let t = c.requires.trying in
@@ -110,20 +155,11 @@ add_explained-requires-clause-asked g c =
       apart = next-apart f.instance f.pushed inner.prefix c.in-Some.node.path inner.trying.next;
     }
 
-pub add_explained-requires-clause-prefix : goal.add_explained-requires-clause-prefix
-add_explained-requires-clause-prefix g c =
+pub pass_dead-requires-clause-within : goal.pass_dead-requires-clause-within
+pass_dead-requires-clause-within g c =
     let f = c.args.forward.now in
     let now = world c.args.fuel.now.amount (g.B.Bound.state c.args.bound.now) (g.H.Shared.state c.args.shared.now) c.args.log.now in
     let t = c.requires.trying in
     let h = trying-at f.instance c.args.walk.now.level t.0 t.1 t.2 c.args.walk.now.nodes.items c.pop.new.self.items c.in-Some.node f.pushed now c.in-Some.ensures.items t.3 in
     let inner = innermost f.instance c.args.walk.now.level t.0 t.1 t.2 c.pop.new.self.items c.in-Some.node f.pushed now h in
-    inner.prefix
-
-pub add_explained-requires-clause-closed : goal.add_explained-requires-clause-closed
-add_explained-requires-clause-closed g c =
-    let f = c.args.forward.now in
-    let now = world c.args.fuel.now.amount (g.B.Bound.state c.args.bound.now) (g.H.Shared.state c.args.shared.now) c.args.log.now in
-    let t = c.requires.trying in
-    let h = trying-at f.instance c.args.walk.now.level t.0 t.1 t.2 c.args.walk.now.nodes.items c.pop.new.self.items c.in-Some.node f.pushed now c.in-Some.ensures.items t.3 in
-    let inner = innermost f.instance c.args.walk.now.level t.0 t.1 t.2 c.pop.new.self.items c.in-Some.node f.pushed now h in
-    λ i l. inner.trying.choices.settled i (omega (arith, l, c.if-node.true))
+    inner.trying.within
