@@ -2,6 +2,7 @@ pub mod Planned
 pub mod Visited
 pub mod Explaining
 pub mod PassingBy
+pub mod Looking
 pub mod Advancing
 pub mod Exploring
 pub mod Fronts
