@@ -29,7 +29,7 @@ use Rattle.log_laws.specs.Contents.{content_of}
 use Rattle.log_laws.specs.GoodLines.{IsGoodLine}
 use Rattle.log_laws.specs.Segments.{IsGoodLog}
 use Rattle.log_laws.proofs.Segmenting.{log-push}
-use Rattle.search_log.specs.Bounds.{BoundState}
+use Rattle.search_log.specs.Bounds.{BoundState, floor}
 use Rattle.search_log.specs.LogStates.{LogState}
 use Rattle.search_log.specs.Logs.{with_line}
 use Rattle.search_log.specs.Shares.{IsServed, SharedState, known}
@@ -37,7 +37,7 @@ use Rattle.settle_laws.specs.declared.found.Found.{Found}
 use Rattle.settle_laws.specs.declared.found.Found.TheVariants.{Settled}
 use Rattle.settle_laws.specs.declared.node.Node.{Node}
 use Rattle.settle_laws.specs.Explained.{Explains}
-use Rattle.settle_laws.specs.Founds.{IsRefuted, IsTarget, Searched}
+use Rattle.settle_laws.specs.Founds.{IsOpen, IsRefuted, IsTarget, Searched}
 use Rattle.settle_laws.specs.Lines.{AddsLine, AreSorted, Concludes, IsConcluded, IsLined, Offered}
 use Rattle.settle_laws.specs.Stops.{IsWhole, stop_at}
 use Rattle.settle_laws.specs.Ticked.{IsTicked}
@@ -122,12 +122,26 @@ begun-one instance level prefix path index old now t = let l = t.begins.1 in ome
 
 -- ---- a Branch line after all choices were tried
 
-module _ (instance : Instance) (valid : IsInstance instance) (level : ℕ) (limit : level ≤ levels_of instance) (literals : List Literal) (prefix : IsPrefix instance literals) (partial : IsPartial instance literals) (old now : World) (node : Node) (trying : Trying instance level literals old now node) (done : node.choice ≡ node.count) (log : LogState) (fewer : List Literal) (why : Explains instance now.log.lines literals fewer node) where
+-- what is so while the choices of some further path are tried, be it the next one or not
+pub record TryingAny (instance : Instance) (level : ℕ) (literals : List Literal) (old now : World) (node : Node) : Type 0 where
+  pub small : node.path < length instance.paths
+  pub free : names literals node.path ≡ false
+  pub counted : node.count ≡ count_at instance node.path
+  pub within : node.choice ≤ node.count
+  pub read : now.bound.told ≤ floor old.bound
+  pub keeps : Keeps instance old now
+  pub fewer : length now.log.lines + now.fuel + 1 ≤ length old.log.lines + old.fuel
+  pub is_open : IsOpen level now.bound
+  pub target : IsTarget level now.bound node.tag.code
+  pub choices : AreTriedChoices instance now.shared.copied now.log.lines literals node.tag.code node.path node.choice node.refs
+  pub ticks : TicksBelow instance level literals node.path node.choice old now
+
+module _ (instance : Instance) (valid : IsInstance instance) (level : ℕ) (limit : level ≤ levels_of instance) (literals : List Literal) (old now : World) (node : Node) (trying : TryingAny instance level literals old now node) (done : node.choice ≡ node.count) (log : LogState) (fewer : List Literal) (why : Explains instance now.log.lines literals fewer node) where
   node-own : IsTagFor instance node.tag
   node-own = tag-small instance level node.tag limit (omega (arith, trying.target))
 
   apart : names fewer node.path ≡ false
-  apart = names-same literals fewer node.path why.within (next-apart instance literals prefix node.path trying.next)
+  apart = names-same literals fewer node.path why.within trying.free
 
   module _ (found : Found) (adds : AddsLine instance fewer node.tag (Some node.path) node.refs now.log log found) where
     tag-same : adds.line.tag.code ≡ node.tag.code
@@ -135,7 +149,7 @@ module _ (instance : Instance) (valid : IsInstance instance) (level : ℕ) (limi
 
     all-tried : AreTriedChoices instance now.shared.copied now.log.lines fewer node.tag.code node.path (count_at instance node.path) node.refs
     all-tried = subst (λ n. AreTriedChoices instance now.shared.copied now.log.lines fewer node.tag.code node.path n node.refs) (done ∙ trying.counted)
-        (tried-fewer instance valid literals fewer why.partial node.path node.choice (next-small instance literals prefix node.path trying.next) (omega (arith, trying.within, trying.counted)) apart
+        (tried-fewer instance valid literals fewer why.partial node.path node.choice trying.small (omega (arith, trying.within, trying.counted)) apart
         now.shared.copied now.log.lines node.tag.code node-own node.refs trying.choices why.stay (λ i l. why.closed i (omega (arith, l, done))))
 
     by-known : AreTriedChoices instance (known now.shared) now.log.lines fewer node.tag.code node.path (count_at instance node.path) node.refs
@@ -152,11 +166,11 @@ module _ (instance : Instance) (valid : IsInstance instance) (level : ℕ) (limi
     good : IsGoodLine instance (known now.shared) now.log.lines adds.line
     good = branch-good instance valid fewer why.partial (known now.shared) now.log.lines adds.line adds.sorted
         (subst (λ (t : Tag). IsTagFor instance t) (sym adds.tag_is) node-own)
-        node.path (next-small instance literals prefix node.path trying.next) apart adds.path_is of-line
+        node.path trying.small apart adds.path_is of-line
 
     implied : Implied instance (triple_from adds.line.tag.code) adds.line.lits
     implied = Implied-more instance (triple_from adds.line.tag.code) fewer adds.line.lits adds.sorted.has
-        (Implied-branch instance (triple_from adds.line.tag.code) fewer node.path (next-small instance literals prefix node.path trying.next) of-line.implied)
+        (Implied-branch instance (triple_from adds.line.tag.code) fewer node.path trying.small of-line.implied)
 
     branch-by : {E : Type 0} → Searched {E = E} instance level literals old (world now.fuel now.bound now.shared log) (Ok (Settled (Own (length now.log.lines)) node.tag))
     branch-by = record {
@@ -180,9 +194,9 @@ module _ (instance : Instance) (valid : IsInstance instance) (level : ℕ) (limi
     branch-found : {E : Type 0} → Searched {E = E} instance level literals old (world now.fuel now.bound now.shared log) (Ok found)
     branch-found {E} = subst (λ f. Searched {E = E} instance level literals old (world now.fuel now.bound now.shared log) (Ok f)) (sym adds.found_is) branch-by
 
-  pub branch-searched : {E : Type 0} → (result : Result Found E) → IsLined instance fewer node.tag (Some node.path) node.refs now.log log result → Searched instance level literals old (world now.fuel now.bound now.shared log) result
-  branch-searched (Ok found) adds = branch-found found adds
-  branch-searched (Err e) same = subst (λ l. Searched instance level literals old (world now.fuel now.bound now.shared l) (Err e)) (sym same) (record {
+  pub any-branch-searched : {E : Type 0} → (result : Result Found E) → IsLined instance fewer node.tag (Some node.path) node.refs now.log log result → Searched instance level literals old (world now.fuel now.bound now.shared log) result
+  any-branch-searched (Ok found) adds = branch-found found adds
+  any-branch-searched (Err e) same = subst (λ l. Searched instance level literals old (world now.fuel now.bound now.shared l) (Err e)) (sym same) (record {
     keeps = trying.keeps;
     few = omega (arith, trying.fewer);
     read = trying.read;
@@ -193,6 +207,26 @@ module _ (instance : Instance) (valid : IsInstance instance) (level : ℕ) (limi
     offered = tt;
     counted = tt;
   })
+
+-- of the next path
+pub trying-next : (instance : Instance) (level : ℕ) (literals : List Literal) → IsPrefix instance literals → (old now : World) (node : Node) → Trying instance level literals old now node → TryingAny instance level literals old now node
+trying-next instance level literals prefix old now node trying = record {
+  small = next-small instance literals prefix node.path trying.next;
+  free = next-apart instance literals prefix node.path trying.next;
+  counted = trying.counted;
+  within = trying.within;
+  read = trying.read;
+  keeps = trying.keeps;
+  fewer = trying.fewer;
+  is_open = trying.is_open;
+  target = trying.target;
+  choices = trying.choices;
+  ticks = trying.ticks;
+}
+
+module _ (instance : Instance) (valid : IsInstance instance) (level : ℕ) (limit : level ≤ levels_of instance) (literals : List Literal) (prefix : IsPrefix instance literals) (partial : IsPartial instance literals) (old now : World) (node : Node) (trying : Trying instance level literals old now node) (done : node.choice ≡ node.count) (log : LogState) (fewer : List Literal) (why : Explains instance now.log.lines literals fewer node) where
+  pub branch-searched : {E : Type 0} → (result : Result Found E) → IsLined instance fewer node.tag (Some node.path) node.refs now.log log result → Searched instance level literals old (world now.fuel now.bound now.shared log) result
+  branch-searched result lined = any-branch-searched instance valid level limit literals old now node (trying-next instance level literals prefix old now node trying) done log fewer why result lined
 
 -- ---- after a tick
 

@@ -11,6 +11,7 @@ pub mod Offering
 pub mod Tried
 pub mod Fewer
 pub mod Ends
+pub mod Ahead
 pub mod Steps
 pub mod Opening
 pub mod Lining

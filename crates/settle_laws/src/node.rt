@@ -1,12 +1,12 @@
 use fapp_model::{Items, Tag};
 use log_laws::ChoiceRef;
 
-/// Literals whose next path is being tried, choice by choice.
+/// Literals of which a further path is being tried, choice by choice.
 #[derive(Debug, Drop)]
 pub struct Node {
     /// The least tag that the literals or a choice so far were judged at.
     pub tag: Tag,
-    /// The next path of the work order.
+    /// That path: the next one of the work order, or one that was looked ahead to.
     pub path: u16,
     /// The choice that comes next, or that is being tried: the index, or the number of choices at the end.
     pub choice: u32,

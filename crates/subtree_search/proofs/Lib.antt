@@ -3,6 +3,7 @@ pub mod Visited
 pub mod Explaining
 pub mod SumDead
 pub mod PassingBy
+pub mod Looking
 pub mod Advancing
 pub mod Exploring
 pub mod Fronts

@@ -1,5 +1,6 @@
 pub mod Explaining
 pub mod Recalling
+pub mod Looking
 pub mod Entries
 pub mod Plans
 pub mod Walks

@@ -146,7 +146,7 @@ fn is_settled(forward: &mut Forward, node: &Node, choice: u16) -> bool
 }
 
 /// Whether each choice of the node has a reference or is dead with the literals.
-fn is_closed(forward: &mut Forward, node: &Node) -> bool
+pub fn is_closed(forward: &mut Forward, node: &Node) -> bool
     requires asked { IsAsked forward.old.instance forward.old.pushed node.now }
     ensures front { forward.new ≡ forward.old }
     ensures closed { IsTrue result → IsClosedBy forward.old.instance forward.old.pushed node.now }

@@ -1,6 +1,7 @@
 //! The search of one job.
 #![tactic(auto)]
 
+mod ahead;
 mod enter;
 mod explain;
 mod job;

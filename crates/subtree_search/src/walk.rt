@@ -12,6 +12,7 @@ ghost use Rattle.settle_laws.specs.Worlds.{World, world};
 ghost use Rattle.subtree_search.specs.Walks.{BeginsAt, IsReady, work_left};
 ghost use Rattle.subtree_search.specs.Steps.{ComesTo, IsAdvanced, IsBack, IsNoted, IsVisited, Lightens, NotesLess};
 
+use crate::ahead::look_ahead;
 use crate::enter::{Entry, enter};
 use crate::explain::{Scratch, add_explained, names_path};
 use crate::lines::conclude;
@@ -97,6 +98,9 @@ fn visit<B: Bound, H: Shared>(
             bound,
             log,
         )?;
+        return Ok(Some(found));
+    }
+    if let Some(found) = look_ahead(walk.alloc, &mut walk.scratch, target, depth, forward, log)? {
         return Ok(Some(found));
     }
     let path = order[depth];
