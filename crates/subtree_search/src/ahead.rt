@@ -15,7 +15,7 @@ use search_log::Log;
 use settle_laws::{Found, Node};
 use std::alloc::Global;
 
-/// A path of which more choices are left is not looked at.
+/// A path of which more choices are left is not looked at, nor one of which all are.
 const FEW: u32 = 4;
 
 /// The node of a further path, with no choice left to try.
@@ -38,20 +38,23 @@ fn bare_node(alloc: Global, forward: &Forward, tag: Tag, path: u16) -> Node
     }
 }
 
-/// Whether few choices of a node's path are left.
+/// Whether few choices of a node's path are left, and not all.
 fn has_few_left(forward: &Forward, node: &Node) -> bool
     requires asked { IsAsked forward.now.instance forward.now.pushed node.now }
 {
     let mut more = FEW;
+    let mut some_gone = false;
     for choice in 0..node.count {
         if forward.remains(node.path, choice as u16) {
             if more == 0 {
                 return false;
             }
             more -= 1;
+        } else {
+            some_gone = true;
         }
     }
-    true
+    some_gone
 }
 
 /// The node of a path without a literal, where few of its choices are left and each choice is dead with the literals.

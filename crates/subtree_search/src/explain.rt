@@ -53,11 +53,15 @@ pub fn names_path(literals: &[Literal], path: u16) -> bool
     literals.iter().any(|literal| literal.path == path)
 }
 
-/// Whether some reference is of a choice.
-fn is_listed(refs: &[ChoiceRef], choice: u32) -> bool
-    ensures { result ≡ list_any (λ r. r.choice == choice) refs.now }
+/// Whether the reference at a place is of a choice.
+fn is_at(refs: &[ChoiceRef], place: usize, choice: u16) -> bool
+    ensures inside { IsTrue result → place < length refs.now }
+    ensures listed { IsTrue result → IsTrue (list_any (λ r. r.choice == choice) refs.now) }
 {
-    refs.iter().any(|r| u32::from(r.choice) == choice)
+    if place >= refs.len() {
+        return false;
+    }
+    refs[place].choice == choice
 }
 
 /// Whether the literals' sum with a choice comes to the tag's limit, by what the choice adds in place of the least.
@@ -132,14 +136,14 @@ fn is_dead_with(forward: &mut Forward, tag: Tag, path: u16, choice: u16) -> bool
     dead
 }
 
-/// Whether a choice of the node has a reference or is dead with the literals.
-fn is_settled(forward: &mut Forward, node: &Node, choice: u16) -> bool
+/// Whether a choice of the node has the reference at a place, or is dead with the literals.
+fn is_settled(forward: &mut Forward, node: &Node, choice: u16, place: usize) -> bool
     requires asked { IsAsked forward.old.instance forward.old.pushed node.now }
     requires choice { choice < node.now.count }
     ensures front { forward.new ≡ forward.old }
     ensures settled { IsTrue result → IsSettled forward.old.instance node.now.tag.code forward.old.pushed node.now.path node.now.refs choice }
 {
-    if is_listed(node.refs.as_slice(), u32::from(choice)) {
+    if is_at(node.refs.as_slice(), place, choice) {
         return true;
     }
     is_dead_with(forward, node.tag, node.path, choice)
@@ -151,9 +155,13 @@ pub fn is_closed(forward: &mut Forward, node: &Node) -> bool
     ensures front { forward.new ≡ forward.old }
     ensures closed { IsTrue result → IsClosedBy forward.old.instance forward.old.pushed node.now }
 {
+    let mut next = 0;
     for choice in 0..node.count {
-        if !is_settled(forward, node, choice as u16) {
+        if !is_settled(forward, node, choice as u16, next) {
             return false;
+        }
+        if is_at(node.refs.as_slice(), next, choice as u16) {
+            next += 1;
         }
     }
     true

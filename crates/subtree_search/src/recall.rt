@@ -3,7 +3,7 @@ ghost use Rattle.std.specs.Prelude.{◌≡◌, ◌≤◌, ◌∷◌, ◌++◌, [
 ghost use Rattle.fapp_model.specs.search.Partials.{HasAll, literal};
 ghost use Rattle.subtree_search.specs.Recalling.{IsRecalled, SaysOf};
 
-use fapp_model::{Literal, NoMemory, Tag};
+use fapp_model::{Literal, Tag};
 use forward_count::Forward;
 use search_log::Log;
 use std::alloc::Global;
@@ -18,10 +18,11 @@ const SLOTS: usize = 32_768;
 /// looked at.
 #[derive(Drop)]
 pub struct Recall {
+    alloc: Global,
     /// Where the lines of the search begin in the log.
     pub first: u32,
     /// For each slot, one more than the line noted last with a literal of it, counted from the first one; 0 where there
-    /// is none.
+    /// is none. Room for them is made when the first line is noted.
     heads: Vec<u32>,
     /// For each line, the same of the line that was noted before it in its slot.
     before: Vec<u32>,
@@ -29,22 +30,40 @@ pub struct Recall {
 
 impl Recall {
     /// No line. The search's lines begin at that place.
-    pub fn new(alloc: Global, first: u32) -> Result<Recall, NoMemory>
-        ensures { IfOk result (λ recall. recall.first ≡ first) }
+    pub fn new(alloc: Global, first: u32) -> Recall
+        ensures { result.first ≡ first }
     {
-        let heads = vec![in alloc; 0; SLOTS]?;
-        let before = Vec::new(alloc);
-        Ok(Recall {
+        Recall {
+            alloc,
             first,
-            heads,
-            before,
-        })
+            heads: Vec::new(alloc),
+            before: Vec::new(alloc),
+        }
+    }
+
+    /// Makes room for the slots where there is none. Whether there is room then.
+    fn has_slots(&mut self) -> bool
+        ensures { self.new.first ≡ self.old.first }
+    {
+        if !self.heads.is_empty() {
+            return true;
+        }
+        match vec![in self.alloc; 0; SLOTS] {
+            Ok(heads) => {
+                self.heads = heads;
+                true
+            }
+            Err(_) => false,
+        }
     }
 
     /// Notes the line at a place with a literal. Lines are noted in their order.
     pub fn note(&mut self, place: u32, literal: Literal)
         ensures { self.new.first ≡ self.old.first }
     {
+        if !self.has_slots() {
+            return;
+        }
         let index = place.saturating_sub(self.first);
         if self.before.len() != index as usize {
             return;

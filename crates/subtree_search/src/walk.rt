@@ -50,7 +50,7 @@ impl Walk {
         let nodes = Vec::with_capacity(alloc, paths)?;
         let plan = vec![in alloc; 0; paths]?;
         let scratch = Scratch::new(alloc, paths)?;
-        let recall = Recall::new(alloc, first)?;
+        let recall = Recall::new(alloc, first);
         Ok(Walk {
             alloc,
             level,
@@ -152,8 +152,9 @@ fn try_next<B: Bound, H: Shared>(
     visit(walk, forward, fuel, bound, shared, log)
 }
 
-/// Notes the line that settles the literals that are pushed with the last of them that it has.
-fn remember(walk: &mut Walk, forward: &Forward, found: Found, log: &Log)
+/// Notes the line that was found with the last literal that is pushed: the line has it, where nodes that it doesn't name
+/// were left.
+fn remember(walk: &mut Walk, forward: &Forward, found: Found)
     ensures level { walk.new.level ≡ walk.old.level }
     ensures first { walk.new.recall.first ≡ walk.old.recall.first }
     ensures nodes { walk.new.nodes.items ≡ walk.old.nodes.items }
@@ -165,23 +166,9 @@ fn remember(walk: &mut Walk, forward: &Forward, found: Found, log: &Log)
     let Ref::Own(place) = line else {
         return;
     };
-    let Some(line) = log.lines().get(place as usize) else {
-        return;
-    };
-    if let Some(last) = last_named(forward.pushed(), line.lits.as_slice()) {
-        walk.recall.note(place, last);
+    if let Some(last) = forward.pushed().last() {
+        walk.recall.note(place, *last);
     }
-}
-
-/// The last of some literals whose path others name.
-fn last_named(literals: &[Literal], others: &[Literal]) -> Option<Literal> {
-    for step in 0..literals.len() {
-        let literal = literals[literals.len() - 1 - step];
-        if names_path(others, literal.path) {
-            return Some(literal);
-        }
-    }
-    None
 }
 
 /// Leaves the innermost nodes whose paths the line doesn't name that settles their choices: it settles them too. A row
@@ -249,8 +236,8 @@ fn advance<B: Bound, H: Shared>(
     let Some(found) = try_next(walk, forward, fuel, bound, shared, log)? else {
         return Ok(None);
     };
-    remember(walk, forward, found, log);
     jump(walk, forward, found, log);
+    remember(walk, forward, found);
     Ok(Some(found))
 }
 

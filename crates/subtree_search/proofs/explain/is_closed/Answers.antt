@@ -7,6 +7,9 @@ use Rattle.subtree_search.proofs.explain.is_closed.Goals as goal
 pub overflow_cast-choice : goal.overflow_cast-choice
 overflow_cast-choice c = let few = asked-few c.args.forward.now.instance c.args.forward.now.pushed c.args.node.now c.requires.asked in omega (arith, few, c.loop-choice-test.true)
 
+pub overflow_cast-choice-in-loop-choice : goal.overflow_cast-choice-in-loop-choice
+overflow_cast-choice-in-loop-choice c = let few = asked-few c.args.forward.now.instance c.args.forward.now.pushed c.args.node.now c.requires.asked in omega (arith, few, c.loop-choice-test.true)
+
 pub loop-choice-preserved : goal.loop-choice-preserved
 loop-choice-preserved c = (
   c.is_settled.ensures.front ∙ c.loop-choice.invariant.0,
