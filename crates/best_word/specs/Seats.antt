@@ -1,5 +1,5 @@
 -- Words of the contracts: what a seat knows, and which word it belongs to.
-use Rattle.std.specs.Prelude.{◌≡◌, ◌⊎◌, ℕ, ◌≤◌, All, Contains}
+use Rattle.std.specs.Prelude.{◌≡◌, ◌⊎◌, ℕ, ◌≤◌, List, [], All, Contains, sum_by}
 use Rattle.best_word.specs.declared.view.BestView.{BestView}
 use Rattle.best_word.specs.declared.seat.BestSeat.{BestSeat}
 use Rattle.best_word.specs.declared.seat.BestWord.{BestWord}
@@ -29,3 +29,31 @@ pub record IsLeastOf (v : BestView) (n : ℕ) : Type 0 where
 pub record IsLeastOffered (levels : ℕ) (s : Words) : Type 0 where
   pub from : (word_of s ≡ top_code levels) ⊎ IsOffered s.views (word_of s)
   pub least : EachLive is_spent (λ v. All (λ m. word_of s ≤ m) v.offers) s.views
+
+-- a seat that has offered and found nothing, for costs of an instance with so many levels
+pub record IsNewSeat (levels : ℕ) (v : BestView) : Type 0 where
+  pub same_levels : v.levels ≡ levels
+  pub top : v.least ≡ top_code levels
+  pub offers : v.offers ≡ []
+  pub found : v.found ≡ []
+
+-- all shares together
+abbrev pub shares_of : List BestSeat → ℕ
+shares_of seats = sum_by (λ seat. (view_of seat).share) seats
+
+-- some seat offered it
+pub record IsOfferedByOne (seats : List BestSeat) (n : ℕ) : Type 0 where
+  pub seat : BestSeat
+  pub among : Contains seats seat
+  pub offered : Contains (view_of seat).offers n
+
+-- the top code of a seat's levels
+pub record IsTopOfOne (seats : List BestSeat) (n : ℕ) : Type 0 where
+  pub seat : BestSeat
+  pub among : Contains seats seat
+  pub top : n ≡ top_code (view_of seat).levels
+
+-- a code that one of the seats offered, or the top one; and at most all that each of them read or offered
+pub record IsLeastOfAll (seats : List BestSeat) (n : ℕ) : Type 0 where
+  pub from : IsTopOfOne seats n ⊎ IsOfferedByOne seats n
+  pub least : All (λ seat. n ≤ (view_of seat).least) seats

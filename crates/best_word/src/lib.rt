@@ -1,6 +1,7 @@
 //! One word that many seats share without a lock: the least cost that one of them offered.
 #![tactic(auto)]
 
+mod deal;
 mod laws;
 mod plays;
 mod seat;

@@ -1,5 +1,6 @@
 // The word and a seat, as they are kept.
-ghost use Rattle.std.specs.Prelude.{◌≡◌, false, []};
+ghost use Rattle.std.specs.Prelude.{◌≡◌, ◌≤◌, false, [], All};
+ghost use Rattle.best_word.specs.Bound.{top_code};
 
 use crate::view::{BestView, BoundRule};
 use atomic_table::{Seat, Table};
@@ -23,4 +24,6 @@ pub struct BestSeat {
     ghost unspent: { seat.me.0.spent ≡ false },
     ghost shares: { seat.me.0.share ≡ share },
     ghost lows: { seat.me.0.least ≡ least.code },
+    ghost most: { seat.me.0.least ≤ top_code seat.me.0.levels },
+    ghost offered: { All (λ n. seat.me.0.least ≤ n) seat.me.0.offers },
 }

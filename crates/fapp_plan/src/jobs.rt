@@ -89,6 +89,7 @@ impl<'a> Plan<'a> {
     /// How many jobs there are: one for each prefix and level.
     pub fn job_count(&self) -> u32
         ensures count { result ≡ job_count self.now.instance self.now.split }
+        ensures some { 0 < result }
         ensures few { result ≤ 131072 }
     {
         (levels(self.instance) + 1) * self.prefixes

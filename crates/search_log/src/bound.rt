@@ -12,14 +12,19 @@ pub trait Bound {
     /// offered.
     ghost state: { Self → BoundState };
 
+    /// What is known of a bound since an earlier state of it. Each call keeps what was known since any state.
+    ghost since: { Self → Self → Type 0 };
+
     /// The least tag that is known now. It is at most what was told last and what was offered.
     fn now(&mut self) -> Tag
-        ensures { Tells (state self.old) (state self.new) result.code };
+        ensures tells { Tells (state self.old) (state self.new) result.code }
+        ensures since { (was : Self) → since was self.old → since was self.new };
 
     /// Makes the cost of an assignment known. It is at most the tag that was told last.
     fn offer(&mut self, tag: Tag)
         requires { tag.code ≤ (state self.old).told }
-        ensures { Offers (state self.old) (state self.new) tag.code };
+        ensures offers { Offers (state self.old) (state self.new) tag.code }
+        ensures since { (was : Self) → since was self.old → since was self.new };
 }
 
 /// A bound of one holder, which nobody else lowers.
@@ -61,9 +66,12 @@ impl PlainBound {
 impl Bound for PlainBound {
     ghost state = { λ bound. record { began = bound.began.code; told = bound.told.code; least = code_of_offer bound.least } };
 
+    ghost since = { λ _ _. Unit {0} };
+
     /// The tag that it began with, or the least that was offered since where that is less.
     fn now(&mut self) -> Tag
         ensures tells { Tells (⟦<PlainBound as Bound>⟧.state self.old) (⟦<PlainBound as Bound>⟧.state self.new) result.code }
+        ensures since { (was : PlainBound) → ⟦<PlainBound as Bound>⟧.since was self.old → ⟦<PlainBound as Bound>⟧.since was self.new }
         ensures kept { (result ≡ self.old.tag) × (self.new.tag ≡ self.old.tag) }
     {
         self.told = self.tag;
@@ -73,6 +81,7 @@ impl Bound for PlainBound {
     fn offer(&mut self, tag: Tag)
         requires { tag.code ≤ (⟦<PlainBound as Bound>⟧.state self.old).told }
         ensures offers { Offers (⟦<PlainBound as Bound>⟧.state self.old) (⟦<PlainBound as Bound>⟧.state self.new) tag.code }
+        ensures since { (was : PlainBound) → ⟦<PlainBound as Bound>⟧.since was self.old → ⟦<PlainBound as Bound>⟧.since was self.new }
         ensures lowered { self.new.tag.code ≡ min self.old.tag.code tag.code }
     {
         self.tag = lesser(self.tag, tag);

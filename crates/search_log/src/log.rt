@@ -1,5 +1,5 @@
 // The lines that the jobs of one holder found, in order.
-ghost use Rattle.std.specs.Prelude.{◌≡◌, ◌<◌, ◌≤◌, length, None, Some, OnErr, OnOk, IfOk, MatchOption};
+ghost use Rattle.std.specs.Prelude.{◌≡◌, ◌<◌, ◌≤◌, ◌^◌, length, None, Some, OnErr, OnOk, IfOk, MatchOption};
 ghost use Rattle.log_laws.specs.Segments.{ended};
 ghost use Rattle.search_log.specs.Logs.{KeepsBest, cut_behind, empty_log, with_line, with_segment};
 
@@ -35,7 +35,7 @@ impl Model for Log {
 
     ghost view = { λ log. record { lines = log.lines.items; segments = log.segments.items; best = log.best } };
 
-    ghost invariant = { λ log. (length log.lines.items < 2 ^ 32) × (ended log.segments.items ≤ length log.lines.items) };
+    ghost invariant = { λ log. (length log.lines.items < 2 ^ 32) × (ended log.segments.items ≤ length log.lines.items) × (length log.segments.items ≤ ended log.segments.items) };
 }
 
 impl Log {
@@ -127,7 +127,8 @@ impl Log {
 
     /// The segments, in order.
     pub fn segments(&self) -> &[Segment]
-        ensures { result.now ≡ self.now.segments }
+        ensures segments { result.now ≡ self.now.segments }
+        ensures few { length result.now < 2 ^ 32 }
     {
         &self.segments
     }

@@ -33,10 +33,13 @@ impl Shared for MemRows {
 
     ghost serves = { λ shared instance. All (λ row. IsServed instance (row_content row)) shared.rows };
 
+    ghost since = { λ _ _. Unit {0} };
+
     fn lookup(&mut self, part: &Partial, target: Tag) -> Option<Cite>
         ensures looks { Looks (⟦<MemRows as Shared>⟧.state self.old) (⟦<MemRows as Shared>⟧.state self.new) part.now target.code result }
         ensures serves { (instance : Instance) → ⟦<MemRows as Shared>⟧.serves self.old instance ↔ ⟦<MemRows as Shared>⟧.serves self.new instance }
         ensures implied { (instance : Instance) → ⟦<MemRows as Shared>⟧.serves self.old instance → IsCiteOf instance result }
+        ensures since { (was : MemRows) → ⟦<MemRows as Shared>⟧.since was self.old → ⟦<MemRows as Shared>⟧.since was self.new }
         ensures held { self.new.rows ≡ self.old.rows }
     {
         let rows = self.rows.as_slice();
@@ -53,6 +56,7 @@ impl Shared for MemRows {
         requires { (instance : Instance) × ⟦<MemRows as Shared>⟧.serves self.old instance × IsOffer instance lits.now tag.code }
         ensures offered { Offered (⟦<MemRows as Shared>⟧.state self.old) (⟦<MemRows as Shared>⟧.state self.new) lits.now tag.code result }
         ensures serves { (instance : Instance) → ⟦<MemRows as Shared>⟧.serves self.old instance ↔ ⟦<MemRows as Shared>⟧.serves self.new instance }
+        ensures since { (was : MemRows) → ⟦<MemRows as Shared>⟧.since was self.old → ⟦<MemRows as Shared>⟧.since was self.new }
         ensures held { self.new.rows ≡ self.old.rows }
     {
         if lits.len() > 8 {

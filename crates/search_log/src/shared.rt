@@ -22,18 +22,23 @@ pub trait Shared {
     /// The instances whose conflicts its rows are.
     ghost serves: { Self → Instance → Type 0 };
 
+    /// What is known of a holder since an earlier state of it. Each call keeps what was known since any state.
+    ghost since: { Self → Self → Type 0 };
+
     /// A copied row whose literals the part has, at a tag of at least the target. None comes only where no copied row
     /// is one.
     fn lookup(&mut self, part: &Partial, target: Tag) -> Option<Cite>
         ensures looks { Looks (state self.old) (state self.new) part.now target.code result }
         ensures serves { (instance : Instance) → serves self.old instance ↔ serves self.new instance }
-        ensures implied { (instance : Instance) → serves self.old instance → IsCiteOf instance result };
+        ensures implied { (instance : Instance) → serves self.old instance → IsCiteOf instance result }
+        ensures since { (was : Self) → since was self.old → since was self.new };
 
     /// Offers literals that are implied at a tag above (0, 0, 0).
     fn offer(&mut self, lits: &[Literal], tag: Tag) -> Published
         requires { (instance : Instance) × serves self.old instance × IsOffer instance lits.now tag.code }
         ensures offered { Offered (state self.old) (state self.new) lits.now tag.code result }
-        ensures serves { (instance : Instance) → serves self.old instance ↔ serves self.new instance };
+        ensures serves { (instance : Instance) → serves self.old instance ↔ serves self.new instance }
+        ensures since { (was : Self) → since was self.old → since was self.new };
 
     /// One number has one content.
     ghost one_content: { (shared : Self) → HaveOneContent (known (state shared)) };
@@ -49,6 +54,8 @@ impl Shared for NoRows {
     ghost state = { λ _. record { copied = []; published = []; takes = false; refusals = 0 } };
 
     ghost serves = { λ _ _. Unit {0} };
+
+    ghost since = { λ _ _. Unit {0} };
 
     fn lookup(&mut self, _part: &Partial, _target: Tag) -> Option<Cite> {
         None

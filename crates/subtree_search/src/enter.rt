@@ -36,6 +36,8 @@ pub fn enter<B: Bound, H: Shared>(
     requires level { level ≤ levels_of forward.now.instance }
     requires prefix { IsPrefix forward.now.instance forward.now.pushed }
     requires serves { H.serves shared.old forward.now.instance }
+    ensures bound { (was : B) → B.since was bound.old → B.since was bound.new }
+    ensures shared { (was : H) → H.since was shared.old → H.since was shared.new }
     ensures serves { (instance : Instance) → H.serves shared.old instance ↔ H.serves shared.new instance }
     ensures entry { (log : LogState) → IsEntry forward.now.instance level forward.now.pushed (world fuel.old.amount (B.state bound.old) (H.state shared.old) log)
         (world fuel.new.amount (B.state bound.new) (H.state shared.new) log) result }

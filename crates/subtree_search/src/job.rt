@@ -36,6 +36,8 @@ fn search_prefix<B: Bound, H: Shared>(
     requires begins { walk.old.recall.first ≡ length log.old.lines }
     requires prefix { IsPrefix forward.old.instance forward.old.pushed }
     requires serves { H.serves shared.old forward.old.instance }
+    ensures bound { (was : B) → B.since was bound.old → B.since was bound.new }
+    ensures shared { (was : H) → H.since was shared.old → H.since was shared.new }
     ensures serves { (instance : Instance) → H.serves shared.old instance ↔ H.serves shared.new instance }
     ensures front { forward.new ≡ with_literals forward.old forward.new.pushed }
     ensures lined { Lined forward.old.instance walk.old.level forward.old.pushed (world fuel.old.amount (B.state bound.old) (H.state shared.old) log.old)
@@ -57,6 +59,7 @@ fn finish<H: Shared>(
 ) -> Result<Outcome, NoMemory>
     requires closing { (instance : Instance) × (level : ℕ) × (literals : List Literal) × (old : World) × (fuel : ℕ) × (bound : BoundState) × H.serves shared.old instance
         × IsClosing instance level literals old (world fuel bound (H.state shared.old) log.old) from found }
+    ensures shared { (was : H) → H.since was shared.old → H.since was shared.new }
     ensures serves { (instance : Instance) → H.serves shared.old instance ↔ H.serves shared.new instance }
     ensures settled { (instance : Instance) (level : ℕ) (literals : List Literal) (old : World) (fuel : ℕ) (bound : BoundState) →
         IsClosing instance level literals old (world fuel bound (H.state shared.old) log.old) from found →
@@ -112,6 +115,8 @@ pub fn settle<B: Bound, H: Shared>(
     requires level { job.now.level ≤ levels_of forward.old.instance }
     requires prefix { IsPrefix forward.old.instance job.now.prefix }
     requires serves { H.serves shared.old forward.old.instance }
+    ensures bound { (was : B) → B.since was bound.old → B.since was bound.new }
+    ensures shared { (was : H) → H.since was shared.old → H.since was shared.new }
     ensures serves { (instance : Instance) → H.serves shared.old instance ↔ H.serves shared.new instance }
     ensures ok { OnOk result (forward.new ≡ at_level forward.old job.now.level) }
     ensures err { OnErr result (forward.new ≡ forward.old) }

@@ -88,6 +88,7 @@ pub fn conclude<B: Bound>(
     requires prefix { IsPrefix forward.old.instance forward.old.pushed }
     requires full { length (work_order forward.old.instance) ≤ length forward.old.pushed }
     requires alive { (tag : SomeTag) × IsTagFor forward.old.instance tag × (tag.code ≤ (B.state bound.old).told) × (Dead forward.old.instance (triple_from tag.code) forward.old.pushed → ⊥) }
+    ensures bound { (was : B) → B.since was bound.old → B.since was bound.new }
     ensures front { forward.new ≡ forward.old }
     ensures concluded { IsConcluded forward.old.instance forward.old.pushed (B.state bound.old) (B.state bound.new) log.old log.new result }
 {

@@ -17,6 +17,7 @@ pub fn publish<H: Shared>(place: u32, shared: &mut H, log: &mut Log) -> Result<(
     requires last { place + 1 ≡ length log.old.lines }
     requires behind { ended log.old.segments ≤ place }
     requires offerable { (instance : Instance) × H.serves shared.old instance × IsOfferable instance log.old.lines place }
+    ensures shared { (was : H) → H.since was shared.old → H.since was shared.new }
     ensures serves { (instance : Instance) → H.serves shared.old instance ↔ H.serves shared.new instance }
     ensures published { IsPublished (H.state shared.old) (H.state shared.new) log.old log.new place result }
 {

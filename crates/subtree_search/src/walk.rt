@@ -74,10 +74,12 @@ fn visit<B: Bound, H: Shared>(
     requires ready { IsReady forward.old.instance walk.old }
     requires prefix { IsPrefix forward.old.instance forward.old.pushed }
     requires serves { H.serves shared.old forward.old.instance }
+    ensures bound { (was : B) → B.since was bound.old → B.since was bound.new }
     ensures ready { IsReady forward.old.instance walk.new }
     ensures front { forward.new ≡ forward.old }
     ensures level { walk.new.level ≡ walk.old.level }
     ensures first { walk.new.recall.first ≡ walk.old.recall.first }
+    ensures shared { (was : H) → H.since was shared.old → H.since was shared.new }
     ensures serves { (instance : Instance) → H.serves shared.old instance ↔ H.serves shared.new instance }
     ensures visited { IsVisited forward.old.instance walk.old.level forward.old.pushed walk.old.nodes.items walk.new.nodes.items
         (world fuel.old.amount (B.state bound.old) (H.state shared.old) log.old) (world fuel.new.amount (B.state bound.new) (H.state shared.new) log.new) result }
@@ -129,9 +131,11 @@ fn try_next<B: Bound, H: Shared>(
     requires serves { H.serves shared.old forward.old.instance }
     requires trying { (root : List Literal) × (from : World) × IsPrefix forward.old.instance root × BeginsAt walk.old from × IsTrying forward.old.instance walk.old.level root from walk.old.nodes.items forward.old.pushed
         (world fuel.old.amount (B.state bound.old) (H.state shared.old) log.old) }
+    ensures bound { (was : B) → B.since was bound.old → B.since was bound.new }
     ensures ready { IsReady forward.old.instance walk.new }
     ensures level { walk.new.level ≡ walk.old.level }
     ensures first { walk.new.recall.first ≡ walk.old.recall.first }
+    ensures shared { (was : H) → H.since was shared.old → H.since was shared.new }
     ensures serves { (instance : Instance) → H.serves shared.old instance ↔ H.serves shared.new instance }
     ensures front { forward.new ≡ with_literals forward.old forward.new.pushed }
     ensures advanced { (root : List Literal) (from : World) → IsPrefix forward.old.instance root → BeginsAt walk.old from → IsTrying forward.old.instance walk.old.level root from walk.old.nodes.items forward.old.pushed
@@ -223,9 +227,11 @@ fn advance<B: Bound, H: Shared>(
     requires serves { H.serves shared.old forward.old.instance }
     requires trying { (root : List Literal) × (from : World) × IsPrefix forward.old.instance root × BeginsAt walk.old from × IsTrying forward.old.instance walk.old.level root from walk.old.nodes.items forward.old.pushed
         (world fuel.old.amount (B.state bound.old) (H.state shared.old) log.old) }
+    ensures bound { (was : B) → B.since was bound.old → B.since was bound.new }
     ensures ready { IsReady forward.old.instance walk.new }
     ensures level { walk.new.level ≡ walk.old.level }
     ensures first { walk.new.recall.first ≡ walk.old.recall.first }
+    ensures shared { (was : H) → H.since was shared.old → H.since was shared.new }
     ensures serves { (instance : Instance) → H.serves shared.old instance ↔ H.serves shared.new instance }
     ensures front { forward.new ≡ with_literals forward.old forward.new.pushed }
     ensures advanced { (root : List Literal) (from : World) → IsPrefix forward.old.instance root → BeginsAt walk.old from → IsTrying forward.old.instance walk.old.level root from walk.old.nodes.items forward.old.pushed
@@ -280,6 +286,8 @@ pub fn explore<B: Bound, H: Shared>(
     requires begins { walk.old.recall.first ≡ length log.old.lines }
     requires prefix { IsPrefix forward.old.instance forward.old.pushed }
     requires serves { H.serves shared.old forward.old.instance }
+    ensures bound { (was : B) → B.since was bound.old → B.since was bound.new }
+    ensures shared { (was : H) → H.since was shared.old → H.since was shared.new }
     ensures serves { (instance : Instance) → H.serves shared.old instance ↔ H.serves shared.new instance }
     ensures front { forward.new ≡ with_literals forward.old forward.new.pushed }
     ensures back { IfOk result (λ found. IsBack found forward.old.pushed forward.new.pushed) }

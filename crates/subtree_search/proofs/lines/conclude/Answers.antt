@@ -68,7 +68,7 @@ returns-clause-concluded g c =
           (prefix-is_partial c.args.forward.now.instance c.args.forward.now.pushed c.requires.prefix) c.partial.result.now c.partial.ensures c.fill.new.plan (c.fill.auto.plan ∙ c.requires.room)
           (subst (λ n. IsPlanOf c.partial.result.now n c.fill.new.plan) c.requires.room c.fill.ensures);
       keeps = subst (λ t. KeepsBest c.args.log.now t c.fill.new.plan c.keep_best.new.self) costs c.in_ok-keep_best.ensures.ok;
-      offers = subst (λ n. Offers (g.B.Bound.state c.args.bound.now) (g.B.Bound.state c.offer.new.self) n) code c.offer.ensures;
+      offers = subst (λ n. Offers (g.B.Bound.state c.args.bound.now) (g.B.Bound.state c.offer.new.self) n) code c.offer.ensures.offers;
     } in
     concluded c.args.forward.now.instance c.args.forward.now.pushed (g.B.Bound.state c.args.bound.now) (g.B.Bound.state c.offer.new.self) c.args.log.now c.keep_best.new.self c.add_dead.new.log c.tag_of-tag.result o code c.add_dead.ensures.lined.0 c.add_dead.ensures.lined.1 c.add_dead.result
     c.add_dead.ensures.lined.2

@@ -11,6 +11,8 @@ use Rattle.subtree_search.proofs.walk.explore.Goals as goal
 
 pub loop-found-init : goal.loop-found-init
 loop-found-init g c = record {
+  bound = c.visit.ensures.bound;
+  shared = c.visit.ensures.shared;
   serves = c.visit.ensures.serves;
   exploring = record {
     begins = c.visit.ensures.first ∙ c.requires.begins;
@@ -46,6 +48,8 @@ loop-found-smaller-in_default-2 g c = subst (λ o. Lightens {E = AllocError} (wo
 
 pub loop-found-preserved-in_default-2 : goal.loop-found-preserved-in_default-2
 loop-found-preserved-in_default-2 g c = record {
+  bound = λ was h. c.advance.ensures.bound was (c.loop-found.invariant.bound was h);
+  shared = λ was h. c.advance.ensures.shared was (c.loop-found.invariant.shared was h);
   serves = serves-trans (g.H.Shared.serves c.args.shared.now) (g.H.Shared.serves c.loop-found.shared) (g.H.Shared.serves c.advance.new.shared) c.loop-found.invariant.serves c.advance.ensures.serves;
   exploring = record {
     begins = c.advance.ensures.first ∙ c.loop-found.invariant.exploring.begins;
@@ -90,6 +94,8 @@ loop-found-smaller g c =
 
 pub loop-found-preserved : goal.loop-found-preserved
 loop-found-preserved g c = record {
+  bound = λ was h. c.advance.ensures.bound was (c.loop-found.invariant.bound was h);
+  shared = λ was h. c.advance.ensures.shared was (c.loop-found.invariant.shared was h);
   serves = serves-trans (g.H.Shared.serves c.args.shared.now) (g.H.Shared.serves c.loop-found.shared) (g.H.Shared.serves c.advance.new.shared) c.loop-found.invariant.serves c.advance.ensures.serves;
   exploring = record {
     begins = c.note.ensures.first ∙ (c.advance.ensures.first ∙ c.loop-found.invariant.exploring.begins);

@@ -8,6 +8,8 @@ use Rattle.subtree_search.proofs.walk.explore.Given as goal
 -- the innermost node's choices before its own were tried, and the rows serve the same instances
 abbrev pub invariant-loop-found : goal.invariant-loop-found
 invariant-loop-found g l = record {
+  bound : (was : g.row.B.Denot) → g.B.Bound.since was l.fn.bound → g.B.Bound.since was l.bound;
+  shared : (was : g.row.H.Denot) → g.H.Shared.since was l.fn.shared → g.H.Shared.since was l.shared;
   serves : (instance : Instance) → g.H.Shared.serves l.fn.shared instance ↔ g.H.Shared.serves l.shared instance;
   exploring : Exploring l.fn.forward l.forward l.fn.walk.level
       (world l.fn.fuel.amount (g.B.Bound.state l.fn.bound) (g.H.Shared.state l.fn.shared) l.fn.log)
