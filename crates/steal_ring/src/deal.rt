@@ -80,6 +80,7 @@ impl Ring {
         ensures jobs { IfOk result (λ made. made.0.jobs ≡ jobs) }
         ensures workers { IfOk result (λ made. length made.1.items ≡ workers) }
         ensures hands { IfOk result (λ made. All (IsHandOf made.0) made.1.items × IsDealt jobs made.1.items) }
+        ensures neighbours { IfOk result (λ made. All (λ hand. hand.neighbour ≡ neighbour_of hand.workers hand.number) made.1.items) }
         ensures new { IfOk result (λ made. All (λ hand. (won_of hand ≡ []) × (found_of hand ≡ [])) made.1.items) }
         ensures parts { IfOk result (λ made. All (λ hand. 1 ≤ share_of_hand hand) made.1.items) }
         ensures shares { IfOk result (λ made. shares_of made.1.items ≡ WHOLE_SHARE) }

@@ -28,8 +28,9 @@ impl Ring {
         (self.jobs, None)
     }
 
-    /// The next job that was free, of the hand's own list, and once that is at its end of its neighbour's. A hand swaps
-    /// the word of a job at most once, and goes on in each list where its last call stopped. None comes exactly where
+    /// The next job that was free, of the hand's own list, and once that is at its end of its neighbour's. Each list is
+    /// gone through in ascending order. A hand swaps the word of a job at most once, and goes on in each list where its
+    /// last call stopped. None comes exactly where
     /// each job of both lists was given to this hand before, or was found taken by it.
     pub fn next(&self, hand: &mut Hand) -> Option<u32>
         requires { IsHandOf self.now hand.old }
@@ -37,6 +38,7 @@ impl Ring {
         ensures some { IfSome result (λ job. (job < self.now.jobs) × IsListed hand.old job × (won_of hand.new ≡ won_of hand.old ++ job ∷ [])) }
         ensures grows { (job : ℕ) → times job (found_of hand.old) ≤ times job (found_of hand.new) }
         ensures first { IfSome result (λ job. (job % hand.old.workers ≡ hand.old.number) ⊎ ((other : ℕ) → other < self.now.jobs → other % hand.old.workers ≡ hand.old.number → 0 < times other (found_of hand.new))) }
+        ensures order { IfSome result (λ job. (earlier : ℕ) → earlier < job → earlier % hand.old.workers ≡ job % hand.old.workers → 0 < times earlier (found_of hand.new)) }
         ensures once { IfSome result (λ job. times job (found_of hand.old) ≡ 0) }
         ensures none { IfNone result ((won_of hand.new ≡ won_of hand.old) × IsDone hand.new) }
     {

@@ -9,6 +9,7 @@ use Rattle.steal_ring.specs.Hands.{found_of, won_of, share_of_hand, IsHandOf}
 use Rattle.steal_ring.specs.declared.seat.RingSeat.{RingSeat}
 use Rattle.steal_ring.specs.declared.view.RingView.{RingView}
 use Rattle.steal_ring.specs.Jobs.{given_half}
+use Rattle.steal_ring.specs.Lists.{neighbour_of}
 use Rattle.steal_ring.proofs.Dealing.{halve, placed_more}
 use Rattle.steal_ring.proofs.seat.Ring.new.Goals as goal
 
@@ -22,6 +23,13 @@ fresh-is h seat v e given = (ap (λ s. (view_of s).won) e ∙ ap (λ v. v.won) g
 -- a hand with a part of the whole share
 abbrev IsPart : Hand → Type 0
 IsPart h = 1 ≤ share_of_hand h
+
+-- its neighbour is the next hand
+abbrev IsNeighboured : Hand → Type 0
+IsNeighboured h = h.neighbour ≡ neighbour_of h.workers h.number
+
+neighboured : (h : Hand) (workers number : ℕ) → h.workers ≡ workers → h.number ≡ number → h.neighbour ≡ neighbour_of workers number → IsNeighboured h
+neighboured h workers number w n e = e ∙ sym (ap (λ k. neighbour_of k h.number) w ∙ ap (neighbour_of workers) n)
 
 pub split-given-requires-clause-share : goal.split-given-requires-clause-share
 split-given-requires-clause-share c = (halve _ c.loop-number.number c.loop-number.invariant.share (let w = c.requires.workers.1 in let t = c.loop-number-test.true in omega arith)).0
@@ -49,6 +57,7 @@ loop-number-preserved c =
       hands = subst (All (IsHandOf c.in_ok-ring.ring)) (sym items) (All-push (IsHandOf c.in_ok-ring.ring) hands hand was.hands (record { table = ap (λ s. s.seat.table_id) is.0 ∙ same.1; all = is.3 ∙ sym was.jobs }));
       dealt = subst (All (λ (h : Hand). (h.workers ≡ c.args.workers) × (h.jobs ≡ c.args.jobs))) (sym items) (All-push (λ (h : Hand). (h.workers ≡ c.args.workers) × (h.jobs ≡ c.args.jobs)) hands hand was.dealt (is.2, is.3));
       places = subst (λ (hs : List Hand). (i : ℕ) (d : Hand) → i < length hs → (slice_index_or hs i d).number ≡ i) (sym items) (placed_more (λ (h : Hand). h.number) hands hand c.loop-number.number was.room.0 is.1 was.places);
+      neighbours = subst (All IsNeighboured) (sym items) (All-push IsNeighboured hands hand was.neighbours (neighboured hand c.args.workers c.loop-number.number is.2 is.1 is.4));
       parts = subst (All IsPart) (sym items) (All-push IsPart hands hand was.parts (let b = ap (λ s. (view_of s).share) is.0 ∙ ap (λ v. v.share) given in omega arith));
       sum = let s = was.sum in let p = ap (sum_by (λ (h : Hand). (view_of h.seat).share)) items ∙ sum_by_push (λ (h : Hand). (view_of h.seat).share) hands hand in
           let a = ap (λ v. v.share) kept in let b = ap (λ s. (view_of s).share) is.0 ∙ ap (λ v. v.share) given in omega arith;
@@ -62,6 +71,13 @@ returns-clause-new c =
     let is = c.in_ok-begin-2.ensures in
     subst (All IsFresh) (sym c.push_reserved-2.ensures.items)
     (All-push IsFresh c.loop-number.hands.items hand was.fresh (ap (λ s. (view_of s).won) is.0 ∙ was.clean.1, ap (λ s. (view_of s).found) is.0 ∙ was.clean.0))
+
+pub returns-clause-neighbours : goal.returns-clause-neighbours
+returns-clause-neighbours c =
+    let hand = c.in_ok-begin-2.field-0 in
+    let is = c.in_ok-begin-2.ensures in
+    subst (All IsNeighboured) (sym c.push_reserved-2.ensures.items)
+    (All-push IsNeighboured c.loop-number.hands.items hand c.loop-number.invariant.neighbours (neighboured hand c.args.workers (c.args.workers - 1) is.2 is.1 is.4))
 
 pub returns-clause-hands : goal.returns-clause-hands
 returns-clause-hands c =

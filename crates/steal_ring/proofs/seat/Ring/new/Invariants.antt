@@ -2,6 +2,7 @@ use Rattle.std.proofs.Common.{◌≡◌, ℕ, ◌+◌, ◌-◌, ◌^◌, ◌<◌
 use Rattle.std.specs.Vec.{vec_capacity}
 use Rattle.steal_ring.specs.declared.hand.Hand.{Hand}
 use Rattle.seat_laws.specs.declared.TheConstants.{WHOLE_SHARE}
+use Rattle.steal_ring.specs.Lists.{neighbour_of}
 use Rattle.steal_ring.specs.Seats.{view_of, IsSeatOf}
 use Rattle.steal_ring.specs.Hands.{found_of, won_of, share_of_hand, IsHandOf}
 use Rattle.steal_ring.proofs.seat.Ring.new.Given as goal
@@ -18,6 +19,7 @@ invariant-loop-number l = record {
   hands : All (IsHandOf l.ring) l.hands.items;
   dealt : All (λ h. (h.workers ≡ l.workers) × (h.jobs ≡ l.jobs)) l.hands.items;
   places : (i : ℕ) (d : Hand) → i < length l.hands.items → (slice_index_or l.hands.items i d).number ≡ i;
+  neighbours : All (λ h. h.neighbour ≡ neighbour_of h.workers h.number) l.hands.items;
   parts : All (λ h. 1 ≤ share_of_hand h) l.hands.items;
   sum : (view_of l.seat).share + sum_by (λ h. (view_of h.seat).share) l.hands.items ≡ WHOLE_SHARE;
 }
