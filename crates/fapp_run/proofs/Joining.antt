@@ -2,7 +2,6 @@
 use Rattle.std.proofs.Common.{◌≡◌, ◌≢◌, ℕ, ◌+◌, ◌<◌, ◌≤◌, min, cond, is_some, List, [], ◌∷◌, ◌++◌, length, map, get_or, All, AllPairs, Option, Some, None, sum, sum_by, count_by, refl, sym, ap, ◌∙◌, subst, arith}
 use Rattle.std.specs.List.{range_with_len}
 use Rattle.std.proofs.lemmas.List.{get_or-map, get_or_default}
-use Rattle.std.proofs.lemmas.List.Elements.{All-head, All-nil, All-tail}
 use Rattle.fapp_model.specs.declared.instance.Instance.{Instance}
 use Rattle.fapp_model.specs.declared.tag.Tag.{Tag}
 use Rattle.fapp_model.specs.Instances.{IsInstance}
@@ -16,8 +15,7 @@ use Rattle.cert_lines.specs.declared.answer.Verdict.{Verdict}
 use Rattle.arc_levels.specs.Outside.{IsRootTag}
 use Rattle.log_laws.specs.declared.line.LogLine.{LogLine}
 use Rattle.log_laws.specs.declared.line.Ref.{Ref}
-use Rattle.log_laws.specs.Contents.{Cites}
-use Rattle.log_laws.specs.declared.line.Segment.{Segment}
+use Rattle.log_laws.specs.Contents.{Cites, KnownRow}
 use Rattle.search_log.specs.declared.job.Outcome.{Outcome}
 use Rattle.search_log.specs.declared.job.Outcome.TheVariants.{Refuted, Moot, Spent}
 use Rattle.search_log.specs.Logs.{empty_log}
@@ -26,47 +24,30 @@ use Rattle.fapp_plan.specs.Outcomes.{IsOutcomeFor, IsPlacedFor, Placed}
 use Rattle.fapp_plan.specs.Plans.{Split}
 use Rattle.fapp_plan.specs.VerdictRule.{IsVerdictOf}
 use Rattle.merge_laws.specs.Conditions.{AreOutcomes, IsMergeable, IsPut}
-use Rattle.merge_laws.specs.GoodLogs.{AreGoodLogs, all_lines, piece_of, pieces_from}
+use Rattle.merge_laws.specs.GoodLogs.{AreGoodLogs, all_lines}
 use Rattle.merge_laws.specs.MergedLines.{branch_total, is_branch_path}
 use Rattle.merge_laws.specs.Refuted.{IsRefutedBy}
-use Rattle.merge_laws.specs.declared.piece.Piece.{Piece}
 use Rattle.outcome_laws.specs.Gathered.{AreSettled, IsLeastWord, IsPlacedBy, log_at}
 use Rattle.outcome_laws.specs.Outcomes.{AreTicksOf, IsJobSettledBy}
 use Rattle.outcome_laws.proofs.Words.{word-shown}
-use Rattle.fapp_workers.specs.Works.{IsOwnLog, branches_in}
-
--- ---- the logs
-
-no-piece : (n : ℕ) (logs : List LogState) → All (λ (log : LogState). log.segments ≡ []) logs → pieces_from n logs ≡ []
-no-piece n [] none = refl
-no-piece n (log ∷ logs) none =
-    let here : log.segments ≡ [] = All-head (λ (l : LogState). l.segments ≡ []) log logs none in
-    ap (λ (segments : List Segment). map (piece_of n) segments ++ pieces_from (n + 1) logs) here ∙ no-piece (n + 1) logs (All-tail (λ (l : LogState). l.segments ≡ []) log logs none)
-
-pub good-logs : (instance : Instance) (logs : List LogState) → All (IsOwnLog instance) logs → AreGoodLogs instance [] logs
-good-logs instance logs own = record {
-  good = λ k d less. (own k d less).good;
-  home = All-nil _;
-  once = subst (λ (pieces : List Piece). AllPairs (λ p q. p.row ≢ q.row) pieces) (sym (no-piece 0 logs (λ k d less. (own k d less).rowless))) (λ i j d less inside. absurd (omega (arith, inside)));
-  bare = λ k d less. (own k d less).plain;
-}
+use Rattle.fapp_workers.specs.Works.{branches_in}
 
 -- ---- the outcomes
 
-module _ (split : Split) (fuel : ℕ) (logs : List LogState) (word : ℕ) (outcomes : List Placed) (settled : AreSettled split fuel [] logs word outcomes) where
-  placed : (k : ℕ) → k < length outcomes → IsPlacedBy split fuel [] logs word k (get_or outcomes k None)
+module _ (split : Split) (fuel : ℕ) (rows : List KnownRow) (logs : List LogState) (word : ℕ) (outcomes : List Placed) (settled : AreSettled split fuel rows logs word outcomes) where
+  placed : (k : ℕ) → k < length outcomes → IsPlacedBy split fuel rows logs word k (get_or outcomes k None)
   placed k less = settled.each k (omega (arith, less, settled.planned))
 
-  is-put : (id : ℕ) (o : Placed) → IsPlacedBy split fuel [] logs word id o → IsPut o
+  is-put : (id : ℕ) (o : Placed) → IsPlacedBy split fuel rows logs word id o → IsPut o
   is-put id None h = h
   is-put id (Some o) h = tt
 
-  outcome-for : (id : ℕ) (lines : List LogLine) (outcome : Outcome) → IsJobSettledBy split fuel id [] lines word outcome → IsOutcomeFor split.instance outcome
+  outcome-for : (id : ℕ) (lines : List LogLine) (outcome : Outcome) → IsJobSettledBy split fuel id rows lines word outcome → IsOutcomeFor split.instance outcome
   outcome-for id lines (Refuted line tag) h = h.0
   outcome-for id lines (Moot seen) h = tt
   outcome-for id lines Spent h = tt
 
-  placed-for : (id : ℕ) (o : Placed) → IsPlacedBy split fuel [] logs word id o → IsPlacedFor split.instance o
+  placed-for : (id : ℕ) (o : Placed) → IsPlacedBy split fuel rows logs word id o → IsPlacedFor split.instance o
   placed-for id None h = tt
   placed-for id (Some o) h = outcome-for id (log_at logs o.0).lines o.1 h.1
 
@@ -77,19 +58,19 @@ module _ (split : Split) (fuel : ℕ) (logs : List LogState) (word : ℕ) (outco
   tags-for = at-place (IsPlacedFor split.instance) (λ k less. placed-for k (get_or outcomes k None) (placed k less))
 
   refuted-by : (id log : ℕ) (line : Ref) (tag : Tag) → id < job_count split.instance split.split → get_or outcomes id None ≡ Some (log, Refuted line tag) →
-      IsRefutedBy split.instance split.split [] (all_lines logs) id log line tag
+      IsRefutedBy split.instance split.split rows (all_lines logs) id log line tag
   refuted-by id log line tag inside at =
-      let h : IsPlacedBy split fuel [] logs word id (Some (log, Refuted line tag)) = subst (IsPlacedBy split fuel [] logs word id) at (settled.each id inside) in
+      let h : IsPlacedBy split fuel rows logs word id (Some (log, Refuted line tag)) = subst (IsPlacedBy split fuel rows logs word id) at (settled.each id inside) in
       let r = h.1.2 in
       let lines : get_or (all_lines logs) log [] ≡ (log_at logs log).lines = get_or-map (λ (l : LogState). l.lines) logs log empty_log [] h.0 in
       record {
         content = r.content;
-        cites = subst (λ (ls : List LogLine). Cites [] ls line r.content) (sym lines) r.cited;
+        cites = subst (λ (ls : List LogLine). Cites rows ls line r.content) (sym lines) r.cited;
         within = r.contained;
         reaches = r.reaches;
       }
 
-  pub outcomes-are : AreOutcomes split.instance split.split [] logs outcomes
+  pub outcomes-are : AreOutcomes split.instance split.split rows logs outcomes
   outcomes-are = record {
     count = settled.planned;
     put = at-place IsPut (λ k less. is-put k (get_or outcomes k None) (placed k less));
@@ -97,13 +78,13 @@ module _ (split : Split) (fuel : ℕ) (logs : List LogState) (word : ℕ) (outco
     refuted = refuted-by;
   }
 
-pub mergeable : (split : Split) (fuel : ℕ) (logs : List LogState) (word root : ℕ) (outcomes : List Placed) (verdict : Verdict) → IsInstance split.instance → All (IsOwnLog split.instance) logs →
-    AreSettled split fuel [] logs word outcomes → IsLeastWord split.instance logs word → IsRootTag split.instance (triple_from root) →
+pub mergeable : (split : Split) (fuel : ℕ) (rows : List KnownRow) (logs : List LogState) (word root : ℕ) (outcomes : List Placed) (verdict : Verdict) → IsInstance split.instance → AreGoodLogs split.instance rows logs →
+    AreSettled split fuel rows logs word outcomes → IsLeastWord split.instance logs word → IsRootTag split.instance (triple_from root) →
     IsVerdictOf split.instance split.split outcomes word root verdict → IsMergeable split.instance split.split logs outcomes word verdict
-mergeable split fuel logs word root outcomes verdict valid own settled least root_is rule = record {
-  rows = [];
-  logs_are = good-logs split.instance logs own;
-  outcomes_are = outcomes-are split fuel logs word outcomes settled;
+mergeable split fuel rows logs word root outcomes verdict valid good settled least root_is rule = record {
+  rows = rows;
+  logs_are = good;
+  outcomes_are = outcomes-are split fuel rows logs word outcomes settled;
   ruled = record { shown = word-shown split.instance logs word valid least; root = root; root_is = root_is; rule = rule };
 }
 

@@ -19,6 +19,7 @@ use Rattle.cert_lines.specs.acceptance.PlanFaults.{plan_fault}
 use Rattle.accept_laws.specs.ShownPlans.{IsWellShown, shown}
 use Rattle.accept_laws.proofs.Accepting.{accepted-right}
 use Rattle.accept_laws.proofs.Showing.{no-plan, well-shown}
+use Rattle.log_laws.specs.Contents.{KnownRow}
 use Rattle.search_log.specs.LogStates.{LogState}
 use Rattle.fapp_plan.specs.Outcomes.{Placed}
 use Rattle.fapp_plan.specs.Plans.{split_of}
@@ -36,9 +37,9 @@ use Rattle.fapp_run.specs.Solving.{IsAnswerFor, IsClosed, IsKeptPlan, SaysOfJobs
 use Rattle.fapp_run.proofs.Joining.{lines-few}
 use Rattle.fapp_run.proofs.Shown.{below-shown, top-shown}
 
-module _ (instance : Instance) (split fuel : ℕ) (logs : List LogState) (word root : ℕ) (outcomes : List Placed) (verdict : Verdict) (choices : List Choice) (lines : List Line) (ticks : List ℕ)
+module _ (instance : Instance) (split fuel : ℕ) (rows : List KnownRow) (logs : List LogState) (word root : ℕ) (outcomes : List Placed) (verdict : Verdict) (choices : List Choice) (lines : List Line) (ticks : List ℕ)
     (valid : IsInstance instance)
-    (settled : AreSettled (split_of instance split) fuel [] logs word outcomes)
+    (settled : AreSettled (split_of instance split) fuel rows logs word outcomes)
     (least : IsLeastWord instance logs word)
     (kept : IsKeptPlan instance logs (triple_from word) choices)
     (rule : IsVerdictOf instance split outcomes word root verdict)
@@ -97,18 +98,18 @@ module _ (instance : Instance) (split fuel : ℕ) (logs : List LogState) (word r
   is-accepted : Accepts instance (record { plan = choices; verdict = verdict; lines = lines })
   is-accepted = answer-accepted instance split logs (record { plan = choices; verdict = verdict; lines = lines }) fit.faultless merged
 
-  solved : (v : Verdict) → IsVerdictOf instance split outcomes word root v → IsSolved (split_of instance split) fuel [] logs word root outcomes v
+  solved : (v : Verdict) → IsVerdictOf instance split outcomes word root v → IsSolved (split_of instance split) fuel rows logs word root outcomes v
   solved v r = record { valid = valid; shown = word-shown instance logs word valid least; settled = settled; least = least; ruled = r }
 
   says : (v : Verdict) → IsVerdictOf instance split outcomes word root v → SaysOfJobs (split_of instance split) fuel v
   says (Best t) r = tt
   says NoneFeasible r = tt
-  says (Open best lower level prefix) r = open-for (split_of instance split) fuel [] logs word root outcomes best lower level prefix (solved (Open best lower level prefix) r)
+  says (Open best lower level prefix) r = open-for (split_of instance split) fuel rows logs word root outcomes best lower level prefix (solved (Open best lower level prefix) r)
 
   closes : IsEnough (split_of instance split) fuel → (v : Verdict) → IsVerdictOf instance split outcomes word root v → IsClosed v
   closes e (Best t) r = tt
   closes e NoneFeasible r = tt
-  closes e (Open best lower level prefix) r = enough (split_of instance split) fuel [] logs word root outcomes best lower level prefix (solved (Open best lower level prefix) r) e
+  closes e (Open best lower level prefix) r = enough (split_of instance split) fuel rows logs word root outcomes best lower level prefix (solved (Open best lower level prefix) r) e
 
   pub answer-for : IsAnswerFor instance split fuel (record { plan = choices; verdict = verdict; lines = lines })
   answer-for = record {

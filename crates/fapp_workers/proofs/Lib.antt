@@ -1,5 +1,6 @@
-pub mod DealtSums
-pub mod Growing
-pub mod Decisions
-pub mod AtWork
-pub mod Together
+pub mod Bounds
+pub mod Deciding
+pub mod Working
+pub mod Starting
+pub mod HomeTemp
+pub mod Pooling

@@ -1,5 +1,6 @@
 pub mod Ranges
-pub mod Decided
+pub mod SharedBounds
+pub mod States
+pub mod Jobs
 pub mod Works
-pub mod Gathering
-pub mod Collections
+pub mod Rows

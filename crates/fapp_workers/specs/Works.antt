@@ -1,49 +1,49 @@
--- What a worker has done.
-use Rattle.std.specs.Prelude.{◌≡◌, ℕ, ◌+◌, ◌*◌, ◌<◌, ◌≤◌, List, [], length, slice_index_or, sum_by, count_by, All, Option, Some, None, is_some}
-use Rattle.fapp_model.specs.declared.instance.Instance.{Instance}
+-- What one call of a worker has done.
+use Rattle.std.specs.Prelude.{◌≡◌, ◌⊎◌, ℕ, ◌+◌, ◌<◌, ◌≤◌, List, [], ◌∷◌, ◌++◌, map, sum_by, count_by, is_some, All, AllPairs}
 use Rattle.fapp_model.specs.search.Jobs.{job_count}
-use Rattle.fapp_model.specs.Tags.{code_of}
 use Rattle.fapp_plan.specs.Plans.{Split}
-use Rattle.fapp_plan.specs.VerdictRule.{top_code}
 use Rattle.log_laws.specs.declared.line.LogLine.{LogLine}
+use Rattle.log_laws.specs.Contents.{KnownRow}
 use Rattle.log_laws.specs.Segments.{IsGoodLog}
+use Rattle.search_log.specs.Bounds.{BoundState, floor}
+use Rattle.search_log.specs.Shares.{known}
+use Rattle.settle_laws.specs.Worlds.{Gains, IsKeptRight, IsLeastOffered}
+use Rattle.outcome_laws.specs.Outcomes.{AreTicksOf, IsJobSettledBy}
 use Rattle.search_log.specs.declared.job.Outcome.{Outcome}
 use Rattle.search_log.specs.declared.job.Outcome.TheVariants.{Refuted, Moot, Spent}
-use Rattle.search_log.specs.declared.log.KeptPlan.{KeptPlan}
-use Rattle.search_log.specs.LogStates.{LogState}
-use Rattle.settle_laws.specs.Worlds.{IsKeptRight, IsPlain}
-use Rattle.fapp_workers.specs.declared.worker.Done.{Done}
-use Rattle.fapp_workers.specs.declared.worker.Worked.{Worked}
-use Rattle.outcome_laws.specs.Outcomes.{AreTicksOf, IsJobSettledBy}
+use Rattle.steal_ring.specs.declared.hand.Hand.{Hand}
+use Rattle.steal_ring.specs.Hands.{won_of, IsDone as IsAtEnd}
+use Rattle.fapp_workers.specs.declared.job.Done.{Done}
+use Rattle.fapp_workers.specs.Jobs.{Held}
 
-abbrev pub no_done : Done
-no_done = record { outcome = Spent; ticks = 0 }
+abbrev pub ids_of : List Done → List ℕ
+ids_of done = map (λ (d : Done). d.id) done
 
-abbrev pub done_at : List Done → ℕ → Done
-done_at done k = slice_index_or done k no_done
+abbrev pub starts_of : List Done → List ℕ
+starts_of done = map (λ (d : Done). d.start.code) done
 
 abbrev pub ticks_in : List Done → ℕ
 ticks_in done = sum_by (λ (d : Done). d.ticks) done
 
--- the k-th job of a worker
-abbrev pub dealt : ℕ → ℕ → ℕ → ℕ
-dealt workers number k = number + k * workers
-
 abbrev pub branches_in : List LogLine → ℕ
 branches_in lines = count_by (λ (line : LogLine). is_some line.path) lines
 
--- a log that is good by itself: it rests on no row, its Count lines have no references, and what it keeps is an assignment
--- that meets the imperative records, with its cost
-pub record IsOwnLog (instance : Instance) (log : LogState) : Type 0 where
-  pub good : IsGoodLog instance [] log.lines log.segments
-  pub rowless : log.segments ≡ []
-  pub plain : All IsPlain log.lines
-  pub right : IsKeptRight instance log.best
+-- some numbers stand among others, in their order
+abbrev pub IsSubsequence : List ℕ → List ℕ → Type 0
+IsSubsequence some [] = some ≡ []
+IsSubsequence some (x ∷ all) = IsSubsequence some all ⊎ ((rest : List ℕ) × (some ≡ x ∷ rest) × IsSubsequence rest all)
 
--- the cost of what is kept, which is below the top tag, or that tag where nothing is kept
-abbrev pub IsCostKept : Instance → Option KeptPlan → ℕ → Type 0
-IsCostKept instance None word = word ≡ top_code instance
-IsCostKept instance (Some best) word = (word ≡ code_of best.cost) × (word < top_code instance)
+-- Hand: the last `next` was None, and the jobs are those that were given, in order.
+pub record IsHandClause (old new : Hand) (done : List Done) : Type 0 where
+  pub at_end : IsAtEnd new
+  pub given : won_of new ≡ won_of old ++ ids_of done
+
+-- Bound: the starts are among the words that the seat found in this call, in their order, and never rise.
+pub record IsBoundClause (old new : List ℕ) (done : List Done) : Type 0 where
+  pub gained : List ℕ
+  pub found : new ≡ old ++ gained
+  pub among : IsSubsequence (starts_of done) gained
+  pub falls : AllPairs (λ a b. b ≤ a) (starts_of done)
 
 -- where the fuel did not suffice, all of it was taken
 abbrev pub IsAllTaken : ℕ → Outcome → ℕ → Type 0
@@ -51,22 +51,19 @@ IsAllTaken fuel (Refuted line tag) ticks = Unit {0}
 IsAllTaken fuel (Moot seen) ticks = Unit {0}
 IsAllTaken fuel Spent ticks = ticks ≡ fuel
 
-pub record IsDone (split : Split) (fuel id : ℕ) (lines : List LogLine) (word : ℕ) (done : Done) : Type 0 where
-  pub settled : IsJobSettledBy split fuel id [] lines word done.outcome
-  pub ticks : AreTicksOf split fuel id done.ticks
+-- a job is settled by what the log and the rows say, for every word that is at most the given one, within its fuel and tries
+pub record IsDone (split : Split) (fuel : ℕ) (rows : List KnownRow) (lines : List LogLine) (word : ℕ) (done : Done) : Type 0 where
+  pub inside : done.id < job_count split.instance split.split
+  pub settled : IsJobSettledBy split fuel done.id rows lines word done.outcome
+  pub ticks : AreTicksOf split fuel done.id done.ticks
   pub taken : IsAllTaken fuel done.outcome done.ticks
 
--- the jobs dealt to a worker are done, and its log says so
-pub record IsWorkOf (split : Split) (fuel workers number : ℕ) (worked : Worked) : Type 0 where
-  pub log : IsOwnLog split.instance worked.log
-  pub least : IsCostKept split.instance worked.log.best worked.least.code
-  pub branches : branches_in worked.log.lines ≤ ticks_in worked.done
-  pub whole : (k : ℕ) → dealt workers number k < job_count split.instance split.split → k < length worked.done
-  pub inside : (k : ℕ) → k < length worked.done → dealt workers number k < job_count split.instance split.split
-  pub each : (k : ℕ) → k < length worked.done →
-      IsDone split fuel (dealt workers number k) worked.log.lines worked.least.code (done_at worked.done k)
-
--- the works of so many workers, in the order of their numbers
-pub record AreWorksOf (split : Split) (fuel workers : ℕ) (all : List Worked) : Type 0 where
-  pub count : length all ≡ workers
-  pub each : (i : ℕ) (d : Worked) → i < length all → IsWorkOf split fuel workers i (slice_index_or all i d)
+-- Log: it is good, what it keeps is the least offer and a true cost where it was, it gained no more Branch lines than ticks were
+-- taken, and its lines settle the jobs.
+pub record IsLogClause (split : Split) (fuel : ℕ) (old new : Held) (done : List Done) : Type 0 where
+  pub good : IsGoodLog split.instance (known new.shared) new.log.lines new.log.segments
+  pub least : IsLeastOffered new.log.best new.bound.least
+  pub right : IsKeptRight split.instance old.log.best → IsKeptRight split.instance new.log.best
+  pub lines : Gains old.log.lines new.log.lines
+  pub branches : branches_in new.log.lines ≤ branches_in old.log.lines + ticks_in done
+  pub each : All (IsDone split fuel new.shared.copied new.log.lines (floor new.bound)) done

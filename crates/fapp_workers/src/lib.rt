@@ -1,11 +1,12 @@
 //! The jobs of a plan, settled by workers side by side.
 #![tactic(auto)]
 
-mod collect;
+mod bound;
+mod job;
 mod settings;
-mod solve;
 mod worker;
 
+pub use bound::SharedBound;
 pub use fapp_gate::{Gate, OpenGate};
+pub use job::Done;
 pub use settings::Settings;
-pub use solve::{Gathered, solve_jobs};

@@ -1,115 +1,68 @@
-// One worker: its own search, its own bound and log, its jobs in turn.
+// One worker: its own counts, log and seats, and the jobs that its hand is given.
 ghost use Rattle.std.specs.Prelude.{◌≡◌, ◌<◌, ◌≤◌, [], IfOk};
 ghost use Rattle.fapp_model.specs.search.Jobs.{job_count};
-ghost use Rattle.fapp_plan.specs.VerdictRule.{top_code};
-ghost use Rattle.fapp_workers.specs.Works.{IsWorkOf};
-ghost use Rattle.fapp_workers.specs.Decided.{Decides};
+ghost use Rattle.log_laws.specs.Segments.{IsGoodLog};
+ghost use Rattle.search_log.specs.Shares.{known};
+ghost use Rattle.settle_laws.specs.Worlds.{IsLeastOffered};
+ghost use Rattle.best_word.specs.Seats.{view_of};
+ghost use Rattle.steal_ring.specs.Hands.{IsHandOf, IsSameHand};
+ghost use Rattle.fapp_workers.specs.SharedBounds.{IsLater};
+ghost use Rattle.fapp_workers.specs.States.{state_of};
+ghost use Rattle.fapp_workers.specs.Jobs.{AreDecided, held};
+ghost use Rattle.fapp_workers.specs.Works.{IsBoundClause, IsHandClause, IsLogClause};
 
-use crate::settings::Settings;
+use crate::bound::SharedBound;
+use crate::job::{Done, decide};
 use arc_levels::ArcTable;
 use fapp_gate::Gate;
-use fapp_model::{Instance, Items, NoMemory, Tag, Triple, levels, tag_of};
+use fapp_model::NoMemory;
 use fapp_plan::Plan;
 use fapp_tables::Tables;
 use forward_count::Forward;
-use search_log::{Bound, Fuel, Log, NoRows, Outcome, PlainBound};
+use search_log::{Log, Shared};
 use std::alloc::Global;
-use subtree_search::settle;
+use steal_ring::{Hand, Ring};
 
-/// What became of a job, and how many ticks it took.
-#[derive(Clone, Copy, Debug, PartialEq, Eq)]
-pub struct Done {
-    pub outcome: Outcome,
-    pub ticks: u64,
-}
-
-/// What a worker has done.
-#[derive(Drop)]
-pub struct Worked {
-    pub log: Log,
-    /// The least cost that it found, or the top tag where it found no assignment.
-    pub least: Tag,
-    /// Its jobs, in the order in which they were dealt.
-    pub done: Items<Done>,
-}
-
-/// The tag below which every feasible assignment costs.
-fn top_of(instance: &Instance) -> Tag
-    ensures { result.code ≡ top_code instance.now }
-{
-    tag_of(Triple {
-        k: levels(instance) + 1,
-        v: 0,
-        s: 0,
-    })
-}
-
-/// The search of one job.
-fn decide(
-    alloc: Global,
-    plan: &Plan,
-    id: u32,
-    amount: u64,
-    forward: &mut Forward,
-    bound: &mut PlainBound,
-    log: &mut Log,
-) -> Result<Done, NoMemory>
-    requires plan { plan.now.instance ≡ forward.old.instance }
-    requires empty { forward.old.pushed ≡ [] }
-    requires job { id < job_count plan.now.instance plan.now.split }
-    ensures instance { forward.new.instance ≡ forward.old.instance }
-    ensures empty { forward.new.pushed ≡ [] }
-    ensures decides { IfOk result (Decides plan.now id amount (⟦<PlainBound as Bound>⟧.state bound.old) log.old (⟦<PlainBound as Bound>⟧.state bound.new) log.new) }
-{
-    let job = plan.job(alloc, id)?;
-    let mut fuel = Fuel::new(amount);
-    let outcome = settle(alloc, &job, forward, &mut fuel, bound, &mut NoRows, log)?;
-    Ok(Done {
-        outcome,
-        ticks: amount - fuel.left(),
-    })
-}
-
-/// What the worker of that number does: each job whose number leaves that rest by the number of workers.
-pub fn work<G: Gate>(
+/// Asks the hand for jobs until none is left, and decides each of them, over any shared rows. After `NoMemory` the hand,
+/// the bound, the rows and the log keep what was done until then.
+pub(crate) fn decide_all<H: Shared, G: Gate>(
     alloc: Global,
     tables: &Tables,
     arcs: &ArcTable,
     plan: &Plan,
-    settings: &Settings,
-    number: u32,
+    fuel: u64,
+    ring: &Ring,
+    hand: &mut Hand,
+    bound: &mut SharedBound,
+    shared: &mut H,
+    log: &mut Log,
     gate: &G,
-) -> Result<Worked, NoMemory>
+) -> Result<Vec<Done>, NoMemory>
     requires arcs { arcs.now ≡ tables.now }
     requires plan { plan.now.instance ≡ tables.now }
-    requires number { number < settings.now.workers }
-    requires workers { settings.now.workers ≤ 32 }
-    ensures { IfOk result (IsWorkOf plan.now settings.now.fuel settings.now.workers number) }
+    requires hand { IsHandOf ring.now hand.old }
+    requires jobs { ring.now.jobs ≡ job_count plan.now.instance plan.now.split }
+    requires serves { H.serves shared.old plan.now.instance }
+    requires good { IsGoodLog plan.now.instance (known (H.state shared.old)) log.old.lines log.old.segments }
+    requires least { IsLeastOffered log.old.best (state_of bound.old).least }
+    ensures hand { IsHandOf ring.now hand.new × IsSameHand hand.old hand.new }
+    ensures later { IsLater bound.old.seat bound.new.seat }
+    ensures shared { (was : H) → H.since was shared.old → H.since was shared.new }
+    ensures serves { H.serves shared.new plan.now.instance }
+    ensures jobs { IfOk result (λ done. IsHandClause hand.old hand.new done.items) }
+    ensures bound { IfOk result (λ done. IsBoundClause (view_of bound.old.seat).found (view_of bound.new.seat).found done.items) }
+    ensures decided { IfOk result (λ done. AreDecided plan.now fuel (held (state_of bound.old) (H.state shared.old) log.old) done.items
+        (held (state_of bound.new) (H.state shared.new) log.new)) }
+    ensures log { IfOk result (λ done. IsLogClause plan.now fuel (held (state_of bound.old) (H.state shared.old) log.old)
+        (held (state_of bound.new) (H.state shared.new) log.new) done.items) }
 {
     let mut forward = Forward::new(alloc, tables, arcs)?;
-    let mut bound = PlainBound::new(top_of(tables.instance()));
-    let mut log = Log::new(alloc);
-    let mut done = Items::new(alloc);
-    let jobs = plan.job_count();
-    let mut id = number;
-    while id < jobs {
+    let mut done = Vec::new(alloc);
+    while let Some(id) = ring.next(hand) {
         gate.enter(id);
-        let decided = decide(
-            alloc,
-            plan,
-            id,
-            settings.fuel,
-            &mut forward,
-            &mut bound,
-            &mut log,
-        );
+        let decided = decide(alloc, plan, id, fuel, &mut forward, bound, shared, log);
         gate.leave(id);
         done.push(decided?)?;
-        id += settings.workers;
     }
-    Ok(Worked {
-        log,
-        least: bound.lowest(),
-        done,
-    })
+    Ok(done)
 }
