@@ -174,6 +174,10 @@ joins rows instance id v other w unv unw idle s b at apart at' =
       shares = shared_join is_spent share_of WHOLE_SHARE s.views id other v w both spent_view b.shares (λ e. apart (sym e)) l r refl refl refl;
     }
 
+-- no live view published a row twice
+published-apart : (rows : ℕ) (instance : Instance) (s : Words) (id : ℕ) (v : PoolView) → v.spent ≡ false → IsPool rows instance s → Live s.views id v → AllPairs (λ (g : HeldRow) (h : HeldRow). g.row ≢ h.row) v.published
+published-apart rows instance s id v un b l = once-distinct v.published (λ q. let t = times_live q v un in let o = one_within (times q) s.views id v l.there in let was = b.owners q in let one = below_most q (counter_of s.words) in omega arith)
+
 pub has_part : (rows : ℕ) (instance : Instance) (slots id : ℕ) (me : Mine) → me.0.spent ≡ false → Allows (IsPool rows instance) slots id me 0 (λ n. n) (HasPart (step slots 0 0 0 none) me)
 has_part rows instance slots id me un s b _ at _ =
     let v : PoolView = me.0 in
@@ -181,7 +185,7 @@ has_part rows instance slots id me un s b _ at _ =
     let within = one_within (part_of is_spent share_of) s.views id v at in
     let part = part_live is_spent share_of v un in
     let sum = b.shares.sum in
-    (v, keeps, tt, looked rows instance s b id v v l un refl (b.fits id v l) (le_refl v.counter) refl refl 0, (omega arith, refl))
+    (v, keeps, tt, looked rows instance s b id v v l un refl (b.fits id v l) (le_refl v.counter) refl refl 0, (omega arith, refl, published-apart rows instance s id v un b l))
 
 pub closes : (rows : ℕ) (instance : Instance) (id : ℕ) (v : PoolView) (words : List ℕ) (slots : List Row) → v.spent ≡ false → v.share ≡ WHOLE_SHARE → Final (Seen (IsPool rows instance) id v) words slots → IsWhole v
 closes rows instance id v words slots un all f =

@@ -6,3 +6,4 @@ pub mod Closing
 pub mod Spelling
 pub mod Reading
 pub mod Crowding
+pub mod Uniting

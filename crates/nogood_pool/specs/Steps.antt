@@ -1,5 +1,5 @@
 -- What the steps tell.
-use Rattle.std.specs.Prelude.{◌≡◌, ◌≢◌, ◌⊎◌, ℕ, ◌+◌, ◌*◌, ◌<◌, ◌≤◌, false, List, [], ◌∷◌, ◌++◌, All, Contains, Some, None}
+use Rattle.std.specs.Prelude.{◌≡◌, ◌≢◌, ◌⊎◌, ℕ, ◌+◌, ◌*◌, ◌<◌, ◌≤◌, false, List, [], ◌∷◌, ◌++◌, All, AllPairs, Contains, Some, None}
 use Rattle.seat_laws.specs.declared.TheConstants.{WHOLE_SHARE}
 use mathlib.Core.Option as core
 use Rattle.atomic_table.specs.Table.{Me, Step}
@@ -43,6 +43,10 @@ abbrev pub said_content : core.Option Row → Content
 said_content core.none = content [] 0
 said_content (core.some r) = content_of r
 
+-- no row was published twice
+abbrev pub AreApart : List HeldRow → Type 0
+AreApart held = AllPairs (λ g h. g.row ≢ h.row) held
+
 -- all that a view published or saw is below n
 pub record IsBehind (v : PoolView) (n : ℕ) : Type 0 where
   pub counter : v.counter ≤ n
@@ -82,4 +86,4 @@ ReadsLiteral st me n me' =
     (me' ≡ me) × ((row k : ℕ) (c : Content) → st.word ≡ 1 + 9 * row + (1 + k) → k < 8 → Contains me.0.seen (held_row row c) → n ≡ word_at c.lits k)
 
 abbrev pub HasPart : Step Row → Mine → ℕ → Mine → Type 0
-HasPart st me n me' = (me.0.share ≤ WHOLE_SHARE) × (me' ≡ me)
+HasPart st me n me' = (me.0.share ≤ WHOLE_SHARE) × (me' ≡ me) × AreApart me.0.published

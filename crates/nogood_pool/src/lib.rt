@@ -1,6 +1,7 @@
 //! Rows of words that many seats share: each row is written once, by the seat that drew it, and never changes.
 #![tactic(auto)]
 
+mod deal;
 mod ends;
 mod laws;
 mod plays;

@@ -1,9 +1,9 @@
-use Rattle.std.proofs.Common.{arith, ◌≡◌, ℕ, ◌+◌, ◌-◌, List, [], ◌∷◌, ◌++◌, All, take, length, sum_by, Some, ap, sym, ◌∙◌, subst}
+use Rattle.std.proofs.Common.{arith, ◌≡◌, ℕ, ◌+◌, List, [], ◌∷◌, ◌++◌, sum_by, Some, ap, sym, ◌∙◌, subst}
 use Rattle.std.proofs.lemmas.List.Elements.{All-pop}
 use Rattle.std.proofs.lemmas.List.Sums.{sum_by_push}
 use Rattle.best_word.specs.declared.seat.BestSeat.{BestSeat}
 use Rattle.best_word.specs.Seats.{view_of, IsSeatOf}
-use Rattle.best_word.proofs.Joining.{IsJoined, joined-first, joined-more, joined-all}
+use Rattle.best_word.proofs.Joining.{IsJoined, joined-first, joined-more}
 use Rattle.best_word.proofs.seat.BestWord.close_seats.Goals as goal
 
 popped : (f : BestSeat → ℕ) (seats rest : List BestSeat) (s : BestSeat) → seats ≡ rest ++ s ∷ [] → sum_by f seats ≡ sum_by f rest + f s

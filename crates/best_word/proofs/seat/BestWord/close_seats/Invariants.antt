@@ -1,4 +1,4 @@
-use Rattle.std.proofs.Common.{◌≡◌, ℕ, ◌+◌, ◌≤◌, All}
+use Rattle.std.proofs.Common.{◌≡◌, ◌+◌, All}
 use Rattle.seat_laws.specs.declared.TheConstants.{WHOLE_SHARE}
 use Rattle.best_word.specs.Seats.{view_of, shares_of, IsSeatOf}
 use Rattle.best_word.proofs.Joining.{IsJoined}

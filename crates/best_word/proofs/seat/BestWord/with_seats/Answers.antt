@@ -6,7 +6,7 @@ use Rattle.best_word.specs.declared.seat.BestSeat.{BestSeat}
 use Rattle.best_word.specs.declared.view.BestView.{BestView}
 use Rattle.best_word.specs.Bound.{given_half, kept_half}
 use Rattle.best_word.specs.Seats.{view_of, IsNewSeat, IsSeatOf}
-use Rattle.best_word.proofs.Dealing.{halve}
+use Rattle.seat_laws.proofs.Dealing.{halve}
 use Rattle.best_word.proofs.seat.BestWord.with_seats.Goals as goal
 
 kept-new : (levels : ℕ) (v w : BestView) → w ≡ kept_half v → IsNewSeat levels v → IsNewSeat levels w

@@ -1,4 +1,4 @@
-use Rattle.std.proofs.Common.{◌≡◌, ℕ, ◌+◌, ◌-◌, ◌^◌, ◌≤◌, length, All}
+use Rattle.std.proofs.Common.{◌≡◌, ◌+◌, ◌-◌, ◌^◌, ◌≤◌, length, All}
 use Rattle.std.specs.Vec.{vec_capacity}
 use Rattle.seat_laws.specs.declared.TheConstants.{WHOLE_SHARE}
 use Rattle.best_word.specs.Seats.{view_of, shares_of, IsSeatOf, IsNewSeat}

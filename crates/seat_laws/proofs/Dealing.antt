@@ -10,7 +10,8 @@ halved share m e =
     let some : 1 ≤ p = one-le-pow m 2 (omega arith) in
     (omega arith, omega arith)
 
-pub halve : (share k : ℕ) → share ≡ 2 ^ (32 - k) → k < 31 → (2 ≤ share) × (share - share / 2 ≡ 2 ^ (32 - (k + 1)))
+-- a whole share that was halved k times can be halved once more
+pub halve : (share k : ℕ) → share ≡ 2 ^ (32 - k) → k < 32 → (2 ≤ share) × (share - share / 2 ≡ 2 ^ (32 - (k + 1)))
 halve share k e lt =
     let m : ℕ = 32 - (k + 1) in
     let up : 32 - k ≡ suc m = omega arith in
