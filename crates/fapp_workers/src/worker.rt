@@ -5,10 +5,13 @@ ghost use Rattle.log_laws.specs.Segments.{IsGoodLog};
 ghost use Rattle.search_log.specs.Shares.{known};
 ghost use Rattle.settle_laws.specs.Worlds.{IsLeastOffered};
 ghost use Rattle.best_word.specs.Seats.{view_of};
+ghost use Rattle.nogood_pool.specs.Seats.{view_of as pool_view};
+ghost use Rattle.pool_rows.specs.PoolRows.{AreLater, state_of_rows};
 ghost use Rattle.steal_ring.specs.Hands.{IsHandOf, IsSameHand};
 ghost use Rattle.fapp_workers.specs.SharedBounds.{IsLater};
 ghost use Rattle.fapp_workers.specs.States.{state_of};
 ghost use Rattle.fapp_workers.specs.Jobs.{AreDecided, held};
+ghost use Rattle.fapp_workers.specs.Rows.{IsOffersClause, IsRowsClause};
 ghost use Rattle.fapp_workers.specs.Works.{IsBoundClause, IsHandClause, IsLogClause};
 
 use crate::bound::SharedBound;
@@ -19,6 +22,7 @@ use fapp_model::NoMemory;
 use fapp_plan::Plan;
 use fapp_tables::Tables;
 use forward_count::Forward;
+use pool_rows::PoolRows;
 use search_log::{Log, Shared};
 use std::alloc::Global;
 use steal_ring::{Hand, Ring};
@@ -65,4 +69,45 @@ pub(crate) fn decide_all<H: Shared, G: Gate>(
         done.push(decided?)?;
     }
     Ok(done)
+}
+
+/// One worker: it asks its hand for jobs until none is left, and decides each of them. It reads the shared least cost as each
+/// job begins, looks up the rows of the pool, and publishes the lines that refute its jobs. There is one `Done` a job, in
+/// the order in which the hand was given them. After `NoMemory` the hand, the bound, the rows and the log keep what was
+/// done until then.
+pub fn work<G: Gate>(
+    alloc: Global,
+    tables: &Tables,
+    arcs: &ArcTable,
+    plan: &Plan,
+    fuel: u64,
+    ring: &Ring,
+    hand: &mut Hand,
+    bound: &mut SharedBound,
+    rows: &mut PoolRows,
+    log: &mut Log,
+    gate: &G,
+) -> Result<Vec<Done>, NoMemory>
+    requires arcs { arcs.now ≡ tables.now }
+    requires plan { plan.now.instance ≡ tables.now }
+    requires hand { IsHandOf ring.now hand.old }
+    requires ring { ring.now.jobs ≡ job_count plan.now.instance plan.now.split }
+    requires serves { (pool_view rows.old.seat).instance ≡ plan.now.instance }
+    requires good { IsGoodLog plan.now.instance (known (state_of_rows rows.old)) log.old.lines log.old.segments }
+    requires least { IsLeastOffered log.old.best (state_of bound.old).least }
+    ensures hand { IsHandOf ring.now hand.new × IsSameHand hand.old hand.new }
+    ensures later { IsLater bound.old.seat bound.new.seat }
+    ensures same_rows { AreLater rows.old rows.new }
+    ensures jobs { IfOk result (λ done. IsHandClause hand.old hand.new done.items) }
+    ensures bound { IfOk result (λ done. IsBoundClause (view_of bound.old.seat).found (view_of bound.new.seat).found done.items) }
+    ensures decided { IfOk result (λ done. AreDecided plan.now fuel (held (state_of bound.old) (state_of_rows rows.old) log.old) done.items
+        (held (state_of bound.new) (state_of_rows rows.new) log.new)) }
+    ensures log { IfOk result (λ done. IsLogClause plan.now fuel (held (state_of bound.old) (state_of_rows rows.old) log.old)
+        (held (state_of bound.new) (state_of_rows rows.new) log.new) done.items) }
+    ensures rows { IfOk result (λ done. IsRowsClause plan.now (held (state_of bound.old) (state_of_rows rows.old) log.old)
+        (held (state_of bound.new) (state_of_rows rows.new) log.new) done.items) }
+    ensures offers { IfOk result (λ done. IsOffersClause (held (state_of bound.old) (state_of_rows rows.old) log.old)
+        (held (state_of bound.new) (state_of_rows rows.new) log.new) done.items) }
+{
+    decide_all(alloc, tables, arcs, plan, fuel, ring, hand, bound, rows, log, gate)
 }

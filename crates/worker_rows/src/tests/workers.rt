@@ -1,9 +1,10 @@
 ghost use Rattle.std.specs.Prelude.{◌≤◌, length};
 ghost use Rattle.fapp_workers.specs.Ranges.{AreInRange};
 
-use super::read;
+use super::counting::CountingGate;
+use super::{CLASH, EDGE, SINGLE, read};
 use arc_levels::ArcTable;
-use fapp_gate::{Gate, HoldGate, OpenGate};
+use fapp_gate::{Gate, HoldGate, OpenGate, OrderGate};
 use fapp_model::{Triple, triple_of};
 use fapp_plan::{Collected, Plan};
 use fapp_tables::Tables;
@@ -13,8 +14,7 @@ use std::test::Fail;
 use std::thread::Threads;
 use worked_networks::SMALL;
 
-// One path of one choice.
-const SMALLEST: &str = "DM 1 5\nTR 9 1 -1\n";
+const FREE: Triple = Triple { k: 0, v: 0, s: 0 };
 
 /// Whether each of the first jobs has an outcome.
 fn have_ended(collected: &Collected, jobs: u32) -> bool
@@ -28,23 +28,21 @@ fn have_ended(collected: &Collected, jobs: u32) -> bool
     true
 }
 
-/// The sum of some numbers, or the greatest number where it is more.
-fn sum_of(numbers: &[u64]) -> u64 {
-    let mut sum: u64 = 0;
-    for number in numbers {
-        sum = sum.saturating_add(*number);
-    }
-    sum
+/// What workers find for a network: the word, whether each job has an outcome, and the ticks of each job.
+#[derive(Drop)]
+struct Found {
+    word: Triple,
+    ended: bool,
+    ticks: Vec<u64>,
 }
 
-/// The word that workers find for a network, whether each job has an outcome, and how many ticks they took together.
-fn word_of<R: Threads + Sync, G: Gate>(
+fn found_by<R: Threads + Sync, G: Gate>(
     rt: &R,
     alloc: Global,
     text: &str,
     settings: &Settings,
     gate: &G,
-) -> Result<(Triple, bool, u64), Fail>
+) -> Result<Found, Fail>
     requires text { length text.now ≤ 1000 }
     requires settings { AreInRange settings.now }
 {
@@ -53,20 +51,23 @@ fn word_of<R: Threads + Sync, G: Gate>(
     let arcs = ArcTable::build(alloc, &tables)?;
     let plan = Plan::new(alloc, &tables, settings.split)?;
     let gathered = solve_jobs(rt, alloc, &tables, &arcs, &plan, settings, gate)?;
-    let ended = have_ended(&gathered.collected, plan.job_count());
-    Ok((triple_of(gathered.word), ended, sum_of(&gathered.ticks)))
+    Ok(Found {
+        word: triple_of(gathered.word),
+        ended: have_ended(&gathered.collected, plan.job_count()),
+        ticks: gathered.ticks,
+    })
 }
 
-/// So many workers, with fuel for each job of a small network.
-fn settings_of(workers: u32) -> Settings
+/// Jobs of one prefix each level, without a pool.
+fn plain(workers: u32) -> Settings
     requires some { 1 ≤ workers }
     requires few { workers ≤ 32 }
     ensures { AreInRange result }
 {
     Settings {
         workers,
-        fuel: 1004,
-        split: 64,
+        fuel: 1002,
+        split: 1,
         pool: 0,
     }
 }
@@ -74,23 +75,71 @@ fn settings_of(workers: u32) -> Settings
 #[test]
 fn any_number_of_workers_finds_the_least_cost(rt: HostRuntime) -> Result<(), Fail> {
     assert!(rt; SMALL.len() <= 1000);
-    for (workers, ticks) in [(1, 4), (2, 6), (8, 18)] {
-        let found = word_of(&rt, rt.alloc(), SMALL, &settings_of(workers), &OpenGate)?;
-        assert_eq!(rt;
-            found,
-            (Triple { k: 4, v: 1, s: 3 }, true, ticks),
-            "at {workers}"
-        );
+    for workers in [1, 2, 8] {
+        let settings = Settings {
+            workers,
+            fuel: 1004,
+            split: 64,
+            pool: 0,
+        };
+        let found = found_by(&rt, rt.alloc(), SMALL, &settings, &OpenGate)?;
+        assert_eq!(rt; found.word, Triple { k: 4, v: 1, s: 3 }, "at {workers}");
+        assert!(rt; found.ended, "at {workers}");
+    }
+    Ok(())
+}
+
+// A gate that waits for a job that never comes is missed: so workers pass it at each job.
+#[test]
+fn two_workers_meet_and_steal(rt: HostRuntime) -> Result<(), Fail> {
+    assert!(rt; SINGLE.len() <= 1000);
+    for (other, turns, misses) in [(1, 200_000_000, false), (2, 200_000_000, false), (99, 1000, true)] {
+        let gate = HoldGate::new(0, other, turns);
+        let found = found_by(&rt, rt.alloc(), SINGLE, &plain(2), &gate)?;
+        assert_eq!(rt; found.word, FREE, "at {other}");
+        assert_eq!(rt; gate.missed(), misses, "at {other}");
     }
     Ok(())
 }
 
 #[test]
-fn two_workers_meet(rt: HostRuntime) -> Result<(), Fail> {
-    assert!(rt; SMALLEST.len() <= 1000);
-    let gate = HoldGate::new(0, 1, 200_000_000);
-    let found = word_of(&rt, rt.alloc(), SMALLEST, &settings_of(2), &gate)?;
-    assert_eq!(rt; found, (Triple { k: 0, v: 0, s: 0 }, true, 2));
+fn each_job_is_entered_and_left_once(rt: HostRuntime) -> Result<(), Fail> {
+    assert!(rt; CLASH.len() <= 1000);
+    let gate = CountingGate::new();
+    let found = found_by(&rt, rt.alloc(), CLASH, &plain(4), &gate)?;
+    let each_once = 0x0084_2108_4210_8421;
+    assert_eq!(rt; gate.counts(), (each_once, each_once));
+    assert!(rt; found.ended);
+    Ok(())
+}
+
+#[test]
+fn the_second_worker_reads_what_the_first_offered(rt: HostRuntime) -> Result<(), Fail> {
+    assert!(rt; EDGE.len() <= 1000);
+    let gate = OrderGate::new(0, 1, 200_000_000);
+    let found = found_by(&rt, rt.alloc(), EDGE, &plain(2), &gate)?;
     assert!(rt; !gate.missed());
+    assert_eq!(rt; found.word, FREE);
+    assert!(rt; found.ticks.get(0) > Some(&0));
+    assert_eq!(rt; found.ticks.get(1), Some(&0));
+    Ok(())
+}
+
+// The row without literals that the first job publishes settles all other jobs; without a pool each job takes ticks.
+#[test]
+fn a_published_row_settles_the_other_jobs(rt: HostRuntime) -> Result<(), Fail> {
+    assert!(rt; CLASH.len() <= 1000);
+    for (pool, others) in [(4096, 0), (0, 11)] {
+        let settings = Settings {
+            workers: 1,
+            fuel: 1003,
+            split: 1,
+            pool,
+        };
+        let found = found_by(&rt, rt.alloc(), CLASH, &settings, &OpenGate)?;
+        assert!(rt; found.ticks.get(0) > Some(&0), "at {pool}");
+        let busy = found.ticks.iter().skip(1).filter(|ticks| **ticks > 0).count();
+        assert_eq!(rt; busy, others, "at {pool}");
+    }
     Ok(())
 }
