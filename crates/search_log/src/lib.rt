@@ -15,5 +15,5 @@ pub use fuel::Fuel;
 pub use job::{Job, Outcome};
 pub use log::{KeptPlan, Log};
 pub use log_laws::{ChoiceRef, LogLine, Ref, Segment};
-pub use mem_rows::MemRows;
+pub use mem_rows::{MemRows, fits};
 pub use shared::{Cite, NoRows, Shared};

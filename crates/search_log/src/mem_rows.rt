@@ -82,7 +82,7 @@ fn first_fitting(rows: &[Row], part: &Partial, target: Tag) -> Option<usize>
 }
 
 /// Whether the part has the row's literals, and the row's tag is at least the target.
-fn fits(row: &Row, part: &Partial, target: Tag) -> bool
+pub fn fits(row: &Row, part: &Partial, target: Tag) -> bool
     ensures { IsTrue result ↔ Fits part.now target.code (row_content row.now) }
 {
     row.tag >= target

@@ -1,0 +1,5 @@
+pub mod Asking
+pub mod Steps
+pub mod Offering
+pub mod Reading
+pub mod Since

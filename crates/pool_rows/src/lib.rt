@@ -1,0 +1,8 @@
+//! Shared rows of a worker over its seat of the pool.
+#![tactic(auto)]
+
+mod calls;
+mod rows;
+mod take;
+
+pub use rows::{PoolRows, SeatBack};
