@@ -2,5 +2,11 @@ pub mod Bounds
 pub mod Deciding
 pub mod Working
 pub mod Starting
-pub mod HomeTemp
 pub mod Pooling
+pub mod Tending
+pub mod Seating
+pub mod Ending
+pub mod Solving
+pub mod Final
+pub mod Putting
+pub mod Gathering

@@ -25,8 +25,8 @@ use Rattle.settle_laws.specs.Levels.{level_code}
 use Rattle.settle_laws.specs.Published.{IsShort}
 use Rattle.settle_laws.specs.Settling.{AreHome, IsOutcome}
 use Rattle.settle_laws.specs.Worlds.{World, world}
-use Rattle.fapp_workers.proofs.HomeTemp.{used}
-use Rattle.fapp_workers.proofs.HomeTemp.{number_of, seg_row, some-same}
+use Rattle.home_laws.proofs.Deciding.{used}
+use Rattle.home_laws.proofs.Homes.{number_of, seg_row, some-same}
 use Rattle.fapp_workers.specs.declared.job.Done.{Done}
 use Rattle.fapp_workers.specs.Jobs.{AreDecided, Decides, Held, IsSearched, held}
 use Rattle.fapp_workers.specs.Rows.{ArePlaced, BeginsWith, IsOffersClause, IsRowsClause, IsUsed, can_be_row, ends_segment, is_left_out, own_line}
@@ -34,7 +34,7 @@ use Rattle.fapp_workers.specs.Rows.{ArePlaced, BeginsWith, IsOffersClause, IsRow
 -- ---- lists
 
 at-front : {X : Type 0} (P : X → Type 0) (xs ys : List X) (i : ℕ) (x : X) → All P xs → i < length xs → slice_get (xs ++ ys) i ≡ Some x → P x
-at-front P xs ys i x all less at = subst P (sym (get_or_append_left xs ys i x less) ∙ get_or_from_slice_get (xs ++ ys) i x x at) (all i x less)
+at-front P xs ys i x all less at = subst P (sym (get_or_append_left xs ys x i less) ∙ get_or_from_slice_get (xs ++ ys) i x x at) (all i x less)
 
 at-behind : {X : Type 0} (P : X → Type 0) (xs ys : List X) (i : ℕ) (x : X) → All P ys → length xs ≤ i → slice_get (xs ++ ys) i ≡ Some x → P x
 at-behind P xs ys i x all past at =
@@ -42,7 +42,7 @@ at-behind P xs ys i x all past at =
     subst P (sym (get_or-append_right xs ys (length xs) i x refl past) ∙ get_or_from_slice_get (xs ++ ys) i x x at) (all (i - length xs) x (omega (arith, inside, past, length-append xs ys)))
 
 still-at : {X : Type 0} (xs ys : List X) (i : ℕ) (x : X) → i < length xs → slice_get (xs ++ ys) i ≡ Some x → slice_get xs i ≡ Some x
-still-at xs ys i x less at = slice_get-get_or xs i x less ∙ ap Some (sym (get_or_append_left xs ys i x less) ∙ get_or_from_slice_get (xs ++ ys) i x x at)
+still-at xs ys i x less at = slice_get-get_or xs i x less ∙ ap Some (sym (get_or_append_left xs ys x i less) ∙ get_or_from_slice_get (xs ++ ys) i x x at)
 
 member-at : {X : Type 0} (xs : List X) (i : ℕ) (x : X) → slice_get xs i ≡ Some x → Contains xs x
 member-at xs i x at = (i, slice_get_within xs i x at, get_or_from_slice_get xs i x _ at)
@@ -51,13 +51,14 @@ or-true : (b : Bool) → (b || true) ≡ true
 or-true true = refl
 or-true false = refl
 
+-- one test is enough, whatever the first one comes to
+or-front : (b : Bool) {xs ys : Bool} → (xs ≡ true → ys ≡ true) → (b || xs) ≡ true → (b || ys) ≡ true
+or-front true h e = refl
+or-front false h e = h e
+
 any-front : {X : Type 0} (p : X → Bool) (xs ys : List X) → list_any p xs ≡ true → list_any p (xs ++ ys) ≡ true
 any-front p [] ys e = absurd (let h : false ≡ true = e in cc)
-any-front p (x ∷ xs) ys e = by-first (p x) e
-  where
-    by-first : (b : Bool) → (b || list_any p xs) ≡ true → (b || list_any p (xs ++ ys)) ≡ true
-    by-first true e = refl
-    by-first false e = any-front p xs ys e
+any-front p (x ∷ xs) ys e = or-front (p x) (any-front p xs ys) e
 
 any-last : {X : Type 0} (p : X → Bool) (xs : List X) (x : X) → p x ≡ true → list_any p (xs ++ x ∷ []) ≡ true
 any-last p [] x e = ap (λ b. b || false) e

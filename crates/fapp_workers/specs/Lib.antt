@@ -4,3 +4,9 @@ pub mod States
 pub mod Jobs
 pub mod Works
 pub mod Rows
+pub mod Places
+pub mod Starts
+pub mod Closings
+pub mod Solved
+pub mod Puts
+pub mod Collections

@@ -26,9 +26,15 @@ loop-id-init g c =
       instance = ap (λ f. f.instance) c.in_ok-forward.ensures;
       empty = ap (λ f. f.pushed) c.in_ok-forward.ensures;
       starts = rw none (none-started (view_of c.args.bound.now.seat).found c.args.bound.now.told.code);
-      decided = rw none refl;
+      decided = rw none (refl {a = held (state_of c.args.bound.now) (g.H.Shared.state c.args.shared.now) c.args.log.now});
       log = rw none (at-start c.args.plan.now c.args.fuel (held (state_of c.args.bound.now) (g.H.Shared.state c.args.shared.now) c.args.log.now) c.requires.good c.requires.least);
     }
+
+pub returns-in_err-decided-clause-shared : goal.returns-in_err-decided-clause-shared
+returns-in_err-decided-clause-shared g c = λ was h. c.decide-decided.ensures.shared was (c.loop-id.invariant.shared was h)
+
+pub returns-in_err-push-clause-shared : goal.returns-in_err-push-clause-shared
+returns-in_err-push-clause-shared g c = λ was h. c.decide-decided.ensures.shared was (c.loop-id.invariant.shared was h)
 
 pub loop-id-preserved : goal.loop-id-preserved
 loop-id-preserved g c =
