@@ -117,18 +117,21 @@ module _ (split : Split) (fuel : ℕ) where
   ends-by (p ∷ places) (w ∷ works) zip = end_by p.pool_seat w.log zip.0.copied ∷ ends-by places works zip.1
 
   ends-logs : (places : List Place) (works : List Work) (zip : AllZip IsEnded places works) → logs_of (ends-by places works zip) ≡ works_logs works
+  unfolding ends-by
   ends-logs [] [] zip = refl
   ends-logs [] (w ∷ works) zip = absurd zip
   ends-logs (p ∷ places) [] zip = absurd zip
   ends-logs (p ∷ places) (w ∷ works) zip = ap (λ logs. w.log ∷ logs) (ends-logs places works zip.1)
 
   ends-good : (places : List Place) (works : List Work) (zip : AllZip IsEnded places works) → All (IsWorkerEnd split.instance) (ends-by places works zip)
+  unfolding ends-by
   ends-good [] [] zip = All-nil _
   ends-good [] (w ∷ works) zip = absurd zip
   ends-good (p ∷ places) [] zip = absurd zip
   ends-good (p ∷ places) (w ∷ works) zip = All-cons (IsWorkerEnd split.instance) (end_by p.pool_seat w.log zip.0.copied) (ends-by places works zip.1) zip.0.end (ends-good places works zip.1)
 
   ends-seats : (places : List Place) (works : List Work) (zip : AllZip IsEnded places works) → AllZip IsSeatEnd (map pool_view (pool_seats_of places)) (ends-by places works zip)
+  unfolding ends-by
   ends-seats [] [] zip = tt
   ends-seats [] (w ∷ works) zip = absurd zip
   ends-seats (p ∷ places) [] zip = absurd zip
@@ -136,6 +139,7 @@ module _ (split : Split) (fuel : ℕ) where
 
   works-for : (rows : List KnownRow) (code : ℕ) (places : List Place) (works : List Work) (zip : AllZip IsEnded places works) → All (λ (p : Place). code ≤ (view_of p.seat).least) places →
       All (λ (e : WorkerEnd). All (Contains rows) e.copied) (ends-by places works zip) → All (IsWorkFor split fuel code rows) works
+  unfolding ends-by
   works-for rows code [] [] zip low has = All-nil _
   works-for rows code [] (w ∷ works) zip low has = absurd zip
   works-for rows code (p ∷ places) [] zip low has = absurd zip

@@ -6,7 +6,7 @@ ghost use Rattle.best_word.specs.Seats.{shares_of as seat_shares, view_of, IsNew
 ghost use Rattle.nogood_pool.specs.Dealt.{shares_of as pool_shares};
 ghost use Rattle.nogood_pool.specs.Seats.{IsSeatOf as IsPoolSeatOf};
 ghost use Rattle.fapp_workers.specs.Places.{IsUnpublished, IsSeated, hands_of, pool_seats_of, seats_of};
-ghost use Rattle.fapp_workers.specs.Dealing.{IsDealtOut};
+ghost use Rattle.fapp_workers.specs.Starts.{IsDealtOut};
 
 use crate::place::Place;
 use best_word::{BestSeat, BestWord};

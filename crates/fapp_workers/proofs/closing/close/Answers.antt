@@ -16,5 +16,5 @@ close-requires-clause-done c = subst (All IsAtEnd) (sym c.in_ok-parts.ensures.ha
 pub close_seats-requires-clause-own : goal.close_seats-requires-clause-own
 close_seats-requires-clause-own c = subst (All (IsPoolSeatOf c.args.pool)) (sym c.in_ok-parts.ensures.pool_seats) (All-map (IsPoolSeatOf c.args.pool) (λ (p : Place). p.pool_seat) c.args.places.items c.requires.pool_seats.1)
 
-pub close_seats-2-requires-clause-own : goal.close_seats-2-requires-clause-own
-close_seats-2-requires-clause-own c = subst (All (IsSeatOf c.args.word)) (sym c.in_ok-parts.ensures.seats) (All-map (IsSeatOf c.args.word) (λ (p : Place). p.seat) c.args.places.items c.requires.seats)
+pub close_seats-requires-2-clause-own : goal.close_seats-requires-2-clause-own
+close_seats-requires-2-clause-own c = subst (All (IsSeatOf c.args.word)) (sym c.in_ok-parts.ensures.seats) (All-map (IsSeatOf c.args.word) (λ (p : Place). p.seat) c.args.places.items c.requires.seats)

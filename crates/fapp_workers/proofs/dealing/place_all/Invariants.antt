@@ -1,4 +1,4 @@
-use Rattle.std.proofs.Common.{◌≡◌, ◌+◌, ◌×◌, length, All}
+use Rattle.std.proofs.Common.{◌≡◌, ◌+◌, length, All}
 use Rattle.fapp_model.specs.Levels.{levels_of}
 use Rattle.best_word.specs.Seats.{view_of, shares_of, IsNewSeat, IsSeatOf}
 use Rattle.nogood_pool.specs.Dealt.{shares_of as pool_shares}
