@@ -184,12 +184,15 @@ module _ (split : Split) (fuel workers : ℕ) (valid : IsInstance split.instance
     ends = ends-by split fuel new works zip
 
     closed-ends : AreClosed [] ends
+    unfolding ends ends-by
     closed-ends = subst (λ rows. AreClosed rows ends) (ap all_known unpublished) (closes first (map pool_view (pool_seats_of new)) ends closed.pooled (ends-seats split fuel new works zip))
 
     logs-are-good : AreGoodLogs split.instance (all_published ends) (works_logs works)
+    unfolding ends ends-by
     logs-are-good = subst (AreGoodLogs split.instance (all_published ends)) (ends-logs split fuel new works zip) (good-alone split.instance ends (ends-good split fuel new works zip) closed-ends)
 
     work-for : All (IsWorkFor split fuel code (all_published ends)) works
+    unfolding ends ends-by
     work-for = works-for split fuel (all_published ends) code new works zip (λ k q less. seat-low k q less) closed-ends.copied
 
     once : (job : ℕ) → job < job_count split.instance split.split → times_done job works ≡ 1

@@ -45,8 +45,13 @@ ticks-at place (d ∷ done) = omega (arith, sum_by-cons (λ (put : Put). put.don
 ticks-put : (n : ℕ) (works : List Work) → sum_by (λ (put : Put). put.done.ticks) (puts_from n works) ≡ sum_by (λ (w : Work). ticks_in w.done.items) works
 ticks-put n [] = refl
 ticks-put n (work ∷ works) =
-    omega (arith, sum_by-append (λ (put : Put). put.done.ticks) (map (put_at n) work.done.items) (puts_from (n + 1) works), ticks-at n work.done.items, ticks-put (n + 1) works,
-    sum_by-cons (λ (w : Work). ticks_in w.done.items) work works)
+    omega (
+      arith,
+      sum_by-append (λ (put : Put). put.done.ticks) (map (put_at n) work.done.items) (puts_from (n + 1) works),
+      ticks-at n work.done.items,
+      ticks-put (n + 1) works,
+      sum_by-cons (λ (w : Work). ticks_in w.done.items) work works,
+    )
 
 -- what holds of each job that was done at a place holds of each that was put with it
 all-put : (P : ℕ → Done → Type 0) (n : ℕ) (works : List Work) → ((i : ℕ) (w : Work) → i < length works → All (P (n + i)) (get_or works i w).done.items) → All (λ (put : Put). P put.place put.done) (puts_from n works)
@@ -147,8 +152,13 @@ module _ (split : Split) (fuel workers : ℕ) (works : List Work) (word : ℕ) (
         few : (works : List Work) → All (IsWorkFor split fuel word solved.rows) works → sum_by (λ (log : LogState). branches_in log.lines) (works_logs works) ≤ sum_by (λ (w : Work). ticks_in w.done.items) works
         few [] each = omega arith
         few (w ∷ works) each =
-            omega (arith, (All-head (IsWorkFor split fuel word solved.rows) w works each).branches, few works (All-tail (IsWorkFor split fuel word solved.rows) w works each),
-            sum_by-cons (λ (log : LogState). branches_in log.lines) w.log (works_logs works), sum_by-cons (λ (x : Work). ticks_in x.done.items) w works)
+            omega (
+              arith,
+              (All-head (IsWorkFor split fuel word solved.rows) w works each).branches,
+              few works (All-tail (IsWorkFor split fuel word solved.rows) w works each),
+              sum_by-cons (λ (log : LogState). branches_in log.lines) w.log (works_logs works),
+              sum_by-cons (λ (x : Work). ticks_in x.done.items) w works,
+            )
 
     pub gathered : (g : Gathered) → g.logs.items ≡ logs → g.collected ≡ outcomes → g.ticks.items ≡ ticks → g.word.code ≡ word → IsGathered split fuel g
     gathered g same_logs same_outcomes same_ticks same_word = record {

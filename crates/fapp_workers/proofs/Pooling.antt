@@ -236,6 +236,7 @@ short-by line e = record { says = ltb-true 0 line.tag.code (left (nat_lt 0 line.
     left : (a b : Bool) → (a && b) ≡ true → a ≡ true
     left true b e = refl
     left false b e = e
+
     right : (a b : Bool) → (a && not b) ≡ true → b ≡ false
     right true true e = sym e
     right true false e = refl

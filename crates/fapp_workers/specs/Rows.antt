@@ -33,7 +33,7 @@ abbrev pub ArePlaced : List Segment → List Done → Type 0
 ArePlaced segments [] = Unit {0}
 ArePlaced segments (done ∷ more) =
     ((n i : ℕ) (s : Segment) → own_line done.outcome ≡ Some n → slice_get segments i ≡ Some s → s.last ≡ n →
-        (done.segments ≤ i) × All (λ (later : Done). i < later.segments) more)
+    (done.segments ≤ i) × All (λ (later : Done). i < later.segments) more)
     × ArePlaced segments more
 
 -- A segment that stood as the job began ends with a line that has literals of the job's prefix alone, at a tag of at least its

@@ -107,6 +107,10 @@ pub(crate) fn tend_all<R: Threads + Sync, G: Gate>(
         &|place: Place| -> Place
             requires { (arcs.now ≡ tables.now) × (plan.now.instance ≡ tables.now) × (ring.now.jobs ≡ job_count plan.now.instance plan.now.split) × Stands plan.now ring.now word.now pool.now place }
             ensures { IsTended plan.entry.now fuel ring.entry.now word.entry.now pool.entry.now place result }
-        { tend(alloc, tables, arcs, plan, fuel, ring, word, pool, place, gate) },
+        {
+            tend(
+                alloc, tables, arcs, plan, fuel, ring, word, pool, place, gate,
+            )
+        },
     )
 }

@@ -109,5 +109,7 @@ pub fn work<G: Gate>(
     ensures offers { IfOk result (λ done. IsOffersClause (held (state_of bound.old) (state_of_rows rows.old) log.old)
         (held (state_of bound.new) (state_of_rows rows.new) log.new) done.items) }
 {
-    decide_all(alloc, tables, arcs, plan, fuel, ring, hand, bound, rows, log, gate)
+    decide_all(
+        alloc, tables, arcs, plan, fuel, ring, hand, bound, rows, log, gate,
+    )
 }

@@ -43,7 +43,7 @@ loop-hand-preserved c =
     let seat = c.in-Some-pop.seat in
     let e = c.in-Some-pop.ensures.items in
     let pool_seats = c.loop-hand.pool_seats.items in
-    let pool_rest = c.pop-2.new.self.items in
+    let pool_rest = c.pop-in-loop-hand.new.self.items in
     let pool_seat = c.in-Some-pop-2.pool_seat in
     let pool_e = c.in-Some-pop-2.ensures.items in
     let place : Place = record { hand = c.in-Some.hand; seat = seat; pool_seat = pool_seat; log = c.new.result; done = Ok c.new-in-loop-hand.result } in
