@@ -3,3 +3,4 @@ pub mod Steps
 pub mod Offering
 pub mod Reading
 pub mod Since
+pub mod Crowded

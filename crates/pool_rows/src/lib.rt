@@ -4,5 +4,7 @@
 mod calls;
 mod rows;
 mod take;
+#[cfg(test)]
+mod tests;
 
 pub use rows::{PoolRows, SeatBack};

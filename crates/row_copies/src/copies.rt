@@ -44,7 +44,7 @@ impl Model for Copies {
         × (length copies.cites.items ≤ copies.room) };
 }
 
-/// How many buckets there are for so many rows: as many, up to a power of two, and no more than the paths' choices need.
+/// How many buckets there are for so many rows: about as many, so that few rows take little memory.
 fn buckets_for(room: u32) -> usize
     ensures { (0 < result) × (result < 131072) }
 {
