@@ -1,8 +1,8 @@
 -- The same choices tried with fewer literals.
-use Rattle.std.proofs.Common.{◌≡◌, ℕ, ◌<◌, ◌≤◌, false, eqb, List, ◌∷◌, length, All, Contains, refl, sym, ap, subst, inl, inr, ⊎_elim, arith}
+use Rattle.std.proofs.Common.{◌≡◌, ◌⊎◌, ℕ, ◌<◌, ◌≤◌, false, eqb, List, [], ◌∷◌, ◌++◌, length, All, Contains, refl, sym, ap, subst, inl, inr, ⊎_elim, arith}
 use Rattle.std.specs.List.{slice_get}
 use Rattle.std.proofs.lemmas.Bool.{eqb-true}
-use Rattle.std.proofs.lemmas.List.Elements.{All-contains, Contains-append_left}
+use Rattle.std.proofs.lemmas.List.Elements.{All-append, All-cons, All-contains, All-nil, Contains-append_left}
 use Rattle.fapp_model.specs.declared.instance.Instance.{Instance}
 use Rattle.fapp_model.specs.declared.literal.Literal.{Literal}
 use Rattle.fapp_model.specs.Assignments.{count_at}
@@ -38,6 +38,13 @@ copied-contents shared cites one copied = All-from_members (λ (cite : Cite). (c
 pub copied-more : (rows more : List KnownRow) (cites : List Cite) → All (Contains more) rows → AreCopied rows cites → AreCopied more cites
 copied-more rows more cites has copied = All-from_members (λ (cite : Cite). Contains more (known_row cite.row (row_content cite.content))) cites
     (λ cite m. All-contains (Contains more) rows (known_row cite.row (row_content cite.content)) has (All-contains (λ (c : Cite). Contains rows (known_row c.row (row_content c.content))) cites cite copied m))
+
+-- and one more look-up's
+pub copied-noted : (rows : List KnownRow) (cites new : List Cite) (cite : Cite) → AreCopied rows cites → Contains rows (known_row cite.row (row_content cite.content)) → (new ≡ cites) ⊎ (new ≡ cites ++ cite ∷ []) → AreCopied rows new
+copied-noted rows cites new cite copied there (inl same) = subst (AreCopied rows) (sym same) copied
+copied-noted rows cites new cite copied there (inr more) = subst (AreCopied rows) (sym more)
+    (All-append (λ (c : Cite). Contains rows (known_row c.row (row_content c.content))) cites (cite ∷ []) copied
+    (All-cons (λ (c : Cite). Contains rows (known_row c.row (row_content c.content))) cite [] there (All-nil (λ (c : Cite). Contains rows (known_row c.row (row_content c.content))))))
 
 -- what a reference names stays within fewer literals that keep all that it needs of them
 stays : (rows : List KnownRow) (cites : List Cite) → AreContents rows cites → (lines : List LogLine) (literals fewer : List Literal) (ref : Ref) (content : Content) → Cites rows lines ref content → StaysFor cites lines literals fewer ref → (a : Literal) → Contains content.lits a → Contains literals a → Contains fewer a

@@ -157,6 +157,26 @@ module _ (instance : Instance) (level : ℕ) (root : List Literal) (from : World
       }
       visits after_nodes after (Err e) s = passes-ending (Err e) tt after s
 
+-- with the same instance and level
+pub comes-as : {E : Type 0} → (i j : Instance) → i ≡ j → (k l : ℕ) → k ≡ l → (root : List Literal) (from : World) (nodes : List Node) (pushed : List Literal) (now : World) (result : Result Found E) → ComesTo i k root from nodes pushed now result → ComesTo j l root from nodes pushed now result
+comes-as i j same k l level root from nodes pushed now result c = subst (λ x. ComesTo x l root from nodes pushed now result) same (subst (λ x. ComesTo i x root from nodes pushed now result) level c)
+
+-- where the log is as it was
+pub comes-still : {E : Type 0} → (instance : Instance) (level : ℕ) (root : List Literal) (from : World) (nodes : List Node) (pushed : List Literal) (now : World) (log : LogState) (result : Result Found E) → now.log ≡ log → ComesTo instance level root from nodes pushed now result → ComesTo instance level root from nodes pushed (world now.fuel now.bound now.shared log) result
+comes-still instance level root from nodes pushed now log result same c = subst (λ l. ComesTo instance level root from nodes pushed (world now.fuel now.bound now.shared l) result) same c
+
+-- the innermost node's path is not named
+pub passed-free : (nodes given outer : List Node) (node : Node) (lits of_row : List Literal) → given ≡ nodes → lits ≡ of_row → nodes ≡ outer ++ node ∷ [] → ((o : List Node) × (n : Node) × (given ≡ o ++ n ∷ []) × (names lits n.path ≡ false)) → names of_row node.path ≡ false
+passed-free nodes given outer node lits of_row same lits_are e p =
+    let one = snoc-same p.0 outer p.1 node (sym p.2 ∙ (same ∙ e)) in
+    subst (λ (n : Node). names of_row n.path ≡ false) one.1 (subst (λ (ls : List Literal). names ls p.1.path ≡ false) lits_are p.3)
+
+-- what ends the search
+pub comes-ending : {E : Type 0} → (instance : Instance) (level : ℕ) (root : List Literal) (from : World) (nodes : List Node) (pushed : List Literal) (now : World) (result : Result Found E) → IsEnding result → ComesTo instance level root from nodes pushed now result → Searched instance level root from now result
+comes-ending instance level root from nodes pushed now result ending c = open-end instance level result ending now nodes root from
+    (open-map instance level (λ reached entered. (pushed ≡ reached) × Searched instance level reached entered now result) (λ reached entered. Searched instance level reached entered now result)
+    (λ reached entered p. p.1) nodes root from c)
+
 -- ---- what was found is noted
 
 pub advanced-err : {E : Type 0} → (instance : Instance) (level : ℕ) (root : List Literal) (from : World) (nodes : List Node) (pushed : List Literal) (now : World) (result : Result (Option Found) E) → IsErr result → ((e : E) → Searched instance level root from now (Err e)) → IsAdvanced instance level root from nodes pushed now result
@@ -246,8 +266,8 @@ module _ (E : Type 0) (instance : Instance) (level : ℕ) (root : List Literal) 
       ))
       outer root from passed
 
-  few-choices : IsInstance instance → node.count ≤ 2 ^ 16
-  few-choices valid = open-out instance level (node.count ≤ 2 ^ 16) outer root from
+  pub count-few : IsInstance instance → node.count ≤ 2 ^ 16
+  count-few valid = open-out instance level (node.count ≤ 2 ^ 16) outer root from
       (open-map instance level Passed (λ reached entered. node.count ≤ 2 ^ 16)
       (λ reached entered p.
       let few = few_choices instance valid node.path (next-small instance reached p.0 node.path p.1.1.next) in

@@ -429,7 +429,14 @@ pub fn add_explained(
     mark_none(&mut scratch.needed);
     mark_refs(&mut scratch.needed, node.refs.as_slice(), log, seen);
     mark_clashes(&mut scratch.needed, forward, &node);
-    reduce(forward, &node, log, seen, &scratch.literals, &scratch.needed);
+    reduce(
+        forward,
+        &node,
+        log,
+        seen,
+        &scratch.literals,
+        &scratch.needed,
+    );
     let found = add_line(alloc, node.tag, Some(node.path), node.refs, forward, log);
     push_instead(forward, &scratch.literals);
     found

@@ -69,13 +69,7 @@ impl SeenRows {
         ensures { IfSome result (IsSeen self.now.cites.items row) }
     {
         match self.cites.get(place as usize) {
-            Some(cite) => {
-                if cite.row == row {
-                    Some(*cite)
-                } else {
-                    None
-                }
-            }
+            Some(cite) => { if cite.row == row { Some(*cite) } else { None } }
             None => None,
         }
     }

@@ -315,10 +315,10 @@ fn advance<B: Bound, H: Shared>(
     let Some(found) = try_next(walk, forward, fuel, bound, shared, log)? else {
         return Ok(None);
     };
-    let found = close_by_row(walk, forward, found, log)?;
-    jump(walk, forward, found, log);
-    remember(walk, forward, found);
-    Ok(Some(found))
+    let settled = close_by_row(walk, forward, found, log)?;
+    jump(walk, forward, settled, log);
+    remember(walk, forward, settled);
+    Ok(Some(settled))
 }
 
 /// Notes what was found of the choice that was tried at the innermost node. Where no node is open, or the search is

@@ -28,10 +28,13 @@ returns-in-Some-clause-entry g c =
     let low : level_code c.args.level < c.now-seen.result.code = omega (arith, above-by c.le.result c.now-seen.result.code c.level_tag.result.code c.le.ensures c.if-le.false, c.level_tag.ensures) in
     let at_is : c.lesser-target.result.code ≡ min c.now-seen.result.code (level_code (c.args.level + 1)) = c.lesser-target.ensures ∙ ap (λ n. min c.now-seen.result.code n) c.level_tag-2.ensures in
     let looks = subst (λ o. Looks (g.H.Shared.state c.args.shared.now) (g.H.Shared.state c.lookup.new.self) c.partial.result.now c.lesser-target.result.code o) c.in-Some.is c.lookup.ensures.looks in
-    λ log. (row-found f.instance c.args.level f.pushed c.args.fuel.now.amount (g.B.Bound.state c.args.bound.now) (g.B.Bound.state c.now-seen.new.self) (g.H.Shared.state c.args.shared.now) c.now-seen.result c.now-seen.ensures.tells log
-    low c.lesser-target.result at_is c.partial.result.now (g.H.Shared.state c.lookup.new.self) (λ a. (c.partial.ensures.given a).0) c.in-Some.cite
-    looks
-    (subst (λ o. IsCiteOf f.instance o) c.in-Some.is (c.lookup.ensures.implied f.instance c.requires.serves)), looks.finds.0)
+    λ log. (
+      row-found f.instance c.args.level f.pushed c.args.fuel.now.amount (g.B.Bound.state c.args.bound.now) (g.B.Bound.state c.now-seen.new.self) (g.H.Shared.state c.args.shared.now) c.now-seen.result c.now-seen.ensures.tells log
+          low c.lesser-target.result at_is c.partial.result.now (g.H.Shared.state c.lookup.new.self) (λ a. (c.partial.ensures.given a).0) c.in-Some.cite
+          looks
+          (subst (λ o. IsCiteOf f.instance o) c.in-Some.is (c.lookup.ensures.implied f.instance c.requires.serves)),
+      looks.finds.0,
+    )
 
 pub is_dead-requires : goal.is_dead-requires
 is_dead-requires g c = tag-small c.args.forward.now.instance c.args.level c.lesser-target.result c.requires.level
