@@ -1,5 +1,5 @@
 -- A line on a path that the search would come to later.
-use Rattle.std.proofs.Common.{◌≡◌, ℕ, ◌<◌, ◌≤◌, false, List, [], ◌∷◌, length, All, AllPairs, Some, Result, refl, sym, ap, subst, ◌∙◌, inl, inr, arith}
+use Rattle.std.proofs.Common.{◌≡◌, ℕ, ◌<◌, ◌≤◌, false, List, [], ◌∷◌, length, All, AllPairs, Contains, Some, Result, refl, sym, ap, subst, ◌∙◌, inl, inr, arith}
 use Rattle.std.specs.List.{list_any}
 use Rattle.std.proofs.lemmas.List.Elements.{All-cons, All-nil}
 use Rattle.fapp_model.specs.declared.instance.Instance.{Instance}
@@ -18,11 +18,14 @@ use Rattle.fapp_model.specs.search.Prefixes.{IsPrefix}
 use Rattle.fapp_model.proofs.Members.{at_front}
 use Rattle.dead_laws.proofs.DeadImplied.{dead-implied}
 use Rattle.log_laws.specs.declared.line.ChoiceRef.{ChoiceRef}
+use Rattle.log_laws.specs.Contents.{Content, known_row}
 use Rattle.log_laws.specs.GoodLines.{IsSettled}
 use Rattle.search_log.specs.LogStates.{LogState}
 use Rattle.settle_laws.specs.declared.found.Found.{Found}
 use Rattle.settle_laws.specs.declared.node.Node.{Node}
-use Rattle.settle_laws.specs.Explained.{Explains, IsClosedBy}
+use Rattle.search_log.specs.declared.shared.Cite.{Cite}
+use Rattle.search_log.specs.Shares.{row_content}
+use Rattle.settle_laws.specs.Explained.{Explains, IsClosedBy, StaysFor}
 use Rattle.settle_laws.specs.Founds.{IsTarget, Searched}
 use Rattle.settle_laws.specs.Lines.{IsLined}
 use Rattle.settle_laws.specs.Stops.{stop_at}
@@ -90,5 +93,15 @@ module _ (instance : Instance) (valid : IsInstance instance) (level : ℕ) (with
     ticks = tick-alone;
   }
 
-  pub ahead-searched : {E : Type 0} → (log : LogState) (fewer : List Literal) → Explains instance now.log.lines literals fewer node → (result : Result Found E) → IsLined instance fewer node.tag (Some node.path) node.refs now.log log result → Searched instance level literals old (world now.fuel now.bound now.shared log) result
-  ahead-searched log fewer why result lined = any-branch-searched instance valid level within literals old now node as-tried done log fewer why result lined
+  -- no row is named
+  without-rows : (cites : List Cite) (fewer : List Literal) → Explains instance cites now.log.lines literals fewer node → Explains instance [] now.log.lines literals fewer node
+  without-rows cites fewer why = record {
+    partial = why.partial;
+    within = why.within;
+    stay = subst (λ (refs : List ChoiceRef). All (λ (ref : ChoiceRef). StaysFor [] now.log.lines literals fewer ref.line) refs) (sym bare) (All-nil (λ (ref : ChoiceRef). StaysFor [] now.log.lines literals fewer ref.line));
+    closed = why.closed;
+  }
+
+  pub ahead-searched : {E : Type 0} → (log : LogState) (cites : List Cite) (fewer : List Literal) → Explains instance cites now.log.lines literals fewer node → (result : Result Found E) → IsLined instance fewer node.tag (Some node.path) node.refs now.log log result → Searched instance level literals old (world now.fuel now.bound now.shared log) result
+  ahead-searched log cites fewer why result lined = any-branch-searched instance valid level within literals old now node as-tried done log []
+      (All-nil (λ (cite : Cite). (content : Content) → Contains now.shared.copied (known_row cite.row content) → content ≡ row_content cite.content)) fewer (without-rows cites fewer why) result lined

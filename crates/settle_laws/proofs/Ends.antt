@@ -36,7 +36,8 @@ use Rattle.search_log.specs.Shares.{IsServed, SharedState, known}
 use Rattle.settle_laws.specs.declared.found.Found.{Found}
 use Rattle.settle_laws.specs.declared.found.Found.TheVariants.{Settled}
 use Rattle.settle_laws.specs.declared.node.Node.{Node}
-use Rattle.settle_laws.specs.Explained.{Explains}
+use Rattle.search_log.specs.declared.shared.Cite.{Cite}
+use Rattle.settle_laws.specs.Explained.{AreContents, Explains}
 use Rattle.settle_laws.specs.Founds.{IsOpen, IsRefuted, IsTarget, Searched}
 use Rattle.settle_laws.specs.Lines.{AddsLine, AreSorted, Concludes, IsConcluded, IsLined, Offered}
 use Rattle.settle_laws.specs.Stops.{IsWhole, stop_at}
@@ -136,7 +137,7 @@ pub record TryingAny (instance : Instance) (level : ℕ) (literals : List Litera
   pub choices : AreTriedChoices instance now.shared.copied now.log.lines literals node.tag.code node.path node.choice node.refs
   pub ticks : TicksBelow instance level literals node.path node.choice old now
 
-module _ (instance : Instance) (valid : IsInstance instance) (level : ℕ) (limit : level ≤ levels_of instance) (literals : List Literal) (old now : World) (node : Node) (trying : TryingAny instance level literals old now node) (done : node.choice ≡ node.count) (log : LogState) (fewer : List Literal) (why : Explains instance now.log.lines literals fewer node) where
+module _ (instance : Instance) (valid : IsInstance instance) (level : ℕ) (limit : level ≤ levels_of instance) (literals : List Literal) (old now : World) (node : Node) (trying : TryingAny instance level literals old now node) (done : node.choice ≡ node.count) (log : LogState) (cites : List Cite) (contents : AreContents now.shared.copied cites) (fewer : List Literal) (why : Explains instance cites now.log.lines literals fewer node) where
   node-own : IsTagFor instance node.tag
   node-own = tag-small instance level node.tag limit (omega (arith, trying.target))
 
@@ -150,7 +151,7 @@ module _ (instance : Instance) (valid : IsInstance instance) (level : ℕ) (limi
     all-tried : AreTriedChoices instance now.shared.copied now.log.lines fewer node.tag.code node.path (count_at instance node.path) node.refs
     all-tried = subst (λ n. AreTriedChoices instance now.shared.copied now.log.lines fewer node.tag.code node.path n node.refs) (done ∙ trying.counted)
         (tried-fewer instance valid literals fewer why.partial node.path node.choice trying.small (omega (arith, trying.within, trying.counted)) apart
-        now.shared.copied now.log.lines node.tag.code node-own node.refs trying.choices why.stay (λ i l. why.closed i (omega (arith, l, done))))
+        now.shared.copied cites contents now.log.lines node.tag.code node-own node.refs trying.choices why.stay (λ i l. why.closed i (omega (arith, l, done))))
 
     by-known : AreTriedChoices instance (known now.shared) now.log.lines fewer node.tag.code node.path (count_at instance node.path) node.refs
     by-known = tried-grow instance valid fewer node.path now.shared.copied (known now.shared) now.log.lines now.log.lines (copied-known now.shared) (gains-none now.log.lines)
@@ -224,9 +225,9 @@ trying-next instance level literals prefix old now node trying = record {
   ticks = trying.ticks;
 }
 
-module _ (instance : Instance) (valid : IsInstance instance) (level : ℕ) (limit : level ≤ levels_of instance) (literals : List Literal) (prefix : IsPrefix instance literals) (partial : IsPartial instance literals) (old now : World) (node : Node) (trying : Trying instance level literals old now node) (done : node.choice ≡ node.count) (log : LogState) (fewer : List Literal) (why : Explains instance now.log.lines literals fewer node) where
+module _ (instance : Instance) (valid : IsInstance instance) (level : ℕ) (limit : level ≤ levels_of instance) (literals : List Literal) (prefix : IsPrefix instance literals) (partial : IsPartial instance literals) (old now : World) (node : Node) (trying : Trying instance level literals old now node) (done : node.choice ≡ node.count) (log : LogState) (cites : List Cite) (contents : AreContents now.shared.copied cites) (fewer : List Literal) (why : Explains instance cites now.log.lines literals fewer node) where
   pub branch-searched : {E : Type 0} → (result : Result Found E) → IsLined instance fewer node.tag (Some node.path) node.refs now.log log result → Searched instance level literals old (world now.fuel now.bound now.shared log) result
-  branch-searched result lined = any-branch-searched instance valid level limit literals old now node (trying-next instance level literals prefix old now node trying) done log fewer why result lined
+  branch-searched result lined = any-branch-searched instance valid level limit literals old now node (trying-next instance level literals prefix old now node trying) done log cites contents fewer why result lined
 
 -- ---- after a tick
 

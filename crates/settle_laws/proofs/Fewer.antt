@@ -1,8 +1,8 @@
 -- The same choices tried with fewer literals.
-use Rattle.std.proofs.Common.{◌≡◌, ℕ, ◌<◌, ◌≤◌, false, eqb, List, ◌∷◌, length, All, Contains, subst, inl, inr, ⊎_elim, arith}
+use Rattle.std.proofs.Common.{◌≡◌, ◌⊎◌, ℕ, ◌<◌, ◌≤◌, false, eqb, List, [], ◌∷◌, ◌++◌, length, All, Contains, refl, sym, ap, subst, inl, inr, ⊎_elim, arith}
 use Rattle.std.specs.List.{slice_get}
 use Rattle.std.proofs.lemmas.Bool.{eqb-true}
-use Rattle.std.proofs.lemmas.List.Elements.{All-contains}
+use Rattle.std.proofs.lemmas.List.Elements.{All-append, All-cons, All-contains, All-nil, Contains-append_left}
 use Rattle.fapp_model.specs.declared.instance.Instance.{Instance}
 use Rattle.fapp_model.specs.declared.literal.Literal.{Literal}
 use Rattle.fapp_model.specs.Assignments.{count_at}
@@ -18,36 +18,59 @@ use Rattle.log_laws.specs.declared.line.ChoiceRef.{ChoiceRef}
 use Rattle.log_laws.specs.declared.line.LogLine.{LogLine}
 use Rattle.log_laws.specs.declared.line.Ref.{Ref}
 use Rattle.log_laws.specs.declared.line.Ref.TheVariants.{Own, Row}
-use Rattle.log_laws.specs.Contents.{Cites, Content, KnownRow, content_of}
+use Rattle.log_laws.specs.Contents.{Cites, Content, KnownRow, content_of, known_row}
 use Rattle.log_laws.specs.GoodLines.{IsSettled}
-use Rattle.settle_laws.specs.Explained.{StaysFor}
+use Rattle.search_log.specs.declared.shared.Cite.{Cite}
+use Rattle.search_log.specs.Shares.{HaveOneContent, SharedState, known, row_content}
+use Rattle.settle_laws.specs.Explained.{AreContents, AreCopied, StaysFor}
 use Rattle.settle_laws.specs.Trying.{AreTriedChoices, IsChild}
 use Rattle.settle_laws.proofs.LineParts.{with-literal}
 use Rattle.settle_laws.proofs.TagCodes.{implied-lower}
 
--- what a reference names stays within fewer literals that keep all that it needs of them
-stays : (rows : List KnownRow) (lines : List LogLine) (literals fewer : List Literal) (ref : Ref) (content : Content) → Cites rows lines ref content → StaysFor lines literals fewer ref → (a : Literal) → Contains content.lits a → Contains literals a → Contains fewer a
-stays rows lines literals fewer (Own n) content cited stay a m l = stay cited.0 cited.1 a (subst (λ (c : Content). Contains c.lits a) cited.2 m) l
-stays rows lines literals fewer (Row r) content cited stay a m l = All-contains (Contains fewer) literals a stay l
+-- copied rows are what look-ups gave under their numbers
+pub copied-contents : (shared : SharedState) (cites : List Cite) → HaveOneContent (known shared) → AreCopied shared.copied cites → AreContents shared.copied cites
+copied-contents shared cites one copied = All-from_members (λ (cite : Cite). (content : Content) → Contains shared.copied (known_row cite.row content) → content ≡ row_content cite.content) cites
+    (λ cite m content n. ap (λ (row : KnownRow). row.content) (one (known_row cite.row content) (known_row cite.row (row_content cite.content))
+    (Contains-append_left shared.copied shared.published (known_row cite.row content) n)
+    (Contains-append_left shared.copied shared.published (known_row cite.row (row_content cite.content)) (All-contains (λ (c : Cite). Contains shared.copied (known_row c.row (row_content c.content))) cites cite copied m)) refl))
 
-pub child-fewer : (instance : Instance) (rows : List KnownRow) (lines : List LogLine) (literals fewer : List Literal) (tag path : ℕ) (ref : ChoiceRef) → StaysFor lines literals fewer ref.line → IsChild instance rows lines literals tag path ref → IsChild instance rows lines fewer tag path ref
-child-fewer instance rows lines literals fewer tag path ref stay h = record {
+-- more rows have been copied
+pub copied-more : (rows more : List KnownRow) (cites : List Cite) → All (Contains more) rows → AreCopied rows cites → AreCopied more cites
+copied-more rows more cites has copied = All-from_members (λ (cite : Cite). Contains more (known_row cite.row (row_content cite.content))) cites
+    (λ cite m. All-contains (Contains more) rows (known_row cite.row (row_content cite.content)) has (All-contains (λ (c : Cite). Contains rows (known_row c.row (row_content c.content))) cites cite copied m))
+
+-- and one more look-up's
+pub copied-noted : (rows : List KnownRow) (cites new : List Cite) (cite : Cite) → AreCopied rows cites → Contains rows (known_row cite.row (row_content cite.content)) → (new ≡ cites) ⊎ (new ≡ cites ++ cite ∷ []) → AreCopied rows new
+copied-noted rows cites new cite copied there (inl same) = subst (AreCopied rows) (sym same) copied
+copied-noted rows cites new cite copied there (inr more) = subst (AreCopied rows) (sym more)
+    (All-append (λ (c : Cite). Contains rows (known_row c.row (row_content c.content))) cites (cite ∷ []) copied
+    (All-cons (λ (c : Cite). Contains rows (known_row c.row (row_content c.content))) cite [] there (All-nil (λ (c : Cite). Contains rows (known_row c.row (row_content c.content))))))
+
+-- what a reference names stays within fewer literals that keep all that it needs of them
+stays : (rows : List KnownRow) (cites : List Cite) → AreContents rows cites → (lines : List LogLine) (literals fewer : List Literal) (ref : Ref) (content : Content) → Cites rows lines ref content → StaysFor cites lines literals fewer ref → (a : Literal) → Contains content.lits a → Contains literals a → Contains fewer a
+stays rows cites contents lines literals fewer (Own n) content cited stay a m l = stay cited.0 cited.1 a (subst (λ (c : Content). Contains c.lits a) cited.2 m) l
+stays rows cites contents lines literals fewer (Row r) content cited stay a m l = stay a
+    (λ cite held same. subst (λ (c : Content). Contains c.lits a)
+    (All-contains (λ (c : Cite). (x : Content) → Contains rows (known_row c.row x) → x ≡ row_content c.content) cites cite contents held content (subst (λ n. Contains rows (known_row n content)) (sym same) cited)) m) l
+
+pub child-fewer : (instance : Instance) (rows : List KnownRow) (cites : List Cite) → AreContents rows cites → (lines : List LogLine) (literals fewer : List Literal) (tag path : ℕ) (ref : ChoiceRef) → StaysFor cites lines literals fewer ref.line → IsChild instance rows lines literals tag path ref → IsChild instance rows lines fewer tag path ref
+child-fewer instance rows cites contents lines literals fewer tag path ref stay h = record {
   content = h.content;
   cited = h.cited;
   reaches = h.reaches;
   contained = All-from_members (Contains (literal path ref.choice ∷ fewer)) h.content.lits (λ a m. ⊎_elim
       (λ first. subst (λ x. Contains (literal path ref.choice ∷ fewer) x) first (at_front (literal path ref.choice) fewer))
-      (λ later. behind (literal path ref.choice) fewer a (stays rows lines literals fewer ref.line h.content h.cited stay a m later))
+      (λ later. behind (literal path ref.choice) fewer a (stays rows cites contents lines literals fewer ref.line h.content h.cited stay a m later))
       (front_or_behind (literal path ref.choice) literals a (All-contains (Contains (literal path ref.choice ∷ literals)) h.content.lits a h.contained m)));
   served = h.served;
 }
 
 module _ (instance : Instance) (valid : IsInstance instance) (literals fewer : List Literal) (partial : IsPartial instance fewer) (path choice : ℕ) (small : path < length instance.paths) (within : choice ≤ count_at instance path) (apart : names fewer path ≡ false)
-    (rows : List KnownRow) (lines : List LogLine) (tag : ℕ) (is_tag : IsTagOf instance (triple_from tag)) (refs : List ChoiceRef) (h : AreTriedChoices instance rows lines literals tag path choice refs)
-    (stay : All (λ (ref : ChoiceRef). StaysFor lines literals fewer ref.line) refs) (settled : (i : ℕ) → i < choice → IsSettled instance tag fewer path refs i) where
+    (rows : List KnownRow) (cites : List Cite) (contents : AreContents rows cites) (lines : List LogLine) (tag : ℕ) (is_tag : IsTagOf instance (triple_from tag)) (refs : List ChoiceRef) (h : AreTriedChoices instance rows lines literals tag path choice refs)
+    (stay : All (λ (ref : ChoiceRef). StaysFor cites lines literals fewer ref.line) refs) (settled : (i : ℕ) → i < choice → IsSettled instance tag fewer path refs i) where
   children : All (IsChild instance rows lines fewer tag path) refs
   children = All-from_members (IsChild instance rows lines fewer tag path) refs (λ ref m.
-      child-fewer instance rows lines literals fewer tag path ref (All-contains (λ (r : ChoiceRef). StaysFor lines literals fewer r.line) refs ref stay m)
+      child-fewer instance rows cites contents lines literals fewer tag path ref (All-contains (λ (r : ChoiceRef). StaysFor cites lines literals fewer r.line) refs ref stay m)
       (All-contains (IsChild instance rows lines literals tag path) refs ref h.children m))
 
   implied-by : (i : ℕ) → i < choice → IsSettled instance tag fewer path refs i → Implied instance (triple_from tag) (literal path i ∷ fewer)

@@ -16,4 +16,5 @@ pub mod Steps
 pub mod Opening
 pub mod Lining
 pub mod Passing
+pub mod RowClosing
 pub mod Settling

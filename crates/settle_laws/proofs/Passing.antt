@@ -34,7 +34,7 @@ use Rattle.settle_laws.proofs.TagCodes.{tag-small}
 use Rattle.tries_laws.proofs.PrefixParts.{prefix-is_partial}
 
 -- ticks at earlier choices are at choices before a later one
-ticks-later : (instance : Instance) (level : ℕ) (prefix : List Literal) (path index later : ℕ) (old new : World) → index ≤ later → TicksBelow instance level prefix path index old new → TicksBelow instance level prefix path later old new
+pub ticks-later : (instance : Instance) (level : ℕ) (prefix : List Literal) (path index later : ℕ) (old new : World) → index ≤ later → TicksBelow instance level prefix path index old new → TicksBelow instance level prefix path later old new
 ticks-later instance level prefix path index later old new low t = record {
   ticks = t.ticks;
   begins = t.begins;

@@ -92,7 +92,7 @@ module _ (instance : Instance) (level : ℕ) (literals : List Literal) (old here
   ends (Err e) none s = end-as (Err e) s tt
 
   -- what a line of the log says with the choice it says without, where it doesn't name the path
-  without-choice : (lits : List Literal) → HasAll with-choice lits → names lits node.path ≡ false → HasAll literals lits
+  pub without-choice : (lits : List Literal) → HasAll with-choice lits → names lits node.path ≡ false → HasAll literals lits
   without-choice lits contained free = All-from_members (Contains literals) lits (λ a m. ⊎_elim
       (λ l. l)
       (λ r. absurd (true≢false (sym (eq-eqb a.path node.path (ap (λ (x : Literal). x.path) (only-one (literal node.path node.choice) a r))) ∙ none-member (λ (x : Literal). eqb x.path node.path) lits free a m)))

@@ -10,6 +10,7 @@ pub mod Explained
 pub mod Lines
 pub mod Passed
 pub mod Noted
+pub mod RowLines
 pub mod Lined
 pub mod Published
 pub mod Settling

@@ -1,5 +1,5 @@
 -- What the steps of a search do to the nodes that are open.
-use Rattle.std.proofs.Common.{◌≡◌, ℕ, zero, suc, ◌+◌, ◌-◌, ◌<◌, ◌≤◌, ◌^◌, Bool, true, false, not, IsTrue, List, [], ◌∷◌, ◌++◌, length, take, Option, Some, None, Result, Ok, Err, refl, sym, ap, subst, ◌∙◌, arith, sum_by}
+use Rattle.std.proofs.Common.{◌≡◌, ℕ, zero, suc, ◌+◌, ◌-◌, ◌<◌, ◌≤◌, ◌^◌, Bool, true, false, not, IsTrue, List, [], ◌∷◌, ◌++◌, length, take, min, Contains, Option, Some, None, Result, Ok, Err, refl, sym, ap, subst, ◌∙◌, arith, sum_by}
 use Rattle.std.specs.Result.{IsErr}
 use Rattle.std.proofs.lemmas.List.{length-append, take-append-le, take_all}
 use Rattle.std.proofs.lemmas.List.Sums.{sum_by_push}
@@ -9,10 +9,10 @@ use Rattle.std.specs.List.{slice_get}
 use Rattle.fapp_model.specs.declared.literal.Literal.{Literal}
 use Rattle.fapp_model.specs.declared.tag.Tag.{Tag}
 use Rattle.log_laws.specs.declared.line.LogLine.{LogLine}
-use Rattle.log_laws.specs.declared.line.Ref.TheVariants.{Own}
+use Rattle.log_laws.specs.declared.line.Ref.TheVariants.{Own, Row}
 use Rattle.fapp_model.specs.Instances.{IsInstance}
 use Rattle.fapp_model.specs.Levels.{levels_of}
-use Rattle.fapp_model.specs.search.Partials.{literal, names}
+use Rattle.fapp_model.specs.search.Partials.{AreLiterals, literal, names}
 use Rattle.fapp_model.specs.search.Prefixes.{IsPrefix}
 use Rattle.cert_lines.proofs.ListLaws.{few_choices}
 use Rattle.search_log.specs.LogStates.{LogState}
@@ -20,11 +20,14 @@ use Rattle.tries_laws.proofs.PrefixParts.{prefix-is_partial}
 use Rattle.settle_laws.specs.declared.found.Found.{Found}
 use Rattle.settle_laws.specs.declared.found.Found.TheVariants.{Dead, Settled, Moot, Spent}
 use Rattle.settle_laws.specs.declared.node.Node.{Node}
-use Rattle.settle_laws.specs.Explained.{Explains}
+use Rattle.nogood.specs.Rows.{row_literals}
+use Rattle.search_log.specs.declared.shared.Cite.{Cite}
+use Rattle.settle_laws.specs.Explained.{AreContents, Explains}
 use Rattle.settle_laws.specs.Founds.{Searched, refused}
 use Rattle.settle_laws.specs.Lines.{IsLined}
 use Rattle.settle_laws.specs.Noted.{IsEnding, Notes}
 use Rattle.settle_laws.specs.OpenNodes.{IsTrying, OpenTo}
+use Rattle.settle_laws.specs.RowLines.{IsLinedByRow}
 use Rattle.settle_laws.specs.Trying.{Trying}
 use Rattle.settle_laws.specs.Worlds.{AreServed, Keeps, World, world}
 use Rattle.settle_laws.proofs.Ends.{branch-searched}
@@ -32,6 +35,7 @@ use Rattle.settle_laws.proofs.NextPaths.{next-small}
 use Rattle.settle_laws.proofs.Opening.{Passing, open-end, open-kept, open-map, open-out, open-pop, open-prefix, open-push}
 use Rattle.settle_laws.specs.Passed.{Passes}
 use Rattle.settle_laws.proofs.Keeping.{keeps-same, keeps-trans}
+use Rattle.settle_laws.proofs.RowClosing.{row-closes, row-served}
 use Rattle.settle_laws.proofs.Steps.{ends, ends-unnoted, goes-on, jumps}
 use Rattle.subtree_search.specs.Walks.{work_left}
 use Rattle.subtree_search.specs.Steps.{ComesTo, IsAdvanced, IsBack, IsNoted, IsVisited}
@@ -106,14 +110,14 @@ module _ (instance : Instance) (level : ℕ) (root : List Literal) (from : World
 
   module _ (valid : IsInstance instance) (within : level ≤ levels_of instance) (outer : List Node) (node : Node) (pushed : List Literal) (now : World) (h : OpenTo (Tries pushed now node) instance level root from outer) where
     -- the node is closed
-    module _ {E : Type 0} (done : node.choice ≡ node.count) (log : LogState) (result : Result Found E) (fewer : List Literal) (why : Explains instance now.log.lines pushed fewer node) (lined : IsLined instance fewer node.tag (Some node.path) node.refs now.log log result) where
+    module _ {E : Type 0} (done : node.choice ≡ node.count) (log : LogState) (result : Result Found E) (cites : List Cite) (contents : AreContents now.shared.copied cites) (fewer : List Literal) (why : Explains instance cites now.log.lines pushed fewer node) (lined : IsLined instance fewer node.tag (Some node.path) node.refs now.log log result) where
       closes : OpenTo (λ reached entered. (pushed ≡ reached) × Searched instance level reached entered (world now.fuel now.bound now.shared log) result) instance level root from outer
       closes = open-map instance level (λ reached entered. IsPrefix instance reached × Tries pushed now node reached entered)
           (λ reached entered. (pushed ≡ reached) × Searched instance level reached entered (world now.fuel now.bound now.shared log) result)
           (λ reached entered p. (
             p.1.0,
-            branch-searched instance valid level within reached p.0 (prefix-is_partial instance reached p.0) entered now node p.1.1 done log fewer
-                (subst (λ lits. Explains instance now.log.lines lits fewer node) p.1.0 why) result lined,
+            branch-searched instance valid level within reached p.0 (prefix-is_partial instance reached p.0) entered now node p.1.1 done log cites contents fewer
+                (subst (λ lits. Explains instance cites now.log.lines lits fewer node) p.1.0 why) result lined,
           ))
           outer root from (open-prefix instance level (Tries pushed now node) outer root from prefix h)
 
@@ -152,6 +156,26 @@ module _ (instance : Instance) (level : ℕ) (root : List Literal) (from : World
         inside = through (λ reached entered. Trying instance level reached entered after v.node) v.trying;
       }
       visits after_nodes after (Err e) s = passes-ending (Err e) tt after s
+
+-- with the same instance and level
+pub comes-as : {E : Type 0} → (i j : Instance) → i ≡ j → (k l : ℕ) → k ≡ l → (root : List Literal) (from : World) (nodes : List Node) (pushed : List Literal) (now : World) (result : Result Found E) → ComesTo i k root from nodes pushed now result → ComesTo j l root from nodes pushed now result
+comes-as i j same k l level root from nodes pushed now result c = subst (λ x. ComesTo x l root from nodes pushed now result) same (subst (λ x. ComesTo i x root from nodes pushed now result) level c)
+
+-- where the log is as it was
+pub comes-still : {E : Type 0} → (instance : Instance) (level : ℕ) (root : List Literal) (from : World) (nodes : List Node) (pushed : List Literal) (now : World) (log : LogState) (result : Result Found E) → now.log ≡ log → ComesTo instance level root from nodes pushed now result → ComesTo instance level root from nodes pushed (world now.fuel now.bound now.shared log) result
+comes-still instance level root from nodes pushed now log result same c = subst (λ l. ComesTo instance level root from nodes pushed (world now.fuel now.bound now.shared l) result) same c
+
+-- the innermost node's path is not named
+pub passed-free : (nodes given outer : List Node) (node : Node) (lits of_row : List Literal) → given ≡ nodes → lits ≡ of_row → nodes ≡ outer ++ node ∷ [] → ((o : List Node) × (n : Node) × (given ≡ o ++ n ∷ []) × (names lits n.path ≡ false)) → names of_row node.path ≡ false
+passed-free nodes given outer node lits of_row same lits_are e p =
+    let one = snoc-same p.0 outer p.1 node (sym p.2 ∙ (same ∙ e)) in
+    subst (λ (n : Node). names of_row n.path ≡ false) one.1 (subst (λ (ls : List Literal). names ls p.1.path ≡ false) lits_are p.3)
+
+-- what ends the search
+pub comes-ending : {E : Type 0} → (instance : Instance) (level : ℕ) (root : List Literal) (from : World) (nodes : List Node) (pushed : List Literal) (now : World) (result : Result Found E) → IsEnding result → ComesTo instance level root from nodes pushed now result → Searched instance level root from now result
+comes-ending instance level root from nodes pushed now result ending c = open-end instance level result ending now nodes root from
+    (open-map instance level (λ reached entered. (pushed ≡ reached) × Searched instance level reached entered now result) (λ reached entered. Searched instance level reached entered now result)
+    (λ reached entered p. p.1) nodes root from c)
 
 -- ---- what was found is noted
 
@@ -241,6 +265,26 @@ module _ (E : Type 0) (instance : Instance) (level : ℕ) (root : List Literal) 
             (subst (λ f. Searched {E = E} instance level (reached ++ literal node.path node.choice ∷ []) p.1.0 now (Ok f)) same p.1.3.1)),
       ))
       outer root from passed
+
+  pub count-few : IsInstance instance → node.count ≤ 2 ^ 16
+  count-few valid = open-out instance level (node.count ≤ 2 ^ 16) outer root from
+      (open-map instance level Passed (λ reached entered. node.count ≤ 2 ^ 16)
+      (λ reached entered p.
+      let few = few_choices instance valid node.path (next-small instance reached p.0 node.path p.1.1.next) in
+      omega (arith, p.1.1.counted, few)) outer root from passed)
+
+  -- a row that doesn't name the node's path settles the node: it is closed with a line
+  module _ (valid : IsInstance instance) (within : level ≤ levels_of instance) (cites : List Cite) (contents : AreContents now.shared.copied cites) (cite : Cite) (held : Contains cites cite) (free : names (row_literals cite.content) node.path ≡ false) (tag : Tag) (same : found ≡ Settled (Row cite.row) tag) where
+    pub closes-by-row : (lower : Tag) → lower.code ≡ min node.tag.code tag.code → (shorter : List Literal) → shorter ≡ take (length pushed - 1) pushed → (log : LogState) (result : Result Found E) → ((i : Instance) → AreLiterals i (row_literals cite.content) → IsLinedByRow i cite lower node.path node.count now.log log result) →
+        ComesTo instance level root from outer shorter (world now.fuel now.bound now.shared log) result
+    closes-by-row lower lower_is shorter popped log result lined = open-map instance level Passed (λ reached entered. (shorter ≡ reached) × Searched instance level reached entered (world now.fuel now.bound now.shared log) result)
+        (λ reached entered p.
+        let s = subst (λ f. Searched {E = E} instance level (reached ++ literal node.path node.choice ∷ []) p.1.0 now (Ok f)) same p.1.3.1 in
+        let served = row-served instance valid level within reached p.0 entered p.1.0 now node p.1.1 p.1.2 cites contents cite held free tag s in (
+          popped ∙ front-of reached (literal node.path node.choice) pushed p.1.3.0,
+          row-closes instance valid level within reached p.0 entered p.1.0 now node p.1.1 p.1.2 cites contents cite held free tag s lower lower_is log result (lined instance served.lits),
+        ))
+        outer root from passed
 
 -- ---- what is left to do
 

@@ -26,6 +26,8 @@ use Rattle.log_laws.specs.GoodLines.{IsSettled}
 use Rattle.nogood.specs.Literals.{other_paths}
 use Rattle.count_laws.specs.CountedSums.{IsCalm, RemainsAt}
 use Rattle.count_laws.proofs.DeadByBound.{calm_or_dead}
+use Rattle.nogood.specs.Rows.{row_literals}
+use Rattle.search_log.specs.declared.shared.Cite.{Cite}
 use Rattle.search_log.specs.LogStates.{LogState}
 use Rattle.settle_laws.specs.declared.found.Found.{Found}
 use Rattle.settle_laws.specs.declared.node.Node.{Node}
@@ -151,22 +153,22 @@ module _ (instance : Instance) (literals pushed : List Literal) (whole : IsParti
   again-within : HasAll literals again
   again-within = All-append (Contains literals) (other_paths a.path pushed) (a ∷ []) (has-trans (other_paths a.path pushed) pushed literals (others-within pushed a.path) within) (All-cons (Contains literals) a [] m (All-nil (Contains literals)))
 
-module _ (instance : Instance) (lines : List LogLine) (literals pushed : List Literal) (node : Node) (asked : IsAsked instance literals node) (why : Explains instance lines literals pushed node) where
+module _ (instance : Instance) (cites : List Cite) (lines : List LogLine) (literals pushed : List Literal) (node : Node) (asked : IsAsked instance literals node) (why : Explains instance cites lines literals pushed node) where
   module _ (path : ℕ) where
-    free-stays : (ref : Ref) → IsFree lines path ref → StaysFor lines literals pushed ref → StaysFor lines literals (other_paths path pushed) ref
+    free-stays : (ref : Ref) → IsFree cites lines path ref → StaysFor cites lines literals pushed ref → StaysFor cites lines literals (other_paths path pushed) ref
     free-stays (Own n) free stay = λ line at a m l. others-has pushed path a (stay line at a m l) (none-member (λ (x : Literal). eqb x.path path) line.lits (free line at) a m)
-    free-stays (Row r) free stay = absurd free
+    free-stays (Row r) free stay = λ a may l. others-has pushed path a (stay a may l) (none-member (λ (x : Literal). eqb x.path path) (row_literals free.0.content) free.2 a (may free.0 free.1.0 free.1.1))
 
     pub asked-without : IsAsked instance (other_paths path pushed) node
     asked-without = asked-fewer instance literals (other_paths path pushed) node asked (others-partial instance pushed path why.partial)
         (has-trans (other_paths path pushed) pushed literals (others-within pushed path) why.within)
 
-    pub explains-without : All (λ (r : ChoiceRef). IsFree lines path r.line) node.refs → IsClosedBy instance (other_paths path pushed) node → Explains instance lines literals (other_paths path pushed) node
+    pub explains-without : All (λ (r : ChoiceRef). IsFree cites lines path r.line) node.refs → IsClosedBy instance (other_paths path pushed) node → Explains instance cites lines literals (other_paths path pushed) node
     explains-without free closed = record {
       partial = others-partial instance pushed path why.partial;
       within = has-trans (other_paths path pushed) pushed literals (others-within pushed path) why.within;
-      stay = All-from_members (λ (r : ChoiceRef). StaysFor lines literals (other_paths path pushed) r.line) node.refs (λ r m.
-          free-stays r.line (All-contains (λ (x : ChoiceRef). IsFree lines path x.line) node.refs r free m) (All-contains (λ (x : ChoiceRef). StaysFor lines literals pushed x.line) node.refs r why.stay m));
+      stay = All-from_members (λ (r : ChoiceRef). StaysFor cites lines literals (other_paths path pushed) r.line) node.refs (λ r m.
+          free-stays r.line (All-contains (λ (x : ChoiceRef). IsFree cites lines path x.line) node.refs r free m) (All-contains (λ (x : ChoiceRef). StaysFor cites lines literals pushed x.line) node.refs r why.stay m));
       closed = closed;
     }
 
@@ -184,9 +186,9 @@ module _ (instance : Instance) (lines : List LogLine) (literals pushed : List Li
     once-within : HasAll literals once
     once-within = again-within instance literals pushed asked.partial why.partial why.within a m
 
-    stays-more : (ref : Ref) → StaysFor lines literals pushed ref → StaysFor lines literals once ref
+    stays-more : (ref : Ref) → StaysFor cites lines literals pushed ref → StaysFor cites lines literals once ref
     stays-more (Own n) stay = λ line at b k l. All-contains (Contains once) pushed b has-once (stay line at b k l)
-    stays-more (Row r) stay = has-trans literals pushed once stay has-once
+    stays-more (Row r) stay = λ b may l. All-contains (Contains once) pushed b has-once (stay b may l)
 
     closed-more : (i : ℕ) → i < node.count → IsSettled instance node.tag.code pushed node.path node.refs i → IsSettled instance node.tag.code once node.path node.refs i
     closed-more i l (inl listed) = inl listed
@@ -195,26 +197,26 @@ module _ (instance : Instance) (lines : List LogLine) (literals pushed : List Li
         (with-literal instance once node.path i once-partial asked.small (omega (arith, l, asked.counted)) (names-same literals once node.path once-within asked.apart))
         (has-cons (literal node.path i) pushed once has-once) dead)
 
-    pub explains-again : Explains instance lines literals once node
+    pub explains-again : Explains instance cites lines literals once node
     explains-again = record {
       partial = once-partial;
       within = once-within;
-      stay = All-from_members (λ (r : ChoiceRef). StaysFor lines literals once r.line) node.refs (λ r k. stays-more r.line (All-contains (λ (x : ChoiceRef). StaysFor lines literals pushed x.line) node.refs r why.stay k));
+      stay = All-from_members (λ (r : ChoiceRef). StaysFor cites lines literals once r.line) node.refs (λ r k. stays-more r.line (All-contains (λ (x : ChoiceRef). StaysFor cites lines literals pushed x.line) node.refs r why.stay k));
       closed = λ i l. closed-more i l (why.closed i l);
     }
 
 -- all literals explain
-pub explains-all : (instance : Instance) (lines : List LogLine) (literals : List Literal) (node : Node) → IsAsked instance literals node → IsClosedBy instance literals node → Explains instance lines literals literals node
-explains-all instance lines literals node asked closed = record {
+pub explains-all : (instance : Instance) (cites : List Cite) (lines : List LogLine) (literals : List Literal) (node : Node) → IsAsked instance literals node → IsClosedBy instance literals node → Explains instance cites lines literals literals node
+explains-all instance cites lines literals node asked closed = record {
   partial = asked.partial;
   within = has-same literals;
-  stay = All-from_members (λ (r : ChoiceRef). StaysFor lines literals literals r.line) node.refs (λ r m. stays-all r.line);
+  stay = All-from_members (λ (r : ChoiceRef). StaysFor cites lines literals literals r.line) node.refs (λ r m. stays-all r.line);
   closed = closed;
 }
   where
-    stays-all : (ref : Ref) → StaysFor lines literals literals ref
+    stays-all : (ref : Ref) → StaysFor cites lines literals literals ref
     stays-all (Own n) = λ line at a m l. l
-    stays-all (Row r) = has-same literals
+    stays-all (Row r) = λ a may l. l
 
 -- or there was no memory
 pub lined-err : {E : Type 0} → (instance : Instance) (literals : List Literal) (tag : Tag) (path : Option ℕ) (refs : List ChoiceRef) (log : LogState) (result : Result Found E) → IsErr result → IsLined instance literals tag path refs log log result

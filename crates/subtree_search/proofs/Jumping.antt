@@ -26,6 +26,7 @@ pub record Jumping (first forward : ForwardState) (start walk : Walk) (found : F
   pub ready : IsReady first.instance walk
   pub level_is : walk.level ≡ start.level
   pub first_is : walk.recall.first ≡ start.recall.first
+  pub seen_is : walk.seen ≡ start.seen
   pub front : forward ≡ with_literals first forward.pushed
   pub comes : (root : List Literal) (from now : World) → IsPrefix first.instance root → now.log ≡ log → ComesTo {E = AllocError} first.instance start.level root from start.nodes.items first.pushed now (Ok found) →
       ComesTo {E = AllocError} first.instance start.level root from walk.nodes.items forward.pushed now (Ok found)
@@ -58,11 +59,12 @@ module _ (first forward : ForwardState) (start walk : Walk) (found : Found) (log
     pub passed-smaller : length items < length walk.nodes.items
     passed-smaller = omega (arith, ap length popped-items, ap length p.nodes_are, length-append p.outer (p.node ∷ []))
 
-    pub jumping-on : (n : ℕ) (tag : Tag) → found ≡ Settled (Own n) tag → slice_get log.lines n ≡ Some line → (later : ForwardState) → later ≡ without_last forward → (after : Walk) → after.nodes.items ≡ items → after.level ≡ walk.level → after.recall.first ≡ walk.recall.first → length after.plan.items ≡ length walk.plan.items → Jumping first later start after found log
-    jumping-on n tag same there later popped after nodes_are level_is first_is room = record {
+    pub jumping-on : (n : ℕ) (tag : Tag) → found ≡ Settled (Own n) tag → slice_get log.lines n ≡ Some line → (later : ForwardState) → later ≡ without_last forward → (after : Walk) → after.nodes.items ≡ items → after.level ≡ walk.level → after.recall.first ≡ walk.recall.first → after.seen ≡ walk.seen → length after.plan.items ≡ length walk.plan.items → Jumping first later start after found log
+    jumping-on n tag same there later popped after nodes_are level_is first_is seen_is room = record {
       ready = record { valid = j.ready.valid; level = subst (λ l. l ≤ levels_of first.instance) (sym level_is) j.ready.level; room = room ∙ j.ready.room };
       level_is = level_is ∙ j.level_is;
       first_is = first_is ∙ j.first_is;
+      seen_is = seen_is ∙ j.seen_is;
       front = popped ∙ (ap (λ (s : ForwardState). without_last s) j.front ∙ sym (ap (λ (s : ForwardState). with_literals first s.pushed) (popped ∙ ap (λ (s : ForwardState). without_last s) j.front)));
       comes = λ root from now prefix log_is comes. subst (λ ns. ComesTo {E = AllocError} first.instance start.level root from ns later.pushed now (Ok found)) (sym (nodes_are ∙ popped-items))
           (jumps-over AllocError first.instance start.level root from prefix walk.nodes.items p.outer p.node p.nodes_are forward.pushed now found (j.comes root from now prefix log_is comes)

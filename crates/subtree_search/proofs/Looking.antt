@@ -10,6 +10,7 @@ use Rattle.fapp_model.specs.search.Prefixes.{IsPrefix}
 use Rattle.fapp_model.specs.search.WorkOrder.{work_order}
 use Rattle.fapp_model.proofs.WorkOrders.{order-is}
 use Rattle.count_laws.specs.ForwardStates.{ForwardState}
+use Rattle.search_log.specs.declared.shared.Cite.{Cite}
 use Rattle.search_log.specs.LogStates.{LogState}
 use Rattle.settle_laws.specs.declared.found.Found.{Found}
 use Rattle.settle_laws.specs.declared.node.Node.{Node}
@@ -26,16 +27,16 @@ order-small instance order place same within = All-get_or (λ path. path < lengt
     (subst (All (λ path. path < length instance.paths)) (sym same) (order-is instance).in_range)
 
 -- a line that closes a shut node
-pub closes-shut : (first forward : ForwardState) → forward ≡ first → (tag : Tag) (old new : LogState) (node : Node) (found : Found) → IsShut first.instance first.pushed tag node →
-    ((fewer : List Literal) × Explains forward.instance old.lines forward.pushed fewer node × AddsLine forward.instance fewer node.tag (Some node.path) node.refs old new found) →
+pub closes-shut : (first forward : ForwardState) → forward ≡ first → (tag : Tag) (old new : LogState) (node : Node) (found : Found) → IsShut first.instance first.pushed tag node → (cites : List Cite) →
+    ((fewer : List Literal) × Explains forward.instance cites old.lines forward.pushed fewer node × AddsLine forward.instance fewer node.tag (Some node.path) node.refs old new found) →
     ClosesAhead first.instance first.pushed tag old new found
-closes-shut first forward same tag old new node found shut h =
-    let here = subst (λ (s : ForwardState). (fewer : List Literal) × Explains s.instance old.lines s.pushed fewer node × AddsLine s.instance fewer node.tag (Some node.path) node.refs old new found) same h in
-    record { node = node; shut = shut; fewer = here.0; explains = here.1; adds = here.2 }
+closes-shut first forward same tag old new node found shut cites h =
+    let here = subst (λ (s : ForwardState). (fewer : List Literal) × Explains s.instance cites old.lines s.pushed fewer node × AddsLine s.instance fewer node.tag (Some node.path) node.refs old new found) same h in
+    record { node = node; shut = shut; cites = cites; fewer = here.0; explains = here.1; adds = here.2 }
 
 -- settles what a tick was taken at
 pub ahead-found : {E : Type 0} → (instance : Instance) → IsInstance instance → (level : ℕ) → level ≤ levels_of instance → (literals : List Literal) → IsPrefix instance literals → (old now : World) (tag : Tag) → IsTicked instance level literals old now tag → length literals < length instance.paths →
     (log : LogState) (found : Found) → ClosesAhead instance literals tag now.log log found → Searched {E = E} instance level literals old (world now.fuel now.bound now.shared log) (Ok found)
 ahead-found {E} instance valid level within literals prefix old now tag ticked short log found c =
     let bare = c.shut.0 in
-    ahead-searched instance valid level within literals prefix bare.asked.partial old now tag ticked short c.node bare.asked.small bare.asked.apart bare.asked.counted bare.tag_is bare.done bare.none c.shut.1 log c.fewer c.explains (Ok found) c.adds
+    ahead-searched instance valid level within literals prefix bare.asked.partial old now tag ticked short c.node bare.asked.small bare.asked.apart bare.asked.counted bare.tag_is bare.done bare.none c.shut.1 log c.cites c.fewer c.explains (Ok found) c.adds

@@ -1,15 +1,21 @@
 -- What is known of a prefix before its choices are tried.
-use Rattle.std.specs.Prelude.{ℕ, List, Ok}
+use Rattle.std.specs.Prelude.{ℕ, List, Contains, Ok}
 use Rattle.std.specs.declared.alloc.AllocError.{AllocError}
 use Rattle.fapp_model.specs.declared.instance.Instance.{Instance}
 use Rattle.fapp_model.specs.declared.literal.Literal.{Literal}
 use Rattle.subtree_search.specs.declared.enter.Entry.{Entry}
-use Rattle.subtree_search.specs.declared.enter.Entry.TheVariants.{Decided, Ticked}
+use Rattle.subtree_search.specs.declared.enter.Entry.TheVariants.{Cited, Decided, Ticked}
+use Rattle.log_laws.specs.declared.line.Ref.TheVariants.{Row}
+use Rattle.log_laws.specs.Contents.{known_row}
+use Rattle.search_log.specs.Shares.{row_content}
+use Rattle.settle_laws.specs.declared.found.Found.TheVariants.{Settled}
 use Rattle.settle_laws.specs.Founds.{Searched}
 use Rattle.settle_laws.specs.Ticked.{IsTicked}
 use Rattle.settle_laws.specs.Worlds.{World}
 
--- it is settled, or a tick was taken
+-- it is settled, by a row that was copied or otherwise, or a tick was taken
 abbrev pub IsEntry : Instance → ℕ → List Literal → World → World → Entry → Type 0
 IsEntry instance level literals old new (Decided found) = Searched {E = AllocError} instance level literals old new (Ok found)
+IsEntry instance level literals old new (Cited cite tag) = Searched {E = AllocError} instance level literals old new (Ok (Settled (Row cite.row) tag))
+    × Contains new.shared.copied (known_row cite.row (row_content cite.content))
 IsEntry instance level literals old new (Ticked tag) = IsTicked instance level literals old new tag

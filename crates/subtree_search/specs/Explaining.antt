@@ -9,7 +9,10 @@ use Rattle.fapp_model.specs.search.Partials.{IsPartial, names}
 use Rattle.log_laws.specs.declared.line.LogLine.{LogLine}
 use Rattle.log_laws.specs.declared.line.Ref.{Ref}
 use Rattle.log_laws.specs.declared.line.Ref.TheVariants.{Own, Row}
+use Rattle.nogood.specs.Rows.{row_literals}
+use Rattle.search_log.specs.declared.shared.Cite.{Cite}
 use Rattle.settle_laws.specs.declared.node.Node.{Node}
+use Rattle.subtree_search.specs.Recalling.{IsSeen}
 
 -- a node of a further path of the instance, with a tag of it
 pub record IsAsked (instance : Instance) (literals : List Literal) (node : Node) : Type 0 where
@@ -20,7 +23,7 @@ pub record IsAsked (instance : Instance) (literals : List Literal) (node : Node)
   pub counted : node.count ≡ count_at instance node.path
   pub apart : names literals node.path ≡ false
 
--- a line doesn't name a path; of a row it is not known
-abbrev pub IsFree : List LogLine → ℕ → Ref → Type 0
-IsFree lines path (Own n) = (line : LogLine) → slice_get lines n ≡ Some line → names line.lits path ≡ false
-IsFree lines path (Row r) = ⊥
+-- a line doesn't name a path, nor does a row, by what a look-up gave under its number
+abbrev pub IsFree : List Cite → List LogLine → ℕ → Ref → Type 0
+IsFree cites lines path (Own n) = (line : LogLine) → slice_get lines n ≡ Some line → names line.lits path ≡ false
+IsFree cites lines path (Row r) = (cite : Cite) × IsSeen cites r cite × (names (row_literals cite.content) path ≡ false)

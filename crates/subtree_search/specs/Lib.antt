@@ -1,5 +1,5 @@
-pub mod Explaining
 pub mod Recalling
+pub mod Explaining
 pub mod Looking
 pub mod Entries
 pub mod Plans

@@ -3,6 +3,7 @@ use Rattle.std.specs.Prelude.{◌≡◌, List, [], Option, Some, None, Result, O
 use Rattle.fapp_model.specs.declared.instance.Instance.{Instance}
 use Rattle.fapp_model.specs.declared.literal.Literal.{Literal}
 use Rattle.fapp_model.specs.declared.tag.Tag.{Tag}
+use Rattle.search_log.specs.declared.shared.Cite.{Cite}
 use Rattle.search_log.specs.LogStates.{LogState}
 use Rattle.settle_laws.specs.declared.found.Found.{Found}
 use Rattle.settle_laws.specs.declared.node.Node.{Node}
@@ -25,8 +26,9 @@ IsShut instance literals tag node = IsBare instance literals tag node × IsClose
 pub record ClosesAhead (instance : Instance) (literals : List Literal) (tag : Tag) (old new : LogState) (found : Found) : Type 0 where
   pub node : Node
   pub shut : IsShut instance literals tag node
+  pub cites : List Cite
   pub fewer : List Literal
-  pub explains : Explains instance old.lines literals fewer node
+  pub explains : Explains instance cites old.lines literals fewer node
   pub adds : AddsLine instance fewer node.tag (Some node.path) node.refs old new found
 
 -- or the log is as it was

@@ -9,6 +9,7 @@ ghost use Rattle.subtree_search.specs.Explaining.{IsAsked};
 ghost use Rattle.subtree_search.specs.Looking.{IsBare, IsShut, LooksAhead};
 
 use crate::explain::{Scratch, add_explained, is_closed};
+use crate::seen::SeenRows;
 use fapp_model::{Items, NoMemory, Tag, choice_count};
 use forward_count::Forward;
 use search_log::Log;
@@ -105,6 +106,7 @@ pub fn look_ahead(
     scratch: &mut Scratch,
     tag: Tag,
     place: usize,
+    seen: &SeenRows,
     forward: &mut Forward,
     log: &mut Log,
 ) -> Result<Option<Found>, NoMemory>
@@ -118,6 +120,6 @@ pub fn look_ahead(
     let Some(node) = shut_behind(alloc, forward, tag, place) else {
         return Ok(None);
     };
-    let found = add_explained(alloc, scratch, node, forward, log)?;
+    let found = add_explained(alloc, scratch, node, seen, forward, log)?;
     Ok(Some(found))
 }

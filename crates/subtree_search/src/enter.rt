@@ -1,24 +1,28 @@
 // What is asked at each prefix before its choices are tried.
-ghost use Rattle.std.specs.Prelude.{◌↔◌, ◌≤◌};
+ghost use Rattle.std.specs.Prelude.{◌↔◌, ◌≤◌, List};
 ghost use Rattle.fapp_model.specs.declared.instance.Instance.{Instance};
 ghost use Rattle.fapp_model.specs.Instances.{IsInstance};
 ghost use Rattle.fapp_model.specs.Levels.{levels_of};
 ghost use Rattle.fapp_model.specs.search.Prefixes.{IsPrefix};
+ghost use Rattle.search_log.specs.declared.shared.Cite.{Cite as SomeCite};
 ghost use Rattle.search_log.specs.LogStates.{LogState};
+ghost use Rattle.settle_laws.specs.Explained.{AreCopied};
 ghost use Rattle.settle_laws.specs.Worlds.{world};
 ghost use Rattle.subtree_search.specs.Entries.{IsEntry};
 
 use crate::tags::{lesser, level_tag};
 use fapp_model::Tag;
 use forward_count::Forward;
-use search_log::{Bound, Fuel, Ref, Shared};
+use search_log::{Bound, Cite, Fuel, Shared};
 use settle_laws::Found;
 
 /// What is known of a prefix before its choices are tried.
-#[derive(Clone, Copy, Debug, PartialEq, Eq)]
+#[derive(Clone, Copy, Debug)]
 pub enum Entry {
     /// That it is settled.
     Decided(Found),
+    /// That a row settles it, at this target.
+    Cited { cite: Cite, tag: Tag },
     /// That a tick was taken, at this target.
     Ticked(Tag),
 }
@@ -39,6 +43,7 @@ pub fn enter<B: Bound, H: Shared>(
     ensures bound { (was : B) → B.since was bound.old → B.since was bound.new }
     ensures shared { (was : H) → H.since was shared.old → H.since was shared.new }
     ensures serves { (instance : Instance) → H.serves shared.old instance ↔ H.serves shared.new instance }
+    ensures copied { (cites : List SomeCite) → AreCopied (H.state shared.old).copied cites → AreCopied (H.state shared.new).copied cites }
     ensures entry { (log : LogState) → IsEntry forward.now.instance level forward.now.pushed (world fuel.old.amount (B.state bound.old) (H.state shared.old) log)
         (world fuel.new.amount (B.state bound.new) (H.state shared.new) log) result }
 {
@@ -48,10 +53,7 @@ pub fn enter<B: Bound, H: Shared>(
     }
     let target = lesser(seen, level_tag(level + 1));
     if let Some(cite) = shared.lookup(forward.partial(), target) {
-        return Entry::Decided(Found::Settled {
-            line: Ref::Row(cite.row),
-            tag: target,
-        });
+        return Entry::Cited { cite, tag: target };
     }
     if forward.is_dead(target) {
         return Entry::Decided(Found::Dead { tag: target });

@@ -18,6 +18,7 @@ ghost use Rattle.subtree_search.specs.Explaining.{IsAsked, IsFree};
 
 use crate::lines::add_line;
 use crate::prefix::push_instead;
+use crate::seen::SeenRows;
 use crate::tags::limit_code;
 use fapp_model::{Items, Literal, NoMemory, Tag, level_of, triple_of};
 use forward_count::Forward;
@@ -167,25 +168,28 @@ pub fn is_closed(forward: &mut Forward, node: &Node) -> bool
     true
 }
 
-/// Whether what a reference names may name a path: a line that does, or any row.
-fn may_name(line: Ref, log: &Log, path: u16) -> bool
-    ensures { result ≡ false → IsFree log.now.lines path line }
+/// Whether what a reference names may name a path: a line or a row that does, or a row that isn't found again.
+fn may_name(line: Ref, log: &Log, seen: &SeenRows, path: u16) -> bool
+    ensures { result ≡ false → IsFree seen.now.cites.items log.now.lines path line }
 {
     match line {
         Ref::Own(place) => match log.lines().get(place as usize) {
             Some(line) => names_path(line.lits.as_slice(), path),
             None => false,
         },
-        Ref::Row(_) => true,
+        Ref::Row(row) => match seen.find(row) {
+            Some(cite) => names_path(cite.content.literals(), path),
+            None => true,
+        },
     }
 }
 
 /// Whether what settles some choice may name a path.
-fn is_used(refs: &[ChoiceRef], log: &Log, path: u16) -> bool
-    ensures { result ≡ false → All (λ r. IsFree log.now.lines path r.line) refs.now }
+fn is_used(refs: &[ChoiceRef], log: &Log, seen: &SeenRows, path: u16) -> bool
+    ensures { result ≡ false → All (λ r. IsFree seen.now.cites.items log.now.lines path r.line) refs.now }
 {
     for r in refs {
-        if may_name(r.line, log, path) {
+        if may_name(r.line, log, seen, path) {
             return true;
         }
     }
@@ -197,20 +201,21 @@ fn leave_out(
     forward: &mut Forward,
     node: &Node,
     log: &Log,
+    seen: &SeenRows,
     literals: &[Literal],
     place: usize,
 ) -> bool
     requires place { place < length literals.now }
     requires asked { IsAsked forward.old.instance literals.now node.now }
-    requires explains { Explains forward.old.instance log.now.lines literals.now forward.old.pushed node.now }
+    requires explains { Explains forward.old.instance seen.now.cites.items log.now.lines literals.now forward.old.pushed node.now }
     ensures front { forward.new ≡ with_literals forward.old forward.new.pushed }
-    ensures explains { Explains forward.old.instance log.now.lines literals.now forward.new.pushed node.now }
+    ensures explains { Explains forward.old.instance seen.now.cites.items log.now.lines literals.now forward.new.pushed node.now }
 {
     let literal = literals[place];
     if !forward.is_set(literal.path) {
         return false;
     }
-    if is_used(node.refs.as_slice(), log, literal.path) {
+    if is_used(node.refs.as_slice(), log, seen, literal.path) {
         return false;
     }
     forward.remove(literal.path);
@@ -223,18 +228,25 @@ fn leave_out(
 
 /// Takes out the node's literals one by one, the last one first, but those that are marked and those without which the
 /// node is not closed, until `FAILURES` in a row could not be left out.
-fn reduce(forward: &mut Forward, node: &Node, log: &Log, literals: &[Literal], needed: &[bool])
+fn reduce(
+    forward: &mut Forward,
+    node: &Node,
+    log: &Log,
+    seen: &SeenRows,
+    literals: &[Literal],
+    needed: &[bool],
+)
     requires asked { IsAsked forward.old.instance literals.now node.now }
-    requires explains { Explains forward.old.instance log.now.lines literals.now forward.old.pushed node.now }
+    requires explains { Explains forward.old.instance seen.now.cites.items log.now.lines literals.now forward.old.pushed node.now }
     ensures front { forward.new ≡ with_literals forward.old forward.new.pushed }
-    ensures explains { Explains forward.old.instance log.now.lines literals.now forward.new.pushed node.now }
+    ensures explains { Explains forward.old.instance seen.now.cites.items log.now.lines literals.now forward.new.pushed node.now }
 {
     let mut failures = 0;
     for step in 0..literals.len() {
         let place = literals.len() - 1 - step;
         if failures < FAILURES {
             if !is_marked(needed, literals[place].path) {
-                let out = leave_out(forward, node, log, literals, place);
+                let out = leave_out(forward, node, log, seen, literals, place);
                 failures = if out { 0 } else { failures + 1 };
             }
         }
@@ -342,14 +354,26 @@ fn mark_all(needed: &mut [bool], literals: &[Literal]) {
     }
 }
 
-/// Marks what the lines of the log name that settle choices.
-fn mark_lines(needed: &mut [bool], refs: &[ChoiceRef], log: &Log) {
-    for r in refs {
-        if let Ref::Own(place) = r.line {
+/// Marks what a line of the log or a row names.
+fn mark_named(needed: &mut [bool], line: Ref, log: &Log, seen: &SeenRows) {
+    match line {
+        Ref::Own(place) => {
             if let Some(line) = log.lines().get(place as usize) {
                 mark_all(needed, line.lits.as_slice());
             }
         }
+        Ref::Row(row) => {
+            if let Some(cite) = seen.find(row) {
+                mark_all(needed, cite.content.literals());
+            }
+        }
+    }
+}
+
+/// Marks what the lines and rows name that settle choices.
+fn mark_refs(needed: &mut [bool], refs: &[ChoiceRef], log: &Log, seen: &SeenRows) {
+    for r in refs {
+        mark_named(needed, r.line, log, seen);
     }
 }
 
@@ -390,6 +414,7 @@ pub fn add_explained(
     alloc: Global,
     scratch: &mut Scratch,
     node: Node,
+    seen: &SeenRows,
     forward: &mut Forward,
     log: &mut Log,
 ) -> Result<Found, NoMemory>
@@ -397,14 +422,21 @@ pub fn add_explained(
     requires prefix { IsPrefix forward.old.instance forward.old.pushed }
     requires closed { IsClosedBy forward.old.instance forward.old.pushed node }
     ensures front { forward.new ≡ forward.old }
-    ensures lined { (fewer : List SomeLiteral) × Explains forward.old.instance log.old.lines forward.old.pushed fewer node × IsLined forward.old.instance fewer node.tag (Some node.path) node.refs log.old log.new result }
+    ensures lined { (fewer : List SomeLiteral) × Explains forward.old.instance seen.now.cites.items log.old.lines forward.old.pushed fewer node × IsLined forward.old.instance fewer node.tag (Some node.path) node.refs log.old log.new result }
 {
     scratch.literals.clear();
     scratch.literals.extend_from_slice(forward.pushed())?;
     mark_none(&mut scratch.needed);
-    mark_lines(&mut scratch.needed, node.refs.as_slice(), log);
+    mark_refs(&mut scratch.needed, node.refs.as_slice(), log, seen);
     mark_clashes(&mut scratch.needed, forward, &node);
-    reduce(forward, &node, log, &scratch.literals, &scratch.needed);
+    reduce(
+        forward,
+        &node,
+        log,
+        seen,
+        &scratch.literals,
+        &scratch.needed,
+    );
     let found = add_line(alloc, node.tag, Some(node.path), node.refs, forward, log);
     push_instead(forward, &scratch.literals);
     found

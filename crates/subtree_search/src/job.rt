@@ -34,6 +34,7 @@ fn search_prefix<B: Bound, H: Shared>(
     requires ready { IsReady forward.old.instance walk.old }
     requires empty { walk.old.nodes.items ≡ [] }
     requires begins { walk.old.recall.first ≡ length log.old.lines }
+    requires unseen { walk.old.seen.cites.items ≡ [] }
     requires prefix { IsPrefix forward.old.instance forward.old.pushed }
     requires serves { H.serves shared.old forward.old.instance }
     ensures bound { (was : B) → B.since was bound.old → B.since was bound.new }

@@ -2,6 +2,8 @@
 #![tactic(auto)]
 
 mod ahead;
+mod by_row;
+mod chains;
 mod enter;
 mod explain;
 mod job;
@@ -11,6 +13,7 @@ mod offering;
 mod pass;
 mod prefix;
 mod recall;
+mod seen;
 mod tags;
 mod walk;
 

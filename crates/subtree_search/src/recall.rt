@@ -3,6 +3,7 @@ ghost use Rattle.std.specs.Prelude.{◌≡◌, ◌≤◌, ◌∷◌, ◌++◌, [
 ghost use Rattle.fapp_model.specs.search.Partials.{HasAll, literal};
 ghost use Rattle.subtree_search.specs.Recalling.{IsRecalled, SaysOf};
 
+use crate::chains::Chains;
 use fapp_model::{Literal, Tag};
 use forward_count::Forward;
 use search_log::Log;
@@ -18,14 +19,10 @@ const SLOTS: usize = 32_768;
 /// looked at.
 #[derive(Drop)]
 pub struct Recall {
-    alloc: Global,
     /// Where the lines of the search begin in the log.
     pub first: u32,
-    /// For each slot, one more than the line noted last with a literal of it, counted from the first one; 0 where there
-    /// is none. Room for them is made when the first line is noted.
-    heads: Vec<u32>,
-    /// For each line, the same of the line that was noted before it in its slot.
-    before: Vec<u32>,
+    /// The lines, counted from the first one.
+    chains: Chains,
 }
 
 impl Recall {
@@ -34,26 +31,8 @@ impl Recall {
         ensures { result.first ≡ first }
     {
         Recall {
-            alloc,
             first,
-            heads: Vec::new(alloc),
-            before: Vec::new(alloc),
-        }
-    }
-
-    /// Makes room for the slots where there is none. Whether there is room then.
-    fn has_slots(&mut self) -> bool
-        ensures { self.new.first ≡ self.old.first }
-    {
-        if !self.heads.is_empty() {
-            return true;
-        }
-        match vec![in self.alloc; 0; SLOTS] {
-            Ok(heads) => {
-                self.heads = heads;
-                true
-            }
-            Err(_) => false,
+            chains: Chains::new(alloc, SLOTS),
         }
     }
 
@@ -61,37 +40,24 @@ impl Recall {
     pub fn note(&mut self, place: u32, literal: Literal)
         ensures { self.new.first ≡ self.old.first }
     {
-        if !self.has_slots() {
-            return;
-        }
         let index = place.saturating_sub(self.first);
-        if self.before.len() != index as usize {
-            return;
-        }
-        let slot = slot_of(literal);
-        let head = link_at(&self.heads, slot);
-        if self.before.push(head).is_err() {
-            return;
-        }
-        if slot < self.heads.len() {
-            self.heads[slot] = index.saturating_add(1);
-        }
+        self.chains.note(index, slot_of(literal));
     }
 
     /// A line of the search with at least this tag, and with no literals but those that are pushed and this one.
     pub fn find(&self, log: &Log, forward: &Forward, tag: Tag, a: Literal) -> Option<u32>
         ensures { IfSome result (λ place. IsRecalled log.now.lines self.now.first tag.code (forward.now.pushed ++ a ∷ []) place) }
     {
-        let mut link = link_at(&self.heads, slot_of(a));
+        let mut next = self.chains.newest(slot_of(a));
         for _ in 0..LOOKS {
-            if link == 0 {
+            let Some(index) = next else {
                 return None;
-            }
-            let place = self.first.saturating_add(link - 1);
+            };
+            let place = self.first.saturating_add(index);
             if says_of(log, place, tag, forward, a) {
                 return Some(place);
             }
-            link = link_at(&self.before, (link - 1) as usize);
+            next = self.chains.older(index);
         }
         None
     }
@@ -100,11 +66,6 @@ impl Recall {
 /// The slot of a literal.
 fn slot_of(a: Literal) -> usize {
     (a.path as usize * 613 + a.choice as usize) % SLOTS
-}
-
-/// What stands at a place, 0 where nothing does.
-fn link_at(links: &[u32], place: usize) -> u32 {
-    links.get(place).copied().unwrap_or(0)
 }
 
 /// Whether a line stands at a place that has at least this tag, and no literals but those that are pushed and this one.

@@ -6,6 +6,7 @@ ghost use Rattle.fapp_model.specs.declared.literal.Literal.{Literal};
 ghost use Rattle.fapp_model.specs.search.Partials.{names};
 ghost use Rattle.fapp_model.specs.search.Prefixes.{IsPrefix};
 ghost use Rattle.count_laws.specs.ForwardStates.{with_literals};
+ghost use Rattle.settle_laws.specs.Explained.{AreContents, AreCopied};
 ghost use Rattle.settle_laws.specs.Founds.{Searched};
 ghost use Rattle.settle_laws.specs.OpenNodes.{IsTrying};
 ghost use Rattle.settle_laws.specs.Worlds.{World, world};
@@ -13,12 +14,15 @@ ghost use Rattle.subtree_search.specs.Walks.{BeginsAt, IsReady, work_left};
 ghost use Rattle.subtree_search.specs.Steps.{ComesTo, IsAdvanced, IsBack, IsNoted, IsVisited, Lightens, NotesLess};
 
 use crate::ahead::look_ahead;
+use crate::by_row::add_by_row;
 use crate::enter::{Entry, enter};
 use crate::explain::{Scratch, add_explained, names_path};
 use crate::lines::conclude;
 use crate::node::note_choice;
 use crate::pass::pass_settled;
 use crate::recall::Recall;
+use crate::seen::SeenRows;
+use crate::tags::lesser;
 use fapp_model::{Items, Literal, NoMemory, choice_count};
 use forward_count::Forward;
 use search_log::{Bound, Fuel, Log, Ref, Shared};
@@ -39,18 +43,21 @@ pub struct Walk {
     pub scratch: Scratch,
     /// The lines of the search, to be found again.
     pub recall: Recall,
+    /// The rows that settled prefixes of the search, to be found again.
+    pub seen: SeenRows,
 }
 
 impl Walk {
     /// No node is open. Room is made for an assignment of so many paths, and for as many nodes. The lines of the search
     /// begin at that place.
     pub fn new(alloc: Global, level: u32, paths: usize, first: u32) -> Result<Walk, NoMemory>
-        ensures { IfOk result (λ walk. (walk.level ≡ level) × (walk.nodes.items ≡ []) × (length walk.plan.items ≡ paths) × (walk.recall.first ≡ first)) }
+        ensures { IfOk result (λ walk. (walk.level ≡ level) × (walk.nodes.items ≡ []) × (length walk.plan.items ≡ paths) × (walk.recall.first ≡ first) × (walk.seen.cites.items ≡ [])) }
     {
         let nodes = Vec::with_capacity(alloc, paths)?;
         let plan = vec![in alloc; 0; paths]?;
         let scratch = Scratch::new(alloc, paths)?;
         let recall = Recall::new(alloc, first);
+        let seen = SeenRows::new(alloc);
         Ok(Walk {
             alloc,
             level,
@@ -58,6 +65,7 @@ impl Walk {
             plan,
             scratch,
             recall,
+            seen,
         })
     }
 }
@@ -81,11 +89,17 @@ fn visit<B: Bound, H: Shared>(
     ensures first { walk.new.recall.first ≡ walk.old.recall.first }
     ensures shared { (was : H) → H.since was shared.old → H.since was shared.new }
     ensures serves { (instance : Instance) → H.serves shared.old instance ↔ H.serves shared.new instance }
+    ensures held { AreCopied (H.state shared.old).copied walk.old.seen.cites.items → AreCopied (H.state shared.new).copied walk.new.seen.cites.items }
     ensures visited { IsVisited forward.old.instance walk.old.level forward.old.pushed walk.old.nodes.items walk.new.nodes.items
         (world fuel.old.amount (B.state bound.old) (H.state shared.old) log.old) (world fuel.new.amount (B.state bound.new) (H.state shared.new) log.new) result }
 {
     let target = match enter(walk.level, forward, fuel, bound, shared) {
         Entry::Decided(found) => return Ok(Some(found)),
+        Entry::Cited { cite, tag } => {
+            walk.seen.note(cite);
+            let line = Ref::Row(cite.row);
+            return Ok(Some(Found::Settled { line, tag }));
+        }
         Entry::Ticked(target) => target,
     };
     let tables = forward.tables();
@@ -102,7 +116,15 @@ fn visit<B: Bound, H: Shared>(
         )?;
         return Ok(Some(found));
     }
-    if let Some(found) = look_ahead(walk.alloc, &mut walk.scratch, target, depth, forward, log)? {
+    if let Some(found) = look_ahead(
+        walk.alloc,
+        &mut walk.scratch,
+        target,
+        depth,
+        &walk.seen,
+        forward,
+        log,
+    )? {
         return Ok(Some(found));
     }
     let path = order[depth];
@@ -129,6 +151,7 @@ fn try_next<B: Bound, H: Shared>(
 ) -> Result<Option<Found>, NoMemory>
     requires ready { IsReady forward.old.instance walk.old }
     requires serves { H.serves shared.old forward.old.instance }
+    requires held { AreCopied (H.state shared.old).copied walk.old.seen.cites.items }
     requires trying { (root : List Literal) × (from : World) × IsPrefix forward.old.instance root × BeginsAt walk.old from × IsTrying forward.old.instance walk.old.level root from walk.old.nodes.items forward.old.pushed
         (world fuel.old.amount (B.state bound.old) (H.state shared.old) log.old) }
     ensures bound { (was : B) → B.since was bound.old → B.since was bound.new }
@@ -138,6 +161,7 @@ fn try_next<B: Bound, H: Shared>(
     ensures shared { (was : H) → H.since was shared.old → H.since was shared.new }
     ensures serves { (instance : Instance) → H.serves shared.old instance ↔ H.serves shared.new instance }
     ensures front { forward.new ≡ with_literals forward.old forward.new.pushed }
+    ensures held { AreCopied (H.state shared.new).copied walk.new.seen.cites.items }
     ensures advanced { (root : List Literal) (from : World) → IsPrefix forward.old.instance root → BeginsAt walk.old from → IsTrying forward.old.instance walk.old.level root from walk.old.nodes.items forward.old.pushed
         (world fuel.old.amount (B.state bound.old) (H.state shared.old) log.old) → IsAdvanced forward.old.instance walk.old.level root from walk.new.nodes.items forward.new.pushed
         (world fuel.new.amount (B.state bound.new) (H.state shared.new) log.new) result }
@@ -148,7 +172,14 @@ fn try_next<B: Bound, H: Shared>(
     };
     pass_settled(&mut node, forward, &walk.recall, log);
     if node.choice >= node.count {
-        let found = add_explained(walk.alloc, &mut walk.scratch, node, forward, log)?;
+        let found = add_explained(
+            walk.alloc,
+            &mut walk.scratch,
+            node,
+            &walk.seen,
+            forward,
+            log,
+        )?;
         return Ok(Some(found));
     }
     forward.push(node.path, node.choice as u16);
@@ -161,6 +192,7 @@ fn try_next<B: Bound, H: Shared>(
 fn remember(walk: &mut Walk, forward: &Forward, found: Found)
     ensures level { walk.new.level ≡ walk.old.level }
     ensures first { walk.new.recall.first ≡ walk.old.recall.first }
+    ensures seen { walk.new.seen ≡ walk.old.seen }
     ensures nodes { walk.new.nodes.items ≡ walk.old.nodes.items }
     ensures plan { length walk.new.plan.items ≡ length walk.old.plan.items }
 {
@@ -175,14 +207,53 @@ fn remember(walk: &mut Walk, forward: &Forward, found: Found)
     }
 }
 
-/// Leaves the innermost nodes whose paths the line doesn't name that settles their choices: it settles them too. A row
-/// settles no node above.
+/// Where a row settles the choice of the innermost node that was tried and does not name its path, it settles the node:
+/// it is closed with a line on the row's literals.
+fn close_by_row(
+    walk: &mut Walk,
+    forward: &mut Forward,
+    found: Found,
+    log: &mut Log,
+) -> Result<Found, NoMemory>
+    requires ready { IsReady forward.old.instance walk.old }
+    requires coming { (root : List Literal) × (from : World) × (now : World) × IsPrefix forward.old.instance root × (now.log ≡ log.old) × ComesTo {E = AllocError} forward.old.instance walk.old.level root from walk.old.nodes.items forward.old.pushed now (Ok found) }
+    ensures ready { IsReady forward.old.instance walk.new }
+    ensures level { walk.new.level ≡ walk.old.level }
+    ensures first { walk.new.recall.first ≡ walk.old.recall.first }
+    ensures seen { walk.new.seen ≡ walk.old.seen }
+    ensures front { forward.new ≡ with_literals forward.old forward.new.pushed }
+    ensures comes { (root : List Literal) (from now : World) → IsPrefix forward.old.instance root → now.log ≡ log.old → AreContents now.shared.copied walk.old.seen.cites.items → ComesTo {E = AllocError} forward.old.instance walk.old.level root from walk.old.nodes.items forward.old.pushed now (Ok found) →
+        ComesTo forward.old.instance walk.old.level root from walk.new.nodes.items forward.new.pushed (world now.fuel now.bound now.shared log.new) result }
+    ensures lighter { (fuel : ℕ) → work_left fuel walk.new.nodes.items ≤ work_left fuel walk.old.nodes.items }
+{
+    let Found::Settled { line, tag } = found else {
+        return Ok(found);
+    };
+    let Ref::Row(row) = line else {
+        return Ok(found);
+    };
+    let Some(cite) = walk.seen.find(row) else {
+        return Ok(found);
+    };
+    if !is_passed(&walk.nodes, cite.content.literals()) {
+        return Ok(found);
+    }
+    let Some(node) = walk.nodes.pop() else {
+        return Ok(found);
+    };
+    forward.pop();
+    let tag = lesser(node.tag, tag);
+    add_by_row(walk.alloc, cite, tag, node.path, node.count, log)
+}
+
+/// Leaves the innermost nodes whose paths the line doesn't name that settles their choices: it settles them too.
 fn jump(walk: &mut Walk, forward: &mut Forward, found: Found, log: &Log)
     requires ready { IsReady forward.old.instance walk.old }
     requires coming { (root : List Literal) × (from : World) × (now : World) × IsPrefix forward.old.instance root × (now.log ≡ log.now) × ComesTo {E = AllocError} forward.old.instance walk.old.level root from walk.old.nodes.items forward.old.pushed now (Ok found) }
     ensures ready { IsReady forward.old.instance walk.new }
     ensures level { walk.new.level ≡ walk.old.level }
     ensures first { walk.new.recall.first ≡ walk.old.recall.first }
+    ensures seen { walk.new.seen ≡ walk.old.seen }
     ensures front { forward.new ≡ with_literals forward.old forward.new.pushed }
     ensures comes { (root : List Literal) (from now : World) → IsPrefix forward.old.instance root → now.log ≡ log.now → ComesTo {E = AllocError} forward.old.instance walk.old.level root from walk.old.nodes.items forward.old.pushed now (Ok found) →
         ComesTo {E = AllocError} forward.old.instance walk.old.level root from walk.new.nodes.items forward.new.pushed now (Ok found) }
@@ -225,6 +296,7 @@ fn advance<B: Bound, H: Shared>(
 ) -> Result<Option<Found>, NoMemory>
     requires ready { IsReady forward.old.instance walk.old }
     requires serves { H.serves shared.old forward.old.instance }
+    requires held { AreCopied (H.state shared.old).copied walk.old.seen.cites.items }
     requires trying { (root : List Literal) × (from : World) × IsPrefix forward.old.instance root × BeginsAt walk.old from × IsTrying forward.old.instance walk.old.level root from walk.old.nodes.items forward.old.pushed
         (world fuel.old.amount (B.state bound.old) (H.state shared.old) log.old) }
     ensures bound { (was : B) → B.since was bound.old → B.since was bound.new }
@@ -234,6 +306,7 @@ fn advance<B: Bound, H: Shared>(
     ensures shared { (was : H) → H.since was shared.old → H.since was shared.new }
     ensures serves { (instance : Instance) → H.serves shared.old instance ↔ H.serves shared.new instance }
     ensures front { forward.new ≡ with_literals forward.old forward.new.pushed }
+    ensures held { AreCopied (H.state shared.new).copied walk.new.seen.cites.items }
     ensures advanced { (root : List Literal) (from : World) → IsPrefix forward.old.instance root → BeginsAt walk.old from → IsTrying forward.old.instance walk.old.level root from walk.old.nodes.items forward.old.pushed
         (world fuel.old.amount (B.state bound.old) (H.state shared.old) log.old) → IsAdvanced forward.old.instance walk.old.level root from walk.new.nodes.items forward.new.pushed
         (world fuel.new.amount (B.state bound.new) (H.state shared.new) log.new) result }
@@ -242,9 +315,10 @@ fn advance<B: Bound, H: Shared>(
     let Some(found) = try_next(walk, forward, fuel, bound, shared, log)? else {
         return Ok(None);
     };
-    jump(walk, forward, found, log);
-    remember(walk, forward, found);
-    Ok(Some(found))
+    let settled = close_by_row(walk, forward, found, log)?;
+    jump(walk, forward, settled, log);
+    remember(walk, forward, settled);
+    Ok(Some(settled))
 }
 
 /// Notes what was found of the choice that was tried at the innermost node. Where no node is open, or the search is
@@ -255,6 +329,7 @@ fn note(walk: &mut Walk, forward: &mut Forward, found: Found) -> Result<Option<F
     ensures ready { IsReady forward.old.instance walk.new }
     ensures level { walk.new.level ≡ walk.old.level }
     ensures first { walk.new.recall.first ≡ walk.old.recall.first }
+    ensures seen { walk.new.seen ≡ walk.old.seen }
     ensures front { forward.new ≡ with_literals forward.old forward.new.pushed }
     ensures noted { (root : List Literal) (from now : World) → IsPrefix forward.old.instance root → ComesTo {E = AllocError} forward.old.instance walk.old.level root from walk.old.nodes.items forward.old.pushed now (Ok found) →
         IsNoted forward.old.instance walk.old.level root from walk.new.nodes.items forward.new.pushed now result }
@@ -284,6 +359,7 @@ pub fn explore<B: Bound, H: Shared>(
     requires ready { IsReady forward.old.instance walk.old }
     requires empty { walk.old.nodes.items ≡ [] }
     requires begins { walk.old.recall.first ≡ length log.old.lines }
+    requires unseen { walk.old.seen.cites.items ≡ [] }
     requires prefix { IsPrefix forward.old.instance forward.old.pushed }
     requires serves { H.serves shared.old forward.old.instance }
     ensures bound { (was : B) → B.since was bound.old → B.since was bound.new }

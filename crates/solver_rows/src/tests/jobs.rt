@@ -27,6 +27,10 @@ const BELOW: &str =
 const EDGE: &str =
     "DM 1 10\nDM 1 20\nDM 2 10\nTR 1 1 1\nTR 2 2 1\nCE 1 2 10 10 10 10 10 10 10 10 10 10 10\n";
 
+// As BELOW, but what the three paths break is one record of level 0.
+const SOFT: &str =
+    "DM 1 10\nDM 1 20\nDM 2 1000\nDM 2 1001\nDM 2 1002\nDM 2 1003\nDM 2 1004\nTR 4 2 1\nTR 1 1 1\nTR 2 1 1\nTR 3 1 1\nCE 1 2 5 0 0 0 0 0 0 0 0 0 0\nCE 1 3 5 0 0 0 0 0 0 0 0 0 0\nCE 2 3 5 0 0 0 0 0 0 0 0 0 0\nCI 4 1 F I 1\nCI 4 2 F I 1\nCI 4 3 F I 1\n";
+
 const ZERO: Triple = Triple { k: 0, v: 0, s: 0 };
 
 const TOP: Triple = Triple { k: 12, v: 0, s: 0 };

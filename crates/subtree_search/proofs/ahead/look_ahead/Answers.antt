@@ -12,4 +12,4 @@ pub add_explained-requires-clause-closed : goal.add_explained-requires-clause-cl
 add_explained-requires-clause-closed c = subst (λ (s : ForwardState). IsClosedBy s.instance s.pushed c.in-Some.node) (sym c.in-Some.ensures.front) c.in-Some.ensures.shut.1
 
 pub returns-clause-looks : goal.returns-clause-looks
-returns-clause-looks c = closes-shut c.args.forward.now c.shut_behind.new.forward c.in-Some.ensures.front c.args.tag c.args.log.now c.add_explained.new.log c.in-Some.node c.in_ok-found.found c.in-Some.ensures.shut c.in_ok-found.ensures.lined
+returns-clause-looks c = closes-shut c.args.forward.now c.shut_behind.new.forward c.in-Some.ensures.front c.args.tag c.args.log.now c.add_explained.new.log c.in-Some.node c.in_ok-found.found c.in-Some.ensures.shut c.args.seen.now.cites.items c.in_ok-found.ensures.lined

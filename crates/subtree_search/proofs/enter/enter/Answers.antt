@@ -7,6 +7,7 @@ use Rattle.search_log.specs.Fuels.{Takes}
 use Rattle.search_log.specs.Shares.{IsCiteOf, Looks}
 use Rattle.settle_laws.specs.Levels.{level_code}
 use Rattle.settle_laws.proofs.Entering.{dead-found, is-ticked, moot-found, row-found, spent-found}
+use Rattle.settle_laws.proofs.Fewer.{copied-more}
 use Rattle.settle_laws.proofs.TagCodes.{tag-small}
 use Rattle.subtree_search.proofs.Comparing.{above-by, at-most-by}
 use Rattle.subtree_search.proofs.enter.enter.Goals as goal
@@ -26,10 +27,14 @@ returns-in-Some-clause-entry g c =
     let f = c.args.forward.now in
     let low : level_code c.args.level < c.now-seen.result.code = omega (arith, above-by c.le.result c.now-seen.result.code c.level_tag.result.code c.le.ensures c.if-le.false, c.level_tag.ensures) in
     let at_is : c.lesser-target.result.code ≡ min c.now-seen.result.code (level_code (c.args.level + 1)) = c.lesser-target.ensures ∙ ap (λ n. min c.now-seen.result.code n) c.level_tag-2.ensures in
-    λ log. row-found f.instance c.args.level f.pushed c.args.fuel.now.amount (g.B.Bound.state c.args.bound.now) (g.B.Bound.state c.now-seen.new.self) (g.H.Shared.state c.args.shared.now) c.now-seen.result c.now-seen.ensures.tells log
-    low c.lesser-target.result at_is c.partial.result.now (g.H.Shared.state c.lookup.new.self) (λ a. (c.partial.ensures.given a).0) c.in-Some.cite
-    (subst (λ o. Looks (g.H.Shared.state c.args.shared.now) (g.H.Shared.state c.lookup.new.self) c.partial.result.now c.lesser-target.result.code o) c.in-Some.is c.lookup.ensures.looks)
-    (subst (λ o. IsCiteOf f.instance o) c.in-Some.is (c.lookup.ensures.implied f.instance c.requires.serves))
+    let looks = subst (λ o. Looks (g.H.Shared.state c.args.shared.now) (g.H.Shared.state c.lookup.new.self) c.partial.result.now c.lesser-target.result.code o) c.in-Some.is c.lookup.ensures.looks in
+    λ log. (
+      row-found f.instance c.args.level f.pushed c.args.fuel.now.amount (g.B.Bound.state c.args.bound.now) (g.B.Bound.state c.now-seen.new.self) (g.H.Shared.state c.args.shared.now) c.now-seen.result c.now-seen.ensures.tells log
+          low c.lesser-target.result at_is c.partial.result.now (g.H.Shared.state c.lookup.new.self) (λ a. (c.partial.ensures.given a).0) c.in-Some.cite
+          looks
+          (subst (λ o. IsCiteOf f.instance o) c.in-Some.is (c.lookup.ensures.implied f.instance c.requires.serves)),
+      looks.finds.0,
+    )
 
 pub is_dead-requires : goal.is_dead-requires
 is_dead-requires g c = tag-small c.args.forward.now.instance c.args.level c.lesser-target.result c.requires.level
@@ -68,3 +73,15 @@ returns-clause-entry g c =
     low c.lesser-target.result at_is c.partial.result.now (g.H.Shared.state c.lookup.new.self)
     (subst (λ o. Looks (g.H.Shared.state c.args.shared.now) (g.H.Shared.state c.lookup.new.self) c.partial.result.now c.lesser-target.result.code o) c.in_default.is c.lookup.ensures.looks)
     (λ a. (c.partial.ensures.given a).1) c.requires.valid c.requires.level alive c.take.new.self.amount taken
+
+pub returns-in-Some-clause-copied : goal.returns-in-Some-clause-copied
+returns-in-Some-clause-copied g c = λ cites held. copied-more (g.H.Shared.state c.args.shared.now).copied (g.H.Shared.state c.lookup.new.self).copied cites c.lookup.ensures.looks.kept held
+
+pub returns-then-is_dead-clause-copied : goal.returns-then-is_dead-clause-copied
+returns-then-is_dead-clause-copied g c = λ cites held. copied-more (g.H.Shared.state c.args.shared.now).copied (g.H.Shared.state c.lookup.new.self).copied cites c.lookup.ensures.looks.kept held
+
+pub returns-then-not-take-clause-copied : goal.returns-then-not-take-clause-copied
+returns-then-not-take-clause-copied g c = λ cites held. copied-more (g.H.Shared.state c.args.shared.now).copied (g.H.Shared.state c.lookup.new.self).copied cites c.lookup.ensures.looks.kept held
+
+pub returns-clause-copied : goal.returns-clause-copied
+returns-clause-copied g c = λ cites held. copied-more (g.H.Shared.state c.args.shared.now).copied (g.H.Shared.state c.lookup.new.self).copied cites c.lookup.ensures.looks.kept held

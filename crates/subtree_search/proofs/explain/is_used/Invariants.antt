@@ -5,4 +5,4 @@ use Rattle.subtree_search.proofs.explain.is_used.Given as goal
 
 -- those before this one don't
 abbrev pub invariant-loop-r : goal.invariant-loop-r
-invariant-loop-r l = (i : ℕ) (d : ChoiceRef) → i < l.r-index → IsFree l.log.lines l.path (get_or l.refs i d).line
+invariant-loop-r l = (i : ℕ) (d : ChoiceRef) → i < l.r-index → IsFree l.seen.cites.items l.log.lines l.path (get_or l.refs i d).line

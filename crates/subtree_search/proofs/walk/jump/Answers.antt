@@ -26,4 +26,4 @@ loop-line-preserved c =
     let there : slice_get c.args.log.now.lines c.in-Own.place ≡ Some line = subst (λ ls. slice_get ls c.in-Own.place ≡ Some line) c.lines.ensures
     (slice_get-get_or c.lines.result.now c.in-Own.place line lookup.3.0 ∙ ap (λ l. Some l) (sym lookup.1)) in
     jumping-on c.args.forward.now c.loop-line.forward c.args.walk.now c.loop-line.walk c.args.found c.args.log.now c.loop-line.invariant line passed c.pop.new.self.items rest
-    c.in-Own.place c.in-Settled.tag (c.in-Settled.is ∙ ap (λ r. Settled r c.in-Settled.tag) c.in-Own.is) there c.pop-in-loop-line.new.self c.pop-in-loop-line.ensures _ refl refl refl refl
+    c.in-Own.place c.in-Settled.tag (c.in-Settled.is ∙ ap (λ r. Settled r c.in-Settled.tag) c.in-Own.is) there c.pop-in-loop-line.new.self c.pop-in-loop-line.ensures _ refl refl refl refl refl

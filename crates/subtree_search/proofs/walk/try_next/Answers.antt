@@ -3,6 +3,7 @@ use Rattle.cert_lines.proofs.ListLaws.{few_choices}
 use Rattle.count_laws.specs.ForwardStates.{ForwardState}
 use Rattle.fapp_model.specs.search.Prefixes.{IsPrefix}
 use Rattle.settle_laws.specs.Worlds.{world}
+use Rattle.settle_laws.proofs.Fewer.{copied-contents}
 use Rattle.std.specs.declared.alloc.AllocError.{AllocError}
 use Rattle.tries_laws.proofs.PrefixParts.{prefix-is_partial}
 use Rattle.settle_laws.proofs.TagCodes.{tag-small}
@@ -22,7 +23,7 @@ returns-in_err-found-clause-advanced g c =
     let after = world c.args.fuel.now.amount (g.B.Bound.state c.args.bound.now) (g.H.Shared.state c.args.shared.now) c.add_explained.new.log in
     subst (λ (s : ForwardState). IsAdvanced f.instance c.args.walk.now.level root from c.pop.new.self.items s.pushed after c.from_residual.result) (sym c.in_err-found.ensures.front)
     (advanced-err f.instance c.args.walk.now.level root from c.pop.new.self.items f.pushed after c.from_residual.result c.from_residual.ensures.0
-    (λ e. closes-ending f.instance c.args.walk.now.level root from prefix c.requires.ready.valid c.requires.ready.level c.pop.new.self.items c.pass_settled.new.node f.pushed now h (omega (arith, inner.trying.within, c.if-node.true)) c.add_explained.new.log (Err e) c.in_err-found.ensures.lined.0 c.in_err-found.ensures.lined.1 c.in_err-found.ensures.lined.2 tt))
+    (λ e. closes-ending f.instance c.args.walk.now.level root from prefix c.requires.ready.valid c.requires.ready.level c.pop.new.self.items c.pass_settled.new.node f.pushed now h (omega (arith, inner.trying.within, c.if-node.true)) c.add_explained.new.log (Err e) c.args.walk.now.seen.cites.items (copied-contents (g.H.Shared.state c.args.shared.now) c.args.walk.now.seen.cites.items (g.met.H.Shared.one_content c.args.shared.now) c.requires.held) c.in_err-found.ensures.lined.0 c.in_err-found.ensures.lined.1 c.in_err-found.ensures.lined.2 tt))
 
 pub returns-then-node-clause-advanced : goal.returns-then-node-clause-advanced
 returns-then-node-clause-advanced g c =
@@ -34,7 +35,7 @@ returns-then-node-clause-advanced g c =
     let inner = innermost f.instance c.args.walk.now.level root from prefix c.pop.new.self.items c.pass_settled.new.node f.pushed now h in
     let after = world c.args.fuel.now.amount (g.B.Bound.state c.args.bound.now) (g.H.Shared.state c.args.shared.now) c.add_explained.new.log in
     subst (λ (s : ForwardState). ComesTo {E = AllocError} f.instance c.args.walk.now.level root from c.pop.new.self.items s.pushed after (Ok c.in_ok-found.found)) (sym c.in_ok-found.ensures.front)
-    (closes-to f.instance c.args.walk.now.level root from prefix c.requires.ready.valid c.requires.ready.level c.pop.new.self.items c.pass_settled.new.node f.pushed now h (omega (arith, inner.trying.within, c.if-node.true)) c.add_explained.new.log (Ok c.in_ok-found.found) c.in_ok-found.ensures.lined.0 c.in_ok-found.ensures.lined.1 c.in_ok-found.ensures.lined.2)
+    (closes-to f.instance c.args.walk.now.level root from prefix c.requires.ready.valid c.requires.ready.level c.pop.new.self.items c.pass_settled.new.node f.pushed now h (omega (arith, inner.trying.within, c.if-node.true)) c.add_explained.new.log (Ok c.in_ok-found.found) c.args.walk.now.seen.cites.items (copied-contents (g.H.Shared.state c.args.shared.now) c.args.walk.now.seen.cites.items (g.met.H.Shared.one_content c.args.shared.now) c.requires.held) c.in_ok-found.ensures.lined.0 c.in_ok-found.ensures.lined.1 c.in_ok-found.ensures.lined.2)
 
 pub overflow_cast-node : goal.overflow_cast-node
 overflow_cast-node g c =

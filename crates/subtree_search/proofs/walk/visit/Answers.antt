@@ -6,6 +6,7 @@ use Rattle.tries_laws.proofs.PrefixParts.{prefix-is_partial}
 use Rattle.search_log.specs.LogStates.{LogState}
 use Rattle.settle_laws.specs.Worlds.{world}
 use Rattle.settle_laws.proofs.Ends.{full-searched, tick-ends, tick-starts, ticked-open}
+use Rattle.settle_laws.proofs.Fewer.{copied-noted}
 use Rattle.settle_laws.proofs.Keeping.{keeps-same}
 use Rattle.settle_laws.proofs.NextPaths.{next-short}
 use Rattle.subtree_search.specs.Looking.{LooksAhead}
@@ -115,3 +116,10 @@ returns-clause-visited g c =
       few = omega (arith, c.choice_count-count.ensures.few);
       took = omega (arith, ticked.took);
     })
+
+pub returns-in-Cited-clause-held : goal.returns-in-Cited-clause-held
+returns-in-Cited-clause-held g c = λ held. copied-noted (g.H.Shared.state c.enter.new.shared).copied c.args.walk.now.seen.cites.items c.note.new.self.cites.items c.in-Cited.cite
+    (c.in-Cited.ensures.copied c.args.walk.now.seen.cites.items held) (c.in-Cited.ensures.entry c.args.log.now).1 c.note.ensures
+
+pub returns-in-Cited-clause-visited : goal.returns-in-Cited-clause-visited
+returns-in-Cited-clause-visited g c = (refl, (c.in-Cited.ensures.entry c.args.log.now).0)
