@@ -1,5 +1,6 @@
 ghost use Rattle.accept_laws.specs.Answers.{AcceptanceIsProof, AcceptsByParts};
 ghost use Rattle.accept_laws.specs.Lines.{DeadIsJudged, GoodLinesAreImplied, JudgedIsDead};
+ghost use Rattle.accept_laws.specs.Renumbering.{GoodBehindOthers};
 ghost use Rattle.accept_laws.specs.ShownPlans.{FeasiblePlansAreWellShown, NoPlanHasNoFault};
 
 /// Literals that are judged dead are dead by one of the cases, with the excluded choices outside.
@@ -39,4 +40,9 @@ pub fn feasible_plans_are_well_shown()
 /// No plan at all has no fault where the verdict shows none.
 pub fn no_plan_has_no_fault()
     ensures { NoPlanHasNoFault }
+{}
+
+/// Good lines stay good behind other good lines, with cites that count these.
+pub fn good_behind_others()
+    ensures { GoodBehindOthers }
 {}

@@ -7,5 +7,5 @@ mod laws;
 
 pub use laws::{
     acceptance_is_proof, accepts_by_parts, dead_is_judged, feasible_plans_are_well_shown,
-    good_lines_are_implied, judged_is_dead, no_plan_has_no_fault,
+    good_behind_others, good_lines_are_implied, judged_is_dead, no_plan_has_no_fault,
 };

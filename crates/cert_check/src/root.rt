@@ -5,42 +5,11 @@ ghost use Rattle.std.specs.Option.{option_map};
 ghost use Rattle.fapp_model.specs.Tags.{is_tag};
 ghost use Rattle.cert_lines.specs.WellFormed.{IsVerdict, IsWellFormed};
 ghost use Rattle.cert_lines.specs.acceptance.LineFaults.{rejected_at};
-ghost use Rattle.cert_lines.specs.acceptance.RootFaults.{greater, with_line, root_tag, tag_for, verdict_tag, root_fault, root_fault_by};
+ghost use Rattle.cert_lines.specs.acceptance.RootFaults.{tag_for, verdict_tag, root_fault, root_fault_by};
 
 use crate::acceptance::rejected_at;
-use cert_lines::{Answer, Line, RejectCause, Rejected, Verdict};
+use cert_lines::{Answer, RejectCause, Rejected, Verdict, root_tag};
 use fapp_model::{Instance, MAX_LEVELS, Tag, Triple, levels, tag_of};
-
-fn greater(found: Option<Tag>, t: Tag) -> Tag
-    ensures { result ≡ greater found t }
-{
-    match found {
-        Some(u) => { if u.code < t.code { t } else { u } }
-        None => t,
-    }
-}
-
-fn with_line(found: Option<Tag>, line: &Line) -> Option<Tag>
-    ensures { result ≡ with_line found line.now }
-{
-    if line.lits.is_empty() {
-        Some(greater(found, line.tag))
-    } else {
-        found
-    }
-}
-
-/// The greatest tag of the lines without literals.
-#[tactic(auto, unfolding(cert_lines::specs::acceptance::RootFaults::root_tag))]
-fn root_tag(lines: &[Line]) -> Option<Tag>
-    ensures { result ≡ root_tag lines.now }
-{
-    let mut found = None;
-    for line in lines {
-        found = with_line(found, line);
-    }
-    found
-}
 
 fn tag_for(t: Triple) -> Tag
     requires { IsTrue (is_tag MAX_LEVELS t) }

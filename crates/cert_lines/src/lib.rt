@@ -12,6 +12,7 @@ mod lists;
 mod plan;
 mod reading;
 mod reject;
+mod root;
 mod text;
 mod verdict;
 mod writing;
@@ -22,6 +23,7 @@ pub use fault::{AnswerError, BadCert, CertCause};
 pub use laws::{fault_behind, in_parts, no_fault, one_text, reads_back, text_of_answer};
 pub use reading::read_answer;
 pub use reject::{RejectCause, Rejected};
+pub use root::root_tag;
 pub use writing::{head_text, lines_text, plan_text, verdict_text, write_answer};
 
 #[cfg(test)]

@@ -15,19 +15,20 @@ use Rattle.merge_laws.specs.declared.piece.Piece.{Piece}
 use Rattle.merge_laws.specs.GoodLogs.{AreByRow, all_lines, piece_of, pieces_from, pieces_of}
 use Rattle.merge_laws.specs.Pieces.{emit_pieces, emit_rests}
 use Rattle.merge_laws.specs.Stages.{Merged, done_of, lines_of, start}
+use Rattle.merge_laws.proofs.Starting.{length-placed}
 use Rattle.cert_merge.specs.Growth.{AreLeft, IsGathered, IsWithin}
 
-start-done : (arcs : List Line) (logs rows log : ℕ) → 0 ≡ done_of (start arcs logs rows) log
-start-done arcs logs rows log = ⊎_elim
+start-done : (out : List Line) (placed : List (ℕ × ℕ)) (logs rows log : ℕ) → 0 ≡ done_of (start out placed logs rows) log
+start-done out placed logs rows log = ⊎_elim
     (λ (l : log < logs). sym (ap length (get_or-replicate logs log [] [] l)))
     (λ (l : logs ≤ log). sym (ap length (get_or_past (replicate logs []) log [] (omega (arith, length-replicate {A = List ℕ} logs [])))))
     (cases_lt log logs)
 
 -- all lines are left at the start
-pub left-at-start : (logs : List (List LogLine)) (arcs : List Line) (count rows : ℕ) (s : Merged) → s ≡ start arcs count rows → AreLeft logs s logs
-left-at-start logs arcs count rows s is = subst (λ (v : Merged). AreLeft logs v logs) (sym is) (record {
+pub left-at-start : (logs : List (List LogLine)) (out : List Line) (placed : List (ℕ × ℕ)) (count rows : ℕ) (s : Merged) → s ≡ start out placed count rows → AreLeft logs s logs
+left-at-start logs out placed count rows s is = subst (λ (v : Merged). AreLeft logs v logs) (sym is) (record {
   count = refl;
-  each = λ log. ap (λ n. drop n (lines_of logs log)) (start-done arcs count rows log);
+  each = λ log. ap (λ n. drop n (lines_of logs log)) (start-done out placed count rows log);
 })
 
 pieces-inside : (logs : List LogState) (from : ℕ) → All (λ p. p.log < from + length logs) (pieces_from from logs)
@@ -41,26 +42,27 @@ moved : (P : Piece → Type 0) (xs ys : List Piece) → IsPermutation xs ys → 
 moved P xs ys same h = All-from_members P ys (λ y m. All-contains P xs y h (Contains-permutation ys xs y (IsPermutation-sym xs ys same) m))
 
 -- there is room for each segment
-pub pieces-within : (logs : List LogState) (pieces : List Piece) (arcs : List Line) (count room : ℕ) (s : Merged) → IsPermutation (pieces_of logs) pieces → All (λ p. p.row < room) pieces →
-    count ≡ length logs → s ≡ start arcs count room → All (IsWithin s) pieces
-pieces-within logs pieces arcs count room s same fits many is k d l =
+pub pieces-within : (logs : List LogState) (pieces : List Piece) (out : List Line) (placed : List (ℕ × ℕ)) (count room : ℕ) (s : Merged) → IsPermutation (pieces_of logs) pieces → All (λ p. p.row < room) pieces →
+    count ≡ length logs → s ≡ start out placed count room → All (IsWithin s) pieces
+pieces-within logs pieces out placed count room s same fits many is k d l =
     let low = moved (λ (p : Piece). p.log < 0 + length logs) (pieces_of logs) pieces same (pieces-inside logs 0) k d l in
     let logs_room = length-replicate {A = List ℕ} count [] in
-    let rows_room = length-replicate {A = ℕ} room 0 in
+    let rows_room = length-placed placed (replicate room 0) ∙ length-replicate {A = ℕ} room 0 in
     let row = fits k d l in
     subst (λ (v : Merged). IsWithin v (get_or pieces k d)) (sym is) (record { log = omega arith; row = omega arith })
 
 -- one call after another
-pub gathered-is : (arcs : List Line) (logs : List LogState) (pieces : List Piece) (count room : ℕ) (s t u : Merged) → AreByRow logs pieces → All (λ p. p.row < room) pieces → count ≡ length logs →
-    s ≡ start arcs count room → t ≡ emit_pieces (all_lines logs) pieces s → u ≡ emit_rests (all_lines logs) (range_with_len 0 (length (all_lines logs))) t → IsGathered arcs logs u
-gathered-is arcs logs pieces count room s t u by_row fits many is pieces_is rests_is = record {
+pub gathered-is : (old : List Line) (placed : List (ℕ × ℕ)) (arcs : List Line) (logs : List LogState) (pieces : List Piece) (count room : ℕ) (s t u : Merged) → AreByRow logs pieces → All (λ p. p.row < room) pieces → All (λ p. p.0 < room) placed → count ≡ length logs →
+    s ≡ start (old ++ arcs) placed count room → t ≡ emit_pieces (all_lines logs) pieces s → u ≡ emit_rests (all_lines logs) (range_with_len 0 (length (all_lines logs))) t → IsGathered old placed arcs logs u
+gathered-is old placed arcs logs pieces count room s t u by_row fits placed_fit many is pieces_is rests_is = record {
   pieces = pieces;
   by_row = by_row;
   room = room;
   fits = fits;
+  placed_fit = placed_fit;
   is = rests_is ∙ ap (λ v. emit_rests (all_lines logs) (range_with_len 0 (length (all_lines logs))) v)
       (pieces_is ∙ ap (λ v. emit_pieces (all_lines logs) pieces v)
-      (is ∙ ap (λ n. start arcs n room) (many ∙ sym (length-map logs (λ (log : LogState). log.lines)))));
+      (is ∙ ap (λ n. start (old ++ arcs) placed n room) (many ∙ sym (length-map logs (λ (log : LogState). log.lines)))));
 }
 
 -- ---- logs taken apart

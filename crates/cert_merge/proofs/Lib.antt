@@ -5,3 +5,4 @@ pub mod Trees
 pub mod Gatherings
 pub mod PlanSteps
 pub mod Ends
+pub mod PlacedRows

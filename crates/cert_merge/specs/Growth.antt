@@ -42,13 +42,14 @@ pub record AreLeft (logs : List (List LogLine)) (s : Merged) (rests : List (List
   pub count : length rests ≡ length logs
   pub each : (log : ℕ) → lines_of rests log ≡ drop (done_of s log) (lines_of logs log)
 
--- the arc lines, the segments of the logs by row and the rests of the logs
-pub record IsGathered (arcs : List Line) (logs : List LogState) (s : Merged) : Type 0 where
+-- the old lines, the arc lines, the segments of the logs by row and the rests of the logs
+pub record IsGathered (old : List Line) (placed : List (ℕ × ℕ)) (arcs : List Line) (logs : List LogState) (s : Merged) : Type 0 where
   pub pieces : List Piece
   pub by_row : AreByRow logs pieces
   pub room : ℕ
   pub fits : All (λ p. p.row < room) pieces
-  pub is : s ≡ gathered arcs (all_lines logs) pieces room
+  pub placed_fit : All (λ p. p.0 < room) placed
+  pub is : s ≡ gathered (old ++ arcs) placed (all_lines logs) pieces room
 
 -- a step has as many choices as its path
 abbrev pub IsStepOf : Instance → Step → Type 0

@@ -1,10 +1,11 @@
-// The tag that a verdict claims.
+// The tag that a verdict claims, and root lines that have it.
 ghost use Rattle.std.specs.Prelude.{◌≡◌, IsTrue};
 ghost use Rattle.fapp_model.specs.Tags.{is_tag};
 ghost use Rattle.cert_lines.specs.WellFormed.{IsVerdict};
 ghost use Rattle.cert_lines.specs.acceptance.RootFaults.{tag_for, verdict_tag};
+ghost use Rattle.merge_laws.specs.OldRoots.{is_rooted};
 
-use cert_lines::Verdict;
+use cert_lines::{Line, Verdict, root_tag};
 use fapp_model::{Instance, MAX_LEVELS, Tag, Triple, levels, tag_of};
 
 fn tag_for(t: Triple) -> Tag
@@ -27,5 +28,15 @@ pub(crate) fn verdict_tag(instance: &Instance, verdict: &Verdict) -> Tag
             s: 0,
         }),
         Verdict::Open { lower, .. } => *lower,
+    }
+}
+
+/// Whether a root line has at least a tag.
+pub(crate) fn is_rooted(tag: Tag, lines: &[Line]) -> bool
+    ensures { result ≡ is_rooted tag lines.now }
+{
+    match root_tag(lines) {
+        None => false,
+        Some(found) => tag.code <= found.code,
     }
 }

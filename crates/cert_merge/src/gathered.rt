@@ -7,6 +7,7 @@ ghost use Rattle.merge_laws.specs.Stages.{emit_all};
 ghost use Rattle.cert_merge.specs.Growth.{AreLeft, IsGathered, IsSameRoom, IsWithin};
 
 use crate::merged::Certificate;
+use crate::old_rows::room_of_placed;
 use crate::remainder::Remainder;
 use crate::segments::{Parts, parted, room_of, sort_by_row};
 use cert_lines::Line;
@@ -80,20 +81,37 @@ impl Certificate {
     }
 }
 
-/// The arc lines, then the segments of the logs by row, then what is left of each log.
+/// Room for the rows of segments and for the placed ones.
+fn room_for(pieces: &[Piece], placed: &[(u32, u32)]) -> usize
+    ensures pieces { All (λ p. p.row < result) pieces.now }
+    ensures placed { All (λ p. p.0 < result) placed.now }
+{
+    let by_segments = room_of(pieces);
+    let by_lines = room_of_placed(placed);
+    if by_segments < by_lines {
+        by_lines
+    } else {
+        by_segments
+    }
+}
+
+/// The old lines, the arc lines, then the segments of the logs by row, then what is left of each log.
 pub(crate) fn gathered(
     alloc: Global,
+    old: &[Line],
+    placed: &[(u32, u32)],
     arcs: &[Line],
     logs: Vec<Log>,
 ) -> Result<Certificate, NoMemory>
-    ensures { IfOk result (IsGathered arcs.now logs.items) }
+    ensures { IfOk result (IsGathered old.now placed.now arcs.now logs.items) }
 {
     let Parts {
         mut rests,
         mut pieces,
     } = parted(alloc, logs)?;
     sort_by_row(&mut pieces);
-    let mut merged = Certificate::start(alloc, arcs, rests.len(), room_of(&pieces))?;
+    let room = room_for(&pieces, placed);
+    let mut merged = Certificate::start(alloc, old, placed, arcs, rests.len(), room)?;
     merged.write_pieces(&mut rests, &pieces)?;
     merged.write_rests(&mut rests)?;
     Ok(merged)

@@ -6,10 +6,11 @@ mod copies;
 mod gathered;
 mod levels;
 mod merged;
+mod old_rows;
 mod prefixes;
 mod remainder;
 mod segments;
 mod tree;
 mod whole;
 
-pub use whole::merge;
+pub use whole::{merge, merge_after};

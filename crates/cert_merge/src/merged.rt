@@ -1,11 +1,12 @@
 // A certificate that grows by the lines of logs.
-ghost use Rattle.std.specs.Prelude.{◌≡◌, ◌+◌, ◌<◌, ◌≤◌, [], ◌∷◌, ◌++◌, length, replicate, flat_map, slice_index_or, IfOk, OnOk};
+ghost use Rattle.std.specs.Prelude.{◌≡◌, ◌+◌, ◌<◌, ◌≤◌, [], ◌∷◌, ◌++◌, length, replicate, flat_map, slice_index_or, All, IfOk, OnOk};
 ghost use Rattle.fapp_model.specs.declared.limits.TheConstants.{MAX_NUMBER};
 ghost use Rattle.merge_laws.specs.Stages.{done_of, emit, land, noted, number_of, start};
 ghost use Rattle.merge_laws.specs.Written.{written_child};
-ghost use Rattle.cert_merge.specs.Growth.{with_line};
+ghost use Rattle.cert_merge.specs.Growth.{with_line, with_out};
 
 use crate::copies::copy_of;
+use crate::old_rows::rows_with;
 use cert_lines::{Child, Line, Rule};
 use fapp_model::{Items, MAX_NUMBER, NoMemory};
 use log_laws::{ChoiceRef, LogLine, Ref};
@@ -35,24 +36,49 @@ impl Model for Certificate {
 }
 
 impl Certificate {
-    /// The arc lines, with room for the numbers of so many logs and rows.
+    /// No line, with room for the numbers of so many logs and rows, of which some are placed.
+    pub(crate) fn empty(
+        alloc: Global,
+        placed: &[(u32, u32)],
+        logs: usize,
+        rows: usize,
+    ) -> Result<Certificate, NoMemory>
+        requires { All (λ p. p.0 < rows) placed.now }
+        ensures { IfOk result (λ merged. merged ≡ start [] placed.now logs rows) }
+    {
+        Ok(Certificate {
+            alloc,
+            lines: Vec::new(alloc),
+            own: no_numbers(alloc, logs)?,
+            rows: rows_with(alloc, placed, rows)?,
+        })
+    }
+
+    /// Adds copies of some lines.
+    pub(crate) fn add_copies(&mut self, lines: &[Line]) -> Result<(), NoMemory>
+        ensures { OnOk result (self.new ≡ with_out self.old (self.old.out ++ lines.now)) }
+    {
+        for line in lines {
+            self.add(copy_of(self.alloc, line)?)?;
+        }
+        Ok(())
+    }
+
+    /// The old lines and the arc lines, with room for the numbers of so many logs and rows, of which some are placed.
     pub(crate) fn start(
         alloc: Global,
+        old: &[Line],
+        placed: &[(u32, u32)],
         arcs: &[Line],
         logs: usize,
         rows: usize,
     ) -> Result<Certificate, NoMemory>
-        ensures { IfOk result (λ merged. merged ≡ start arcs.now logs rows) }
+        requires { All (λ p. p.0 < rows) placed.now }
+        ensures { IfOk result (λ merged. merged ≡ start (old.now ++ arcs.now) placed.now logs rows) }
     {
-        let mut merged = Certificate {
-            alloc,
-            lines: Vec::new(alloc),
-            own: no_numbers(alloc, logs)?,
-            rows: vec![in alloc; 0; rows]?,
-        };
-        for line in arcs {
-            merged.add(copy_of(alloc, line)?)?;
-        }
+        let mut merged = Certificate::empty(alloc, placed, logs, rows)?;
+        merged.add_copies(old)?;
+        merged.add_copies(arcs)?;
         Ok(merged)
     }
 

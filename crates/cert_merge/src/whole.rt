@@ -1,13 +1,13 @@
 // The whole certificate.
-ghost use Rattle.std.specs.Prelude.{◌≡◌, ℕ, ◌≤◌, [], ◌∷◌, length, IfOk};
+ghost use Rattle.std.specs.Prelude.{◌≡◌, ℕ, ◌≤◌, [], ◌∷◌, ◌++◌, length, IfOk};
 ghost use Rattle.fapp_model.specs.Instances.{IsNumber};
 ghost use Rattle.fapp_model.specs.search.Jobs.{job_count};
 ghost use Rattle.merge_laws.specs.Certificates.{finished};
-ghost use Rattle.merge_laws.specs.Conditions.{IsMergeable};
+ghost use Rattle.merge_laws.specs.Conditions.{IsMergeable, IsMergeableAfter};
 ghost use Rattle.merge_laws.specs.Levels.{root_line};
-ghost use Rattle.merge_laws.specs.MergedLines.{IsCertificate, IsCertificateAt, IsMerged};
+ghost use Rattle.merge_laws.specs.MergedLines.{IsCertificate, IsCertificateAfter, IsCertificateAfterAt, IsMerged, IsMergedAfter};
 
-use crate::claim::verdict_tag;
+use crate::claim::{is_rooted, verdict_tag};
 use crate::gathered::gathered;
 use crate::merged::Certificate;
 use arc_levels::ArcTable;
@@ -44,14 +44,48 @@ pub fn merge(
     ensures order { IfOk result (λ lines. IsCertificate plan.now.instance plan.now.split logs.items collected.now verdict.now lines.items) }
     ensures accepted { IfOk result (λ lines. IsMerged plan.now.instance plan.now.split logs.items verdict.now lines.items) }
 {
+    let lines = merge_after(alloc, &[], &[], arcs, logs, plan, collected, verdict)?;
+    Ok(lines)
+}
+
+/// One certificate like that of `merge`, behind old lines, which stay first and unchanged. Placed rows are given as pairs of
+/// a row and the number, from 1, of an old line that has its literals and its tag. Logs and outcomes may cite them, as they
+/// cite the rows that the logs call home.
+///
+/// Where an old root line, which has no literals, has at least the verdict's tag, the old lines stand alone. Else, at the tag
+/// (0, 0, 0), one root line without cites comes behind them. The further lines are at most as many as the choices, the lists
+/// of choices along the prefixes, the Branch lines of the logs, and one.
+///
+/// The old lines are well formed and good in their order. Each row is home once or placed once, and not both. The rest is as
+/// for `merge`; but the verdict's rule takes the greatest tag of an old root line in place of the arcs' root tag where that
+/// tag is greater.
+///
+/// NoMemory also comes where there would be more than 1,000,000,000 lines, the old ones counted, or 2^32 logs or more.
+pub fn merge_after(
+    alloc: Global,
+    old: &[Line],
+    placed: &[(u32, u32)],
+    arcs: &ArcTable,
+    logs: Vec<Log>,
+    plan: &Plan,
+    collected: &Collected,
+    verdict: &Verdict,
+) -> Result<Vec<Line>, NoMemory>
+    requires arcs { arcs.now ≡ plan.now.instance }
+    requires mergeable { (word : ℕ) × IsMergeableAfter plan.now.instance plan.now.split old.now placed.now logs.items collected.now word verdict.now }
+    ensures order { IfOk result (λ lines. IsCertificateAfter plan.now.instance plan.now.split old.now placed.now logs.items collected.now verdict.now lines.items) }
+    ensures accepted { IfOk result (λ lines. IsMergedAfter plan.now.instance plan.now.split old.now logs.items verdict.now lines.items) }
+{
     let tag = verdict_tag(plan.instance(), verdict);
-    let lines = certificate_at(alloc, arcs, logs, plan, collected, tag)?;
+    let lines = certificate_at(alloc, old, placed, arcs, logs, plan, collected, tag)?;
     Ok(lines)
 }
 
 /// The certificate at a tag.
 fn certificate_at(
     alloc: Global,
+    old: &[Line],
+    placed: &[(u32, u32)],
     arcs: &ArcTable,
     logs: Vec<Log>,
     plan: &Plan,
@@ -60,25 +94,41 @@ fn certificate_at(
 ) -> Result<Vec<Line>, NoMemory>
     requires arcs { arcs.now ≡ plan.now.instance }
     requires planned { length collected.now ≡ job_count plan.now.instance plan.now.split }
-    ensures order { IfOk result (λ lines. IsCertificateAt plan.now.instance plan.now.split logs.items collected.now tag lines.items) }
+    ensures order { IfOk result (λ lines. IsCertificateAfterAt plan.now.instance plan.now.split old.now placed.now logs.items collected.now tag lines.items) }
     ensures few { IfOk result (λ lines. IsNumber (length lines.items)) }
 {
-    if tag.code == 0 {
-        let lines = only_root(alloc, tag)?;
+    if is_rooted(tag, old) {
+        let lines = old_alone(alloc, old)?;
         return Ok(lines);
     }
-    let merged = gathered(alloc, arcs.lines(), logs)?;
+    if tag.code == 0 {
+        let lines = old_and_root(alloc, old, tag)?;
+        return Ok(lines);
+    }
+    let merged = gathered(alloc, old, placed, arcs.lines(), logs)?;
     let lines = finished(alloc, merged, plan, collected, tag, arcs.root_tag())?;
     Ok(lines)
 }
 
-/// The root line alone.
-fn only_root(alloc: Global, tag: Tag) -> Result<Vec<Line>, NoMemory>
-    ensures { IfOk result (λ lines. lines.items ≡ root_line tag ∷ []) }
+/// The old lines alone.
+fn old_alone(alloc: Global, old: &[Line]) -> Result<Vec<Line>, NoMemory>
+    ensures value { IfOk result (λ lines. lines.items ≡ old.now) }
+    ensures few { IfOk result (λ lines. IsNumber (length lines.items)) }
 {
-    let mut lines = Vec::with_capacity(alloc, 1)?;
-    lines.push(root_line(alloc, tag))?;
-    Ok(lines)
+    let mut merged = Certificate::empty(alloc, &[], 0, 0)?;
+    merged.add_copies(old)?;
+    Ok(merged.into_lines())
+}
+
+/// The old lines and the root line.
+fn old_and_root(alloc: Global, old: &[Line], tag: Tag) -> Result<Vec<Line>, NoMemory>
+    ensures value { IfOk result (λ lines. lines.items ≡ old.now ++ root_line tag ∷ []) }
+    ensures few { IfOk result (λ lines. IsNumber (length lines.items)) }
+{
+    let mut merged = Certificate::empty(alloc, &[], 0, 0)?;
+    merged.add_copies(old)?;
+    merged.add(root_line(alloc, tag))?;
+    Ok(merged.into_lines())
 }
 
 /// The Count line without literals and cites.

@@ -1,11 +1,10 @@
 -- A certificate grows by one line for each Branch line of the logs at most, each of a tag above (0, 0, 0).
-use Rattle.std.proofs.Common.{◌≡◌, ℕ, zero, suc, ◌+◌, ◌-◌, ◌<◌, ◌≤◌, Bool, true, false, List, [], ◌∷◌, ◌++◌, length, count_by, take, drop, get_or, replicate, refl, ap, subst, ◌∙◌, arith, Option, None, Some, All, Contains, eqb, cond}
+use Rattle.std.proofs.Common.{◌≡◌, ℕ, zero, suc, ◌+◌, ◌-◌, ◌<◌, ◌≤◌, Bool, true, false, List, [], ◌∷◌, ◌++◌, length, count_by, take, drop, get_or, replicate, refl, ap, subst, ◌∙◌, arith, Option, None, Some, Contains, eqb, cond}
 use Rattle.std.specs.List.{range_with_len, slice_get}
 use Rattle.std.proofs.lemmas.Bool.{eqb-false}
 use Rattle.std.proofs.lemmas.List.{length_push, length-replicate, length-set}
 use Rattle.std.proofs.lemmas.List.Sums.{count_by_more_no, count_by_more_yes, sum_by-cons, sum_by-take-le}
 use Rattle.std.proofs.lemmas.Option.{get_or_from_slice_get, slice_get_within}
-use Rattle.std.proofs.lemmas.List.Elements.{All-push}
 use Rattle.fapp_model.proofs.Members.{at_front, behind, from-range}
 use Rattle.cert_lines.specs.declared.answer.Line.{Line}
 use Rattle.log_laws.specs.declared.line.LogLine.{LogLine}
@@ -50,44 +49,44 @@ noted-branches (numbers ∷ own) (lines ∷ logs) zero n line b inside e is =
 noted-branches (numbers ∷ own) (lines ∷ logs) (suc log) n line b inside e is =
     let rest = noted-branches own logs log n line b (omega arith) e is in omega arith
 
--- at most the Branch lines that are done were written, and each line's tag is above (0, 0, 0)
-pub record IsBounded (logs : List (List LogLine)) (begun : ℕ) (s : Merged) : Type 0 where
+-- at most the Branch lines that are done were written, and what stays with each further line above (0, 0, 0) holds
+pub record IsBounded (Q : List Line → Type 0) (logs : List (List LogLine)) (begun : ℕ) (s : Merged) : Type 0 where
   pub logs_are : length s.own ≡ length logs
   pub few : length s.out ≤ begun + branches_done s.own logs
-  pub above : All (λ line. 0 < line.tag.code) s.out
+  pub kept : Q s.out
 
-module _ (logs : List (List LogLine)) (begun : ℕ) where
-  module _ (s : Merged) (h : IsBounded logs begun s) (log : ℕ) (line : LogLine) (inside : log < length s.own) (at : slice_get (lines_of logs log) (done_of s log) ≡ Some line) where
-    leaves : IsBounded logs begun (left_out log s)
+module _ (Q : List Line → Type 0) (grows : (out : List Line) (line : Line) → 0 < line.tag.code → Q out → Q (out ++ line ∷ [])) (logs : List (List LogLine)) (begun : ℕ) where
+  module _ (s : Merged) (h : IsBounded Q logs begun s) (log : ℕ) (line : LogLine) (inside : log < length s.own) (at : slice_get (lines_of logs log) (done_of s log) ≡ Some line) where
+    leaves : IsBounded Q logs begun (left_out log s)
     leaves = record {
       logs_are = length-set s.own log (get_or s.own log [] ++ 0 ∷ []) ∙ h.logs_are;
       few = (let e = noted-branches s.own logs log 0 line (is_branch_path line.path) inside at refl in let f = h.few in omega arith);
-      above = h.above;
+      kept = h.kept;
     }
 
-    writes : (path : ℕ) → line.path ≡ Some path → 0 < line.tag.code → IsBounded logs begun (emit_branch log line path s)
+    writes : (path : ℕ) → line.path ≡ Some path → 0 < line.tag.code → IsBounded Q logs begun (emit_branch log line path s)
     writes path is some = record {
       logs_are = length-set s.own log (get_or s.own log [] ++ (length s.out + 1) ∷ []) ∙ h.logs_are;
       few =
           (let e = noted-branches s.own logs log (length s.out + 1) line true inside at (ap is_branch_path is) in
           let f = h.few in
           let one = length_push s.out (written (number_of s log) path line) in omega arith);
-      above = All-push (λ (l : Line). 0 < l.tag.code) s.out (written (number_of s log) path line) h.above some;
+      kept = grows s.out (written (number_of s log) path line) some h.kept;
     }
 
-    by_tag : (path : ℕ) → line.path ≡ Some path → (b : Bool) → eqb line.tag.code 0 ≡ b → IsBounded logs begun (let m : Merged = cond b (left_out log s) (emit_branch log line path s) in m)
+    by_tag : (path : ℕ) → line.path ≡ Some path → (b : Bool) → eqb line.tag.code 0 ≡ b → IsBounded Q logs begun (let m : Merged = cond b (left_out log s) (emit_branch log line path s) in m)
     by_tag path is true e = leaves
     by_tag path is false e = writes path is (let apart = eqb-false line.tag.code 0 e in omega arith)
 
-    by_path : (o : Option ℕ) → line.path ≡ o → IsBounded logs begun (emit_by log line s o)
+    by_path : (o : Option ℕ) → line.path ≡ o → IsBounded Q logs begun (emit_by log line s o)
     by_path None is = leaves
     by_path (Some path) is = by_tag path is (eqb line.tag.code 0) refl
 
-    line-bounded : IsBounded logs begun (emit log line s)
+    line-bounded : IsBounded Q logs begun (emit log line s)
     line-bounded = by_path line.path refl
 
-  run-bounded : (these : List LogLine) (s : Merged) (log : ℕ) → log < length logs → IsBounded logs begun s →
-      ((k : ℕ) (line : LogLine) → slice_get these k ≡ Some line → slice_get (lines_of logs log) (done_of s log + k) ≡ Some line) → IsBounded logs begun (emit_all log these s)
+  run-bounded : (these : List LogLine) (s : Merged) (log : ℕ) → log < length logs → IsBounded Q logs begun s →
+      ((k : ℕ) (line : LogLine) → slice_get these k ≡ Some line → slice_get (lines_of logs log) (done_of s log + k) ≡ Some line) → IsBounded Q logs begun (emit_all log these s)
   run-bounded [] s log inside h from = h
   run-bounded (line ∷ more) s log inside h from = run-bounded more (emit log line s) log inside
       (line-bounded s h log line here (subst (λ m. slice_get (lines_of logs log) m ≡ Some line) first (from 0 line refl)))
@@ -102,17 +101,17 @@ module _ (logs : List (List LogLine)) (begun : ℕ) where
       first : done_of s log + 0 ≡ done_of s log
       first = omega arith
 
-  piece-bounded : (s : Merged) (p : Piece) → p.log < length logs → IsBounded logs begun s → IsBounded logs begun (emit_piece logs p s)
+  piece-bounded : (s : Merged) (p : Piece) → p.log < length logs → IsBounded Q logs begun s → IsBounded Q logs begun (emit_piece logs p s)
   piece-bounded s p inside h =
       let r = run-bounded (left_to logs s p.log (p.last + 1)) s p.log inside h
       (λ k line g. from-dropped (lines_of logs p.log) (done_of s p.log) k line (get-take (drop (done_of s p.log) (lines_of logs p.log)) (p.last + 1 - done_of s p.log) k line g).1) in
-      record { logs_are = r.logs_are; few = r.few; above = r.above }
+      record { logs_are = r.logs_are; few = r.few; kept = r.kept }
 
-  pieces-bounded : (pieces : List Piece) (s : Merged) → ((p : Piece) → Contains pieces p → p.log < length logs) → IsBounded logs begun s → IsBounded logs begun (emit_pieces logs pieces s)
+  pieces-bounded : (pieces : List Piece) (s : Merged) → ((p : Piece) → Contains pieces p → p.log < length logs) → IsBounded Q logs begun s → IsBounded Q logs begun (emit_pieces logs pieces s)
   pieces-bounded [] s inside h = h
   pieces-bounded (p ∷ ps) s inside h = pieces-bounded ps (emit_piece logs p s) (λ q m. inside q (behind p ps q m)) (piece-bounded s p (inside p (at_front p ps)) h)
 
-  rests-bounded : (these : List ℕ) (s : Merged) → ((log : ℕ) → Contains these log → log < length logs) → IsBounded logs begun s → IsBounded logs begun (emit_rests logs these s)
+  rests-bounded : (these : List ℕ) (s : Merged) → ((log : ℕ) → Contains these log → log < length logs) → IsBounded Q logs begun s → IsBounded Q logs begun (emit_rests logs these s)
   rests-bounded [] s inside h = h
   rests-bounded (log ∷ more) s inside h = rests-bounded more (emit_rest logs log s) (λ l m. inside l (behind log more l m))
       (run-bounded (drop (done_of s log) (lines_of logs log)) s log (inside log (at_front log more)) h (λ k line g. from-dropped (lines_of logs log) (done_of s log) k line g))
@@ -122,17 +121,17 @@ none-begun zero logs = refl
 none-begun (suc n) [] = refl
 none-begun (suc n) (lines ∷ logs) = let rest = none-begun n logs in omega arith
 
-start-bounded : (arcs : List Line) (logs : List (List LogLine)) (room : ℕ) → All (λ line. 0 < line.tag.code) arcs → IsBounded logs (length arcs) (start arcs (length logs) room)
-start-bounded arcs logs room above = record {
+start-bounded : (Q : List Line → Type 0) (out : List Line) (placed : List (ℕ × ℕ)) (logs : List (List LogLine)) (room : ℕ) → Q out → IsBounded Q logs (length out) (start out placed (length logs) room)
+start-bounded Q out placed logs room kept = record {
   logs_are = length-replicate (length logs) [];
   few = (let e = none-begun (length logs) logs in omega arith);
-  above = above;
+  kept = kept;
 }
 
-pub gathered-bounded : (arcs : List Line) (logs : List (List LogLine)) (pieces : List Piece) (room : ℕ) → All (λ line. 0 < line.tag.code) arcs → ((p : Piece) → Contains pieces p → p.log < length logs) → IsBounded logs (length arcs) (gathered arcs logs pieces room)
-gathered-bounded arcs logs pieces room above inside =
-    rests-bounded logs (length arcs) (range_with_len 0 (length logs)) (emit_pieces logs pieces (start arcs (length logs) room)) (λ log m. from-range (length logs) log m)
-    (pieces-bounded logs (length arcs) pieces (start arcs (length logs) room) inside (start-bounded arcs logs room above))
+pub gathered-bounded : (Q : List Line → Type 0) → ((out : List Line) (line : Line) → 0 < line.tag.code → Q out → Q (out ++ line ∷ [])) → (out : List Line) (placed : List (ℕ × ℕ)) (logs : List (List LogLine)) (pieces : List Piece) (room : ℕ) → Q out → ((p : Piece) → Contains pieces p → p.log < length logs) → IsBounded Q logs (length out) (gathered out placed logs pieces room)
+gathered-bounded Q grows out placed logs pieces room kept inside =
+    rests-bounded Q grows logs (length out) (range_with_len 0 (length logs)) (emit_pieces logs pieces (start out placed (length logs) room)) (λ log m. from-range (length logs) log m)
+    (pieces-bounded Q grows logs (length out) pieces (start out placed (length logs) room) inside (start-bounded Q out placed logs room kept))
 
 -- ---- the Branch lines of all logs
 

@@ -1,5 +1,5 @@
 -- The arc lines, the segments and the rests of logs, as a whole: all is good, and whatever is cited has its fate.
-use Rattle.std.proofs.Common.{◌≡◌, ℕ, ◌<◌, ◌≤◌, List, [], ◌∷◌, length, drop, take, sym, subst, ⊎_elim, arith, Some, All, Contains, eqb}
+use Rattle.std.proofs.Common.{◌≡◌, ◌≢◌, ℕ, ◌<◌, ◌≤◌, List, [], ◌∷◌, ◌++◌, length, drop, take, sym, subst, ⊎_elim, arith, Some, All, AllPairs, Contains, eqb}
 use Rattle.std.specs.List.{range_with_len, slice_get}
 use Rattle.std.proofs.lemmas.Bool.{cases_Bool, eqb-true, eqb-false}
 use Rattle.std.proofs.lemmas.List.{length-drop}
@@ -19,8 +19,10 @@ use Rattle.merge_laws.specs.Certificates.{gathered}
 use Rattle.merge_laws.specs.Fates.{IsFate}
 use Rattle.merge_laws.specs.Pieces.{emit_pieces, emit_rest, emit_rests}
 use Rattle.merge_laws.specs.Stages.{Merged, done_of, lines_of, number_of, start}
-use Rattle.merge_laws.proofs.Staged.{IsStage}
-use Rattle.merge_laws.proofs.LogFacts.{AreLogFacts}
+use Rattle.merge_laws.specs.Conditions.{AreOld}
+use Rattle.merge_laws.specs.GoodLogs.{IsPlacedIn}
+use Rattle.merge_laws.proofs.Staged.{IsDoneRow, IsStage}
+use Rattle.merge_laws.proofs.LogFacts.{AreLogFacts, placed_numbers}
 use Rattle.merge_laws.proofs.SegmentOrder.{all-done, sorted-in-order}
 use Rattle.merge_laws.proofs.StageSteps.{IsDoneAfter, IsReady}
 use Rattle.merge_laws.proofs.Starting.{start-stage}
@@ -63,29 +65,32 @@ module _ (logs : List (List LogLine)) where
 
 -- ---- the whole
 
-module _ (instance : Instance) (rows : List KnownRow) (logs : List (List LogLine)) (pieces : List Piece) (arcs : List Line) (room : ℕ) (valid : IsInstance instance) (lined : AreArcLines instance arcs) (facts : AreLogFacts instance rows logs pieces)
-    (fits : All (λ (row : KnownRow). row.number < room) rows) where
+module _ (instance : Instance) (rows : List KnownRow) (logs : List (List LogLine)) (pieces : List Piece) (arcs : List Line) (room : ℕ) (valid : IsInstance instance) (lined : AreArcLines instance arcs) (old : List Line) (old_are : AreOld instance old) (placed : List (ℕ × ℕ)) (facts : AreLogFacts instance rows logs (placed_numbers placed) pieces)
+    (fits : All (λ (row : KnownRow). row.number < room) rows) (said : (row : KnownRow) → Contains rows row → Contains (placed_numbers placed) row.number → IsPlacedIn old placed row) (once : AllPairs (λ p q. p.0 ≢ q.0) placed) where
+  abbrev done : List ℕ
+  done = placed_numbers placed
+
   abbrev pub pooled : ℕ
   pooled = pooled_at_end 0 pieces
 
   abbrev pub segmented : Merged
-  segmented = emit_pieces logs pieces (start arcs (length logs) room)
+  segmented = emit_pieces logs pieces (start (old ++ arcs) placed (length logs) room)
 
   abbrev pub whole : Merged
-  whole = gathered arcs logs pieces room
+  whole = gathered (old ++ arcs) placed logs pieces room
 
-  segmented-stage : IsStage instance rows logs pooled segmented
-  segmented-stage = pieces-stage instance rows logs valid pieces 0 (start arcs (length logs) room) (start-stage instance arcs valid lined rows logs room fits) (sorted-in-order instance rows logs pieces facts)
+  segmented-stage : IsStage instance rows logs done pooled segmented
+  segmented-stage = pieces-stage instance rows logs valid done pieces 0 (start (old ++ arcs) placed (length logs) room) (start-stage instance arcs valid lined old old_are placed rows logs room fits said once) (sorted-in-order instance rows logs done pieces facts)
 
-  ready : (log n : ℕ) (line : LogLine) → slice_get (lines_of logs log) n ≡ Some line → IsReady instance rows (take n (lines_of logs log)) pooled line
+  ready : (log n : ℕ) (line : LogLine) → slice_get (lines_of logs log) n ≡ Some line → IsReady instance rows (take n (lines_of logs log)) done pooled line
   ready log n line at = record {
     good = facts.good log n line at;
     bare = facts.bare log n line at;
-    below = λ ref r m e. let found = facts.cited log n line ref r at m e in let less = all-done instance rows logs pieces facts found.0 found.1 in let number = found.2 in omega arith;
+    below = λ ref r m e. let found = facts.cited log n line ref r at m e in subst (IsDoneRow done pooled) found.2 (all-done instance rows logs done pieces facts found.0 found.1);
   }
 
-  pub whole-stage : IsStage instance rows logs pooled whole
-  whole-stage = rests-stage instance rows logs valid pooled ready (range_with_len 0 (length logs)) segmented (λ log m. from-range (length logs) log m) segmented-stage
+  pub whole-stage : IsStage instance rows logs done pooled whole
+  whole-stage = rests-stage instance rows logs valid done pooled ready (range_with_len 0 (length logs)) segmented (λ log m. from-range (length logs) log m) segmented-stage
 
   all-inside : All (λ log. log < length segmented.own) (range_with_len 0 (length logs))
   all-inside = All-from_members (λ log. log < length segmented.own) (range_with_len 0 (length logs)) (λ log m. let e = segmented-stage.logs_are in let l = from-range (length logs) log m in omega arith)
@@ -97,4 +102,4 @@ module _ (instance : Instance) (rows : List KnownRow) (logs : List (List LogLine
       let done = rests-done logs (range_with_len 0 (length logs)) segmented all-inside log (in-range (length logs) log inside) in
       let small = slice_get_within (lines_of logs log) n line at in
       subst (λ c. IsFate instance whole.out c (number_of whole log (Own n))) (sym is) (whole-stage.own log n line (omega arith) at)
-  cited-fate log (Row r) content m = whole-stage.row (known_row r content) m (all-done instance rows logs pieces facts (known_row r content) m)
+  cited-fate log (Row r) content m = whole-stage.row (known_row r content) m (all-done instance rows logs done pieces facts (known_row r content) m)

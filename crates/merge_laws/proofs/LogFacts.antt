@@ -1,13 +1,14 @@
 -- What good logs say of each line by its log and place, and of their segments by row.
-use Rattle.std.proofs.Common.{◌≡◌, ℕ, zero, suc, ◌+◌, ◌<◌, ◌≤◌, List, [], ◌∷◌, length, map, take, get_or, refl, ap, sym, subst, arith, ⊎_elim, Some, All, AllPairs, Contains}
+use Rattle.std.proofs.Common.{◌≡◌, ◌≢◌, ◌⊎◌, ℕ, zero, suc, ◌+◌, ◌<◌, ◌≤◌, List, [], ◌∷◌, length, map, take, get_or, refl, ap, sym, subst, inl, inr, arith, ⊎_elim, Some, All, AllPairs, Contains}
 use Rattle.std.specs.List.{slice_get}
 use Rattle.std.proofs.lemmas.Bool.{cases_order}
 use Rattle.std.proofs.lemmas.List.Elements.{All-contains, Contains-append_cases}
 use Rattle.std.proofs.lemmas.List.Sorted.{Contains-permutation, IsPermutation-sym}
 use Rattle.std.proofs.lemmas.Option.{get_or_from_slice_get, slice_get_within}
 use Rattle.fapp_model.specs.declared.instance.Instance.{Instance}
-use Rattle.fapp_model.proofs.Members.{at_front, behind, from-map, no_member}
+use Rattle.fapp_model.proofs.Members.{at_front, behind, from-map, in-map, no_member}
 use Rattle.fapp_tables.proofs.RankLaws.{rising_ranks}
+use Rattle.cert_lines.specs.declared.answer.Line.{Line}
 use Rattle.log_laws.specs.declared.line.ChoiceRef.{ChoiceRef}
 use Rattle.log_laws.specs.declared.line.LogLine.{LogLine}
 use Rattle.log_laws.specs.declared.line.Ref.TheVariants.{Row}
@@ -18,8 +19,12 @@ use Rattle.log_laws.specs.Segments.{CitesLowerRows, EndsAsRow, IsGoodLog}
 use Rattle.log_laws.proofs.Places.{zip-left}
 use Rattle.search_log.specs.LogStates.{LogState}
 use Rattle.merge_laws.specs.declared.piece.Piece.{Piece}
-use Rattle.merge_laws.specs.GoodLogs.{AreByRow, AreGoodLogs, IsBare, IsHome, all_lines, piece_of, pieces_from, pieces_of}
+use Rattle.merge_laws.specs.GoodLogs.{AreByRow, AreGoodLogsAfter, IsBare, IsHome, IsPlacedIn, all_lines, piece_of, pieces_from, pieces_of}
 use Rattle.merge_laws.specs.Stages.{lines_of}
+
+-- the numbers of the rows that old lines say
+abbrev pub placed_numbers : List (ℕ × ℕ) → List ℕ
+placed_numbers placed = map (λ p. p.0) placed
 
 abbrev pub Rises : Piece → Piece → Type 0
 Rises p q = p.row < q.row
@@ -32,12 +37,13 @@ pub record IsHomeIn (logs : List (List LogLine)) (pieces : List Piece) (row : Kn
   pub last : slice_get (lines_of logs piece.log) piece.last ≡ Some line
   pub is : row ≡ known_row piece.row (content_of line)
 
-pub record AreLogFacts (instance : Instance) (rows : List KnownRow) (logs : List (List LogLine)) (pieces : List Piece) : Type 0 where
+pub record AreLogFacts (instance : Instance) (rows : List KnownRow) (logs : List (List LogLine)) (placed : List ℕ) (pieces : List Piece) : Type 0 where
   pub good : (log n : ℕ) (line : LogLine) → slice_get (lines_of logs log) n ≡ Some line → IsGoodLine instance rows (take n (lines_of logs log)) line
   pub bare : (log n : ℕ) (line : LogLine) → slice_get (lines_of logs log) n ≡ Some line → IsBare line
   pub cited : (log n : ℕ) (line : LogLine) (ref : ChoiceRef) (r : ℕ) → slice_get (lines_of logs log) n ≡ Some line → Contains line.refs ref →
       ref.line ≡ Row r → (row : KnownRow) × Contains rows row × (row.number ≡ r)
-  pub home : (row : KnownRow) → Contains rows row → IsHomeIn logs pieces row
+  pub home : (row : KnownRow) → Contains rows row → IsHomeIn logs pieces row ⊎ Contains placed row.number
+  pub apart : (p : Piece) → Contains pieces p → Contains placed p.row → ⊥
   pub last : (p : Piece) → Contains pieces p → (line : LogLine) × (slice_get (lines_of logs p.log) p.last ≡ Some line)
   pub below : (p : Piece) (n : ℕ) (line : LogLine) (ref : ChoiceRef) (r : ℕ) → Contains pieces p → n ≤ p.last →
       slice_get (lines_of logs p.log) n ≡ Some line → Contains line.refs ref → ref.line ≡ Row r → r < p.row
@@ -97,7 +103,7 @@ from-pieces (state ∷ logs) from p m = ⊎_elim
     })
     (Contains-append_cases (map (piece_of from) state.segments) (pieces_from (from + 1) logs) p m)
 
-module _ (instance : Instance) (rows : List KnownRow) (logs : List LogState) (pieces : List Piece) (h : AreGoodLogs instance rows logs) (sorted : AreByRow logs pieces) where
+module _ (instance : Instance) (rows : List KnownRow) (logs : List LogState) (pieces : List Piece) (old : List Line) (placed : List (ℕ × ℕ)) (h : AreGoodLogsAfter instance old placed rows logs) (sorted : AreByRow logs pieces) where
   abbrev Good : LogState → Type 0
   Good log = IsGoodLog instance rows log.lines log.segments
 
@@ -150,8 +156,18 @@ module _ (instance : Instance) (rows : List KnownRow) (logs : List LogState) (pi
       let less = low n line ref r (omega arith) (subst (λ lines. slice_get lines n ≡ Some line) (at-log p f) at) listed e in
       omega arith
 
-  home-at : (row : KnownRow) → Contains rows row → IsHomeIn (all_lines logs) pieces row
-  home-at row m = let r = All-contains (IsHome logs) rows row h.home m in record { piece = r.piece; member = to-sorted r.piece r.member; line = r.line; last = r.last; is = r.is }
+  home-at : (row : KnownRow) → Contains rows row → IsHomeIn (all_lines logs) pieces row ⊎ Contains (placed_numbers placed) row.number
+  home-at row m = elim (All-contains (λ row. IsHome logs row ⊎ IsPlacedIn old placed row) rows row h.home m) [
+    | inl r ↦ inl (record { piece = r.piece; member = to-sorted r.piece r.member; line = r.line; last = r.last; is = r.is })
+    | inr p ↦ inr (in-map (λ q. q.0) placed (row.number, p.number) p.listed)
+  ]
+
+  apart-at : (p : Piece) → Contains pieces p → Contains (placed_numbers placed) p.row → ⊥
+  apart-at p m k =
+      let found = from-map (λ q. q.0) placed p.row k in
+      All-contains (λ (q : Piece). found.0.0 ≢ q.row) (pieces_of logs) p
+      (All-contains (λ q. All (λ (r : Piece). q.0 ≢ r.row) (pieces_of logs)) placed found.0 h.apart found.1)
+      (Contains-permutation pieces (pieces_of logs) p (IsPermutation-sym (pieces_of logs) pieces sorted.same) m) found.2
 
   never-falls : (i j : ℕ) (d : Piece) → i ≤ j → j < length pieces → (get_or pieces i d).row ≤ (get_or pieces j d).row
   never-falls i j d most inside = ⊎_elim
@@ -162,12 +178,13 @@ module _ (instance : Instance) (rows : List KnownRow) (logs : List LogState) (pi
       apart)
       (cases_order i j)
 
-  pub log-facts : AreLogFacts instance rows (all_lines logs) pieces
+  pub log-facts : AreLogFacts instance rows (all_lines logs) (placed_numbers placed) pieces
   log-facts = record {
     good = good-at;
     bare = bare-at;
     cited = cited-at;
     home = home-at;
+    apart = apart-at;
     last = last-at;
     below = below-at;
     rising = rising_ranks (λ (p : Piece). p.row) (pieces_of logs) pieces h.once sorted.same never-falls;

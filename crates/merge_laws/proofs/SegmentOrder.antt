@@ -12,14 +12,15 @@ use Rattle.merge_laws.specs.declared.piece.Piece.{Piece}
 use Rattle.merge_laws.specs.Stages.{lines_of}
 use Rattle.merge_laws.proofs.Beside.{same-some}
 use Rattle.merge_laws.proofs.LogFacts.{AreLogFacts, IsHomeIn, Rises}
-use Rattle.merge_laws.proofs.StageSteps.{CitesBelow}
+use Rattle.merge_laws.proofs.Staged.{IsDoneRow}
+use Rattle.merge_laws.proofs.StageSteps.{CitesDone}
 use Rattle.merge_laws.proofs.Stretches.{AreInOrder, MayFollow, pooled_at_end}
 
-module _ (instance : Instance) (rows : List KnownRow) (logs : List (List LogLine)) (pieces : List Piece) (facts : AreLogFacts instance rows logs pieces) where
+module _ (instance : Instance) (rows : List KnownRow) (logs : List (List LogLine)) (placed : List ℕ) (pieces : List Piece) (facts : AreLogFacts instance rows logs placed pieces) where
   -- what the segments still to come have
   record AreToCome (pooled : ℕ) (rest : List Piece) : Type 0 where
     pub listed : (q : Piece) → Contains rest q → Contains pieces q
-    pub home : (row : KnownRow) → Contains rows row → pooled ≤ row.number → IsHomeIn logs rest row
+    pub home : (row : KnownRow) → Contains rows row → pooled ≤ row.number → IsHomeIn logs rest row ⊎ Contains placed row.number
     pub high : (q : Piece) → Contains rest q → pooled ≤ q.row
 
   module _ (pooled : ℕ) (p : Piece) (ps : List Piece) (later : (q : Piece) → Contains ps q → p.row < q.row) (come : AreToCome pooled (p ∷ ps)) where
@@ -33,29 +34,34 @@ module _ (instance : Instance) (rows : List KnownRow) (logs : List (List LogLine
       | inr behind_it ↦ inr (let less = later h.piece behind_it in let e = ap (λ (r : KnownRow). r.number) h.is in omega arith)
     ]
 
-    cites-below : (n : ℕ) (other : LogLine) → n ≤ p.last → slice_get (lines_of logs p.log) n ≡ Some other → CitesBelow pooled other
+    cites-below : (n : ℕ) (other : LogLine) → n ≤ p.last → slice_get (lines_of logs p.log) n ≡ Some other → CitesDone placed pooled other
     cites-below n other small at ref r m e =
         let found = facts.cited p.log n other ref r at m e in
         let less = facts.below p n other ref r (come.listed p here) small at m e in
         let number = found.2 in
         elim (cases_lt r pooled) [
-          | inl below ↦ below
-          | inr above ↦
-              let h = come.home found.0 found.1 (omega arith) in
-              absurd (elim (first found.0 h) [
-                | inl same ↦ (let row_is = ap (λ (x : KnownRow). x.number) h.is in let q = ap (λ (x : Piece). x.row) same in omega arith)
-                | inr more ↦ omega arith
-              ])
+          | inl below ↦ inl below
+          | inr above ↦ elim (come.home found.0 found.1 (let e = found.2 in omega arith)) [
+            | inl h ↦ absurd (elim (first found.0 h) [
+              | inl same ↦ (let e = found.2 in let row_is = ap (λ (x : KnownRow). x.number) h.is in let q = ap (λ (x : Piece). x.row) same in omega arith)
+              | inr more ↦ (let e = found.2 in omega arith)
+            ])
+            | inr said ↦ inr (subst (Contains placed) found.2 said)
+          ]
         ]
 
-    follows : MayFollow instance rows logs pooled p
+    follows : MayFollow instance rows logs placed pooled p
     follows = let l = facts.last p (come.listed p here) in record {
       line = l.0;
       stands = l.1;
+      apart = facts.apart p (come.listed p here);
       high = come.high p here;
-      only = λ row m low small. let h = come.home row m low in elim (first row h) [
-        | inl same ↦ own row h l.0 l.1 same
-        | inr more ↦ absurd (omega arith)
+      only = λ row m low small. elim (come.home row m low) [
+        | inl h ↦ elim (first row h) [
+          | inl same ↦ inl (own row h l.0 l.1 same)
+          | inr more ↦ absurd (omega arith)
+        ]
+        | inr said ↦ inr said
       ];
       ready = λ n other small at. record { good = facts.good p.log n other at; bare = facts.bare p.log n other at; below = cites-below n other small at };
     }
@@ -72,24 +78,26 @@ module _ (instance : Instance) (rows : List KnownRow) (logs : List (List LogLine
       high = λ q m. let less = later q m in omega arith;
     }
       where
-        still : (row : KnownRow) → Contains rows row → p.row + 1 ≤ row.number → IsHomeIn logs ps row
+        still : (row : KnownRow) → Contains rows row → p.row + 1 ≤ row.number → IsHomeIn logs ps row ⊎ Contains placed row.number
         still row m above =
             let high = come.high p here in
-            let h = come.home row m (omega arith) in
-            elim (front_or_behind p ps h.piece h.member) [
-              | inl same ↦ absurd (let row_is = ap (λ (x : KnownRow). x.number) h.is in let q = ap (λ (x : Piece). x.row) same in omega arith)
-              | inr there ↦ record { piece = h.piece; member = there; line = h.line; last = h.last; is = h.is }
+            elim (come.home row m (omega arith)) [
+              | inl h ↦ elim (front_or_behind p ps h.piece h.member) [
+                | inl same ↦ absurd (let row_is = ap (λ (x : KnownRow). x.number) h.is in let q = ap (λ (x : Piece). x.row) same in omega arith)
+                | inr there ↦ inl (record { piece = h.piece; member = there; line = h.line; last = h.last; is = h.is })
+              ]
+              | inr said ↦ inr said
             ]
 
   rises-from : (p : Piece) (ps : List Piece) → AllPairs Rises (p ∷ ps) → (q : Piece) → Contains ps q → p.row < q.row
   rises-from p ps rising q m = All-contains (Rises p) ps q (pairs-head Rises p ps rising) m
 
-  in-order : (rest : List Piece) (pooled : ℕ) → AllPairs Rises rest → AreToCome pooled rest → AreInOrder instance rows logs pooled rest
+  in-order : (rest : List Piece) (pooled : ℕ) → AllPairs Rises rest → AreToCome pooled rest → AreInOrder instance rows logs placed pooled rest
   in-order [] pooled rising come = tt
   in-order (p ∷ ps) pooled rising come =
       (follows pooled p ps (rises-from p ps rising) come, in-order ps (p.row + 1) (pairs-tail Rises p ps rising) (goes-on pooled p ps (rises-from p ps rising) come))
 
-  pub sorted-in-order : AreInOrder instance rows logs 0 pieces
+  pub sorted-in-order : AreInOrder instance rows logs placed 0 pieces
   sorted-in-order = in-order pieces 0 facts.rising (record { listed = λ q m. m; home = λ row m low. facts.home row m; high = λ q m. omega arith })
 
   at-least : (rest : List Piece) (n : ℕ) → AllPairs Rises rest → ((q : Piece) → Contains rest q → n ≤ q.row) → n ≤ pooled_at_end n rest
@@ -106,8 +114,8 @@ module _ (instance : Instance) (rows : List KnownRow) (logs : List (List LogLine
   ]
 
   -- after the segments every row is done
-  pub all-done : (row : KnownRow) → Contains rows row → row.number < pooled_at_end 0 pieces
-  all-done row m =
-      let h = facts.home row m in
-      let less = above pieces 0 facts.rising h.piece h.member in
-      let e = ap (λ (x : KnownRow). x.number) h.is in omega arith
+  pub all-done : (row : KnownRow) → Contains rows row → IsDoneRow placed (pooled_at_end 0 pieces) row.number
+  all-done row m = elim (facts.home row m) [
+    | inl h ↦ inl (let less = above pieces 0 facts.rising h.piece h.member in let e = ap (λ (r : KnownRow). r.number) h.is in omega arith)
+    | inr said ↦ inr said
+  ]

@@ -22,7 +22,7 @@ use Rattle.merge_laws.specs.Fates.{IsFate}
 use Rattle.merge_laws.specs.GoodLogs.{IsBare}
 use Rattle.merge_laws.specs.Stages.{Merged, done_of, emit, emit_branch, emit_by, land, left_out, lines_of, noted, number_of, own_of}
 use Rattle.merge_laws.specs.Written.{written}
-use Rattle.merge_laws.proofs.Staged.{IsStage}
+use Rattle.merge_laws.proofs.Staged.{IsDoneRow, IsStage}
 use Rattle.merge_laws.proofs.Beside.{same-some, zip-none}
 use Rattle.merge_laws.proofs.Growing.{fate-grows, formed-grows, good-grows, marked-grows, stands-last}
 use Rattle.merge_laws.proofs.WrittenLines.{HaveFates, left-out-dead, written-formed, written-good}
@@ -64,21 +64,21 @@ emit-after s log line inside = by_path line.path
 
 -- ---- one more line
 
--- the rows that a line cites are below a number
-abbrev pub CitesBelow : ℕ → LogLine → Type 0
-CitesBelow pooled line = (ref : ChoiceRef) (r : ℕ) → Contains line.refs ref → ref.line ≡ Row r → r < pooled
+-- the rows that a line cites are done
+abbrev pub CitesDone : List ℕ → ℕ → LogLine → Type 0
+CitesDone placed pooled line = (ref : ChoiceRef) (r : ℕ) → Contains line.refs ref → ref.line ≡ Row r → IsDoneRow placed pooled r
 
 -- a line of a log that may come next
-pub record IsReady (instance : Instance) (rows : List KnownRow) (earlier : List LogLine) (pooled : ℕ) (line : LogLine) : Type 0 where
+pub record IsReady (instance : Instance) (rows : List KnownRow) (earlier : List LogLine) (placed : List ℕ) (pooled : ℕ) (line : LogLine) : Type 0 where
   pub good : IsGoodLine instance rows earlier line
   pub bare : IsBare line
-  pub below : CitesBelow pooled line
+  pub below : CitesDone placed pooled line
 
 zero-dead : (instance : Instance) (line : LogLine) → line.tag.code ≡ 0 → Dead instance (triple_from line.tag.code) line.lits
 zero-dead instance line e = Dead.least (ap triple_from e)
 
-module _ (instance : Instance) (rows : List KnownRow) (logs : List (List LogLine)) (valid : IsInstance instance) (pooled : ℕ) (s : Merged) (stage : IsStage instance rows logs pooled s) (log : ℕ) (line : LogLine) (inside : log < length s.own)
-    (there : slice_get (lines_of logs log) (done_of s log) ≡ Some line) (ready : IsReady instance rows (take (done_of s log) (lines_of logs log)) pooled line) where
+module _ (instance : Instance) (rows : List KnownRow) (logs : List (List LogLine)) (valid : IsInstance instance) (placed : List ℕ) (pooled : ℕ) (s : Merged) (stage : IsStage instance rows logs placed pooled s) (log : ℕ) (line : LogLine) (inside : log < length s.own)
+    (there : slice_get (lines_of logs log) (done_of s log) ≡ Some line) (ready : IsReady instance rows (take (done_of s log) (lines_of logs log)) placed pooled line) where
   abbrev pub earlier : List LogLine
   earlier = take (done_of s log) (lines_of logs log)
 
@@ -120,7 +120,7 @@ module _ (instance : Instance) (rows : List KnownRow) (logs : List (List LogLine
           let e = noted-other s.own log n inside l apart in
           rw e (grows (content_of other) (get_or (get_or s.own l []) place 0) (stage.own l place other (subst (λ xs. place < length xs) e small) at))
 
-  leaves : Dead instance (triple_from line.tag.code) line.lits → IsStage instance rows logs pooled (left_out log s)
+  leaves : Dead instance (triple_from line.tag.code) line.lits → IsStage instance rows logs placed pooled (left_out log s)
   leaves dead = record {
     good = stage.good;
     formed = stage.formed;
@@ -131,7 +131,7 @@ module _ (instance : Instance) (rows : List KnownRow) (logs : List (List LogLine
     row = stage.row;
   }
 
-  writes : (path : ℕ) → line.path ≡ Some path → 0 < line.tag.code → PassesBy instance line ready.good.contents (Some path) → IsStage instance rows logs pooled (emit_branch log line path s)
+  writes : (path : ℕ) → line.path ≡ Some path → 0 < line.tag.code → PassesBy instance line ready.good.contents (Some path) → IsStage instance rows logs placed pooled (emit_branch log line path s)
   writes path e some branch =
       let new = written (number_of s log) path line in
       let refs = rw e at ready.good.refs in
@@ -146,7 +146,7 @@ module _ (instance : Instance) (rows : List KnownRow) (logs : List (List LogLine
         row = λ row m small. fate-grows instance s.out (new ∷ []) row.content (number_of s 0 (Row row.number)) (stage.row row m small);
       }
 
-  by_tag : (path : ℕ) → line.path ≡ Some path → (b : Bool) → eqb line.tag.code 0 ≡ b → IsStage instance rows logs pooled (let m : Merged = cond b (left_out log s) (emit_branch log line path s) in m)
+  by_tag : (path : ℕ) → line.path ≡ Some path → (b : Bool) → eqb line.tag.code 0 ≡ b → IsStage instance rows logs placed pooled (let m : Merged = cond b (left_out log s) (emit_branch log line path s) in m)
   by_tag path e true zero_tag = leaves (zero-dead instance line (eqb-true line.tag.code 0 zero_tag))
   by_tag path e false above =
       let some : 0 < line.tag.code = (let apart = eqb-false line.tag.code 0 above in omega arith) in
@@ -159,20 +159,20 @@ module _ (instance : Instance) (rows : List KnownRow) (logs : List (List LogLine
       (rw e at ready.good.passes some)
   count-dead e (inr none) = zero-dead instance line (omega arith)
 
-  by_path : (o : Option ℕ) → line.path ≡ o → IsStage instance rows logs pooled (emit_by log line s o)
+  by_path : (o : Option ℕ) → line.path ≡ o → IsStage instance rows logs placed pooled (emit_by log line s o)
   by_path None e = leaves (count-dead e (cases_lt 0 line.tag.code))
   by_path (Some path) e = by_tag path e (eqb line.tag.code 0) refl
 
-  pub line-step : IsStage instance rows logs pooled (emit log line s)
+  pub line-step : IsStage instance rows logs placed pooled (emit log line s)
   line-step = by_path line.path refl
 
 -- ---- one more row
 
-pub row-step : (instance : Instance) (rows : List KnownRow) (logs : List (List LogLine)) (pooled : ℕ) (s : Merged) (log place r : ℕ) (line : LogLine) →
-    IsStage instance rows logs pooled s → pooled ≤ r → place < done_of s log → slice_get (lines_of logs log) place ≡ Some line →
-    ((row : KnownRow) → Contains rows row → pooled ≤ row.number → row.number < r + 1 → row ≡ known_row r (content_of line)) →
-    IsStage instance rows logs (r + 1) (land r log place s)
-row-step instance rows logs pooled s log place r line stage high small at only = record {
+pub row-step : (instance : Instance) (rows : List KnownRow) (logs : List (List LogLine)) (placed : List ℕ) (pooled : ℕ) (s : Merged) (log place r : ℕ) (line : LogLine) →
+    IsStage instance rows logs placed pooled s → (Contains placed r → ⊥) → pooled ≤ r → place < done_of s log → slice_get (lines_of logs log) place ≡ Some line →
+    ((row : KnownRow) → Contains rows row → pooled ≤ row.number → row.number < r + 1 → (row ≡ known_row r (content_of line)) ⊎ Contains placed row.number) →
+    IsStage instance rows logs placed (r + 1) (land r log place s)
+row-step instance rows logs placed pooled s log place r line stage apart high small at only = record {
   good = stage.good;
   formed = stage.formed;
   marked = stage.marked;
@@ -189,11 +189,15 @@ row-step instance rows logs pooled s log place r line stage high small at only =
         subst (λ x. IsFate instance s.out x.content (get_or (set s.row r (number_of s log (Own place))) x.number 0)) (sym e)
         (rw (get_or-set_same s.row r (number_of s log (Own place)) 0 (omega arith)) (stage.own log place line small at))
 
-    old : (row : KnownRow) → Contains rows row → row.number < pooled → IsFate instance s.out row.content (get_or (set s.row r (number_of s log (Own place))) row.number 0)
-    old row m below = rw (get_or-set_other s.row r row.number (number_of s log (Own place)) 0 (λ same. absurd (omega arith))) (stage.row row m below)
+    old : (row : KnownRow) → Contains rows row → (row.number ≢ r) → IsDoneRow placed pooled row.number → IsFate instance s.out row.content (get_or (set s.row r (number_of s log (Own place))) row.number 0)
+    old row m other done = rw (get_or-set_other s.row r row.number (number_of s log (Own place)) 0 other) (stage.row row m done)
 
-    landed : (row : KnownRow) → Contains rows row → row.number < r + 1 → IsFate instance s.out row.content (get_or (set s.row r (number_of s log (Own place))) row.number 0)
-    landed row m bound = elim (cases_lt row.number pooled) [
-      | inl below ↦ old row m below
-      | inr above ↦ new row m (only row m above bound)
+    said : (row : KnownRow) → Contains rows row → Contains placed row.number → IsFate instance s.out row.content (get_or (set s.row r (number_of s log (Own place))) row.number 0)
+    said row m k = old row m (λ same. apart (subst (Contains placed) same k)) (inr k)
+
+    landed : (row : KnownRow) → Contains rows row → IsDoneRow placed (r + 1) row.number → IsFate instance s.out row.content (get_or (set s.row r (number_of s log (Own place))) row.number 0)
+    landed row m (inr k) = said row m k
+    landed row m (inl bound) = elim (cases_lt row.number pooled) [
+      | inl below ↦ old row m (λ same. absurd (omega arith)) (inl below)
+      | inr above ↦ elim (only row m above bound) [ inl here ↦ new row m here | inr k ↦ said row m k ]
     ]

@@ -1,5 +1,5 @@
 -- A certificate that grows, with the fates of what is done.
-use Rattle.std.proofs.Common.{◌≡◌, ℕ, ◌<◌, List, length, Contains, All, Some}
+use Rattle.std.proofs.Common.{◌≡◌, ◌⊎◌, ℕ, ◌<◌, List, length, Contains, All, Some}
 use Rattle.std.specs.List.{slice_get}
 use Rattle.fapp_model.specs.declared.instance.Instance.{Instance}
 use Rattle.fapp_model.specs.Instances.{IsNumber}
@@ -11,8 +11,12 @@ use Rattle.log_laws.specs.Contents.{KnownRow, content_of}
 use Rattle.merge_laws.specs.Fates.{AreMarked, IsFate}
 use Rattle.merge_laws.specs.Stages.{Merged, done_of, lines_of, number_of}
 
+-- rows below a number are done, and those that old lines say
+abbrev pub IsDoneRow : List ℕ → ℕ → ℕ → Type 0
+IsDoneRow placed pooled r = (r < pooled) ⊎ Contains placed r
+
 -- what is done has its fate: so many lines of each log, and the rows below a number
-pub record IsStage (instance : Instance) (rows : List KnownRow) (logs : List (List LogLine)) (pooled : ℕ) (s : Merged) : Type 0 where
+pub record IsStage (instance : Instance) (rows : List KnownRow) (logs : List (List LogLine)) (placed : List ℕ) (pooled : ℕ) (s : Merged) : Type 0 where
   pub good : AreGood instance s.out
   pub formed : IsNumber (length s.out) → All (IsLine instance) s.out
   pub marked : AreMarked instance s.out
@@ -20,5 +24,5 @@ pub record IsStage (instance : Instance) (rows : List KnownRow) (logs : List (Li
   pub room : All (λ row. row.number < length s.row) rows
   pub own : (log place : ℕ) (line : LogLine) → place < done_of s log → slice_get (lines_of logs log) place ≡ Some line →
       IsFate instance s.out (content_of line) (number_of s log (Own place))
-  pub row : (row : KnownRow) → Contains rows row → row.number < pooled →
+  pub row : (row : KnownRow) → Contains rows row → IsDoneRow placed pooled row.number →
       IsFate instance s.out row.content (number_of s 0 (Row row.number))

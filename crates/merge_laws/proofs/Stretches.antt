@@ -1,5 +1,5 @@
 -- Lines of a log one after another, segments one after another, and the rests of logs.
-use Rattle.std.proofs.Common.{◌≡◌, ℕ, zero, suc, ◌+◌, ◌-◌, ◌<◌, ◌≤◌, List, [], ◌∷◌, length, take, drop, refl, subst, ◌∙◌, arith, Some, Contains}
+use Rattle.std.proofs.Common.{◌≡◌, ◌⊎◌, ℕ, zero, suc, ◌+◌, ◌-◌, ◌<◌, ◌≤◌, List, [], ◌∷◌, length, take, drop, refl, subst, ◌∙◌, arith, Some, Contains}
 use Rattle.std.specs.List.{slice_get}
 use Rattle.std.proofs.lemmas.List.{length-take, length-drop}
 use Rattle.std.proofs.lemmas.Option.{slice_get_within}
@@ -55,30 +55,31 @@ pub record AreFrom (lines these : List LogLine) (place : ℕ) : Type 0 where
   pub at : (k : ℕ) (line : LogLine) → slice_get these k ≡ Some line → slice_get lines (place + k) ≡ Some line
 
 -- a segment may come next
-pub record MayFollow (instance : Instance) (rows : List KnownRow) (logs : List (List LogLine)) (pooled : ℕ) (p : Piece) : Type 0 where
+pub record MayFollow (instance : Instance) (rows : List KnownRow) (logs : List (List LogLine)) (placed : List ℕ) (pooled : ℕ) (p : Piece) : Type 0 where
   pub line : LogLine
   pub stands : slice_get (lines_of logs p.log) p.last ≡ Some line
+  pub apart : Contains placed p.row → ⊥
   pub high : pooled ≤ p.row
-  pub only : (row : KnownRow) → Contains rows row → pooled ≤ row.number → row.number < p.row + 1 → row ≡ known_row p.row (content_of line)
+  pub only : (row : KnownRow) → Contains rows row → pooled ≤ row.number → row.number < p.row + 1 → (row ≡ known_row p.row (content_of line)) ⊎ Contains placed row.number
   pub ready : (n : ℕ) (other : LogLine) → n ≤ p.last → slice_get (lines_of logs p.log) n ≡ Some other →
-      IsReady instance rows (take n (lines_of logs p.log)) pooled other
+      IsReady instance rows (take n (lines_of logs p.log)) placed pooled other
 
-abbrev pub AreInOrder : Instance → List KnownRow → List (List LogLine) → ℕ → List Piece → Type 0
-AreInOrder instance rows logs pooled [] = Unit {0}
-AreInOrder instance rows logs pooled (p ∷ ps) = MayFollow instance rows logs pooled p × AreInOrder instance rows logs (p.row + 1) ps
+abbrev pub AreInOrder : Instance → List KnownRow → List (List LogLine) → List ℕ → ℕ → List Piece → Type 0
+AreInOrder instance rows logs placed pooled [] = Unit {0}
+AreInOrder instance rows logs placed pooled (p ∷ ps) = MayFollow instance rows logs placed pooled p × AreInOrder instance rows logs placed (p.row + 1) ps
 
 abbrev pub pooled_at_end : ℕ → List Piece → ℕ
 pooled_at_end pooled [] = pooled
 pooled_at_end pooled (p ∷ ps) = pooled_at_end (p.row + 1) ps
 
-module _ (instance : Instance) (rows : List KnownRow) (logs : List (List LogLine)) (valid : IsInstance instance) where
-  run : (these : List LogLine) (pooled : ℕ) (s : Merged) (log : ℕ) → log < length logs → IsStage instance rows logs pooled s → AreFrom (lines_of logs log) these (done_of s log) →
-      ((k : ℕ) (line : LogLine) → slice_get these k ≡ Some line → IsReady instance rows (take (done_of s log + k) (lines_of logs log)) pooled line) →
-      IsStage instance rows logs pooled (emit_all log these s)
+module _ (instance : Instance) (rows : List KnownRow) (logs : List (List LogLine)) (valid : IsInstance instance) (placed : List ℕ) where
+  run : (these : List LogLine) (pooled : ℕ) (s : Merged) (log : ℕ) → log < length logs → IsStage instance rows logs placed pooled s → AreFrom (lines_of logs log) these (done_of s log) →
+      ((k : ℕ) (line : LogLine) → slice_get these k ≡ Some line → IsReady instance rows (take (done_of s log + k) (lines_of logs log)) placed pooled line) →
+      IsStage instance rows logs placed pooled (emit_all log these s)
   run [] pooled s log inside stage from ready = stage
   run (line ∷ more) pooled s log inside stage from ready = run more pooled (emit log line s) log inside next
       (record { at = λ k other g. subst (λ m. slice_get (lines_of logs log) m ≡ Some other) (shift k) (from.at (suc k) other g) })
-      (λ k other g. subst (λ m. IsReady instance rows (take m (lines_of logs log)) pooled other) (shift k) (ready (suc k) other g))
+      (λ k other g. subst (λ m. IsReady instance rows (take m (lines_of logs log)) placed pooled other) (shift k) (ready (suc k) other g))
     where
       here : log < length s.own
       here = let e = stage.logs_are in omega arith
@@ -89,14 +90,14 @@ module _ (instance : Instance) (rows : List KnownRow) (logs : List (List LogLine
       first : done_of s log + 0 ≡ done_of s log
       first = omega arith
 
-      next : IsStage instance rows logs pooled (emit log line s)
-      next = line-step instance rows logs valid pooled s stage log line here (subst (λ m. slice_get (lines_of logs log) m ≡ Some line) first (from.at 0 line refl))
-          (subst (λ m. IsReady instance rows (take m (lines_of logs log)) pooled line) first (ready 0 line refl))
+      next : IsStage instance rows logs placed pooled (emit log line s)
+      next = line-step instance rows logs valid placed pooled s stage log line here (subst (λ m. slice_get (lines_of logs log) m ≡ Some line) first (from.at 0 line refl))
+          (subst (λ m. IsReady instance rows (take m (lines_of logs log)) placed pooled line) first (ready 0 line refl))
 
   -- lines of a log from the first that is not done up to a place
-  stretch : (pooled : ℕ) (s : Merged) (log to : ℕ) → log < length logs → IsStage instance rows logs pooled s →
-      ((n : ℕ) (line : LogLine) → n < to → slice_get (lines_of logs log) n ≡ Some line → IsReady instance rows (take n (lines_of logs log)) pooled line) →
-      IsStage instance rows logs pooled (emit_all log (left_to logs s log to) s)
+  stretch : (pooled : ℕ) (s : Merged) (log to : ℕ) → log < length logs → IsStage instance rows logs placed pooled s →
+      ((n : ℕ) (line : LogLine) → n < to → slice_get (lines_of logs log) n ≡ Some line → IsReady instance rows (take n (lines_of logs log)) placed pooled line) →
+      IsStage instance rows logs placed pooled (emit_all log (left_to logs s log to) s)
   stretch pooled s log to inside stage ready =
       run (left_to logs s log to) pooled s log inside stage (record { at = λ k line g. there k line g })
       (λ k line g. ready (done_of s log + k) line (let h = short k line g in omega arith) (there k line g))
@@ -115,11 +116,11 @@ module _ (instance : Instance) (rows : List KnownRow) (logs : List (List LogLine
   abbrev stretched : Piece → Merged → Merged
   stretched p s = emit_all p.log (left_to logs s p.log (p.last + 1)) s
 
-  pub piece-stage : (pooled : ℕ) (s : Merged) (p : Piece) → IsStage instance rows logs pooled s → MayFollow instance rows logs pooled p → IsStage instance rows logs (p.row + 1) (emit_piece logs p s)
+  pub piece-stage : (pooled : ℕ) (s : Merged) (p : Piece) → IsStage instance rows logs placed pooled s → MayFollow instance rows logs placed pooled p → IsStage instance rows logs placed (p.row + 1) (emit_piece logs p s)
   piece-stage pooled s p stage may =
-      row-step instance rows logs pooled (stretched p s) p.log p.last p.row may.line
+      row-step instance rows logs placed pooled (stretched p s) p.log p.last p.row may.line
       (stretch pooled s p.log (p.last + 1) inside stage (λ n line low at. may.ready n line (omega arith) at))
-      may.high done may.stands may.only
+      may.apart may.high done may.stands may.only
     where
       inside : p.log < length logs
       inside = log-inside logs p.log p.last may.line may.stands
@@ -130,19 +131,19 @@ module _ (instance : Instance) (rows : List KnownRow) (logs : List (List LogLine
           let small = slice_get_within (lines_of logs p.log) p.last may.line may.stands in
           omega (arith, length-take (p.last + 1 - done_of s p.log) (drop (done_of s p.log) (lines_of logs p.log)), length-drop (done_of s p.log) (lines_of logs p.log))
 
-  pub pieces-stage : (pieces : List Piece) (pooled : ℕ) (s : Merged) → IsStage instance rows logs pooled s → AreInOrder instance rows logs pooled pieces →
-      IsStage instance rows logs (pooled_at_end pooled pieces) (emit_pieces logs pieces s)
+  pub pieces-stage : (pieces : List Piece) (pooled : ℕ) (s : Merged) → IsStage instance rows logs placed pooled s → AreInOrder instance rows logs placed pooled pieces →
+      IsStage instance rows logs placed (pooled_at_end pooled pieces) (emit_pieces logs pieces s)
   pieces-stage [] pooled s stage order = stage
   pieces-stage (p ∷ ps) pooled s stage order = pieces-stage ps (p.row + 1) (emit_piece logs p s) (piece-stage pooled s p stage order.0) order.1
 
   -- ---- rests
 
-  module _ (pooled : ℕ) (ready : (log n : ℕ) (line : LogLine) → slice_get (lines_of logs log) n ≡ Some line → IsReady instance rows (take n (lines_of logs log)) pooled line) where
-    pub rest-stage : (s : Merged) (log : ℕ) → log < length logs → IsStage instance rows logs pooled s → IsStage instance rows logs pooled (emit_rest logs log s)
+  module _ (pooled : ℕ) (ready : (log n : ℕ) (line : LogLine) → slice_get (lines_of logs log) n ≡ Some line → IsReady instance rows (take n (lines_of logs log)) placed pooled line) where
+    pub rest-stage : (s : Merged) (log : ℕ) → log < length logs → IsStage instance rows logs placed pooled s → IsStage instance rows logs placed pooled (emit_rest logs log s)
     rest-stage s log inside stage = run (drop (done_of s log) (lines_of logs log)) pooled s log inside stage
         (record { at = λ k line g. from-dropped (lines_of logs log) (done_of s log) k line g })
         (λ k line g. ready log (done_of s log + k) line (from-dropped (lines_of logs log) (done_of s log) k line g))
 
-    pub rests-stage : (these : List ℕ) (s : Merged) → ((log : ℕ) → Contains these log → log < length logs) → IsStage instance rows logs pooled s → IsStage instance rows logs pooled (emit_rests logs these s)
+    pub rests-stage : (these : List ℕ) (s : Merged) → ((log : ℕ) → Contains these log → log < length logs) → IsStage instance rows logs placed pooled s → IsStage instance rows logs placed pooled (emit_rests logs these s)
     rests-stage [] s inside stage = stage
     rests-stage (log ∷ more) s inside stage = rests-stage more (emit_rest logs log s) (λ l m. inside l (behind log more l m)) (rest-stage s log (inside log (at_front log more)) stage)

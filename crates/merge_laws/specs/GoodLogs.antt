@@ -1,13 +1,15 @@
 -- Logs that may be merged: each is good over the rows that they call home.
-use Rattle.std.specs.Prelude.{◌≡◌, ◌≢◌, ℕ, ◌+◌, ◌≤◌, List, [], ◌∷◌, ◌++◌, map, slice_get, All, AllPairs, Contains, Some, None}
+use Rattle.std.specs.Prelude.{◌≡◌, ◌≢◌, ◌⊎◌, ℕ, ◌+◌, ◌≤◌, List, [], ◌∷◌, ◌++◌, map, slice_get, All, AllPairs, Contains, Some, None}
 use Rattle.std.specs.List.Sorted.{IsPermutation}
 use Rattle.fapp_model.specs.declared.instance.Instance.{Instance}
+use Rattle.cert_lines.specs.declared.answer.Line.{Line}
 use Rattle.log_laws.specs.declared.line.LogLine.{LogLine}
 use Rattle.log_laws.specs.declared.line.Segment.{Segment}
 use Rattle.log_laws.specs.Contents.{KnownRow, content_of, known_row}
 use Rattle.log_laws.specs.Segments.{IsGoodLog}
 use Rattle.search_log.specs.LogStates.{LogState}
 use Rattle.merge_laws.specs.declared.piece.Piece.{Piece}
+use Rattle.merge_laws.specs.Fates.{Stands}
 use Rattle.merge_laws.specs.Stages.{lines_of}
 
 -- the lines of each log
@@ -43,6 +45,22 @@ pub record AreGoodLogs (instance : Instance) (rows : List KnownRow) (logs : List
   pub good : All (λ log. IsGoodLog instance rows log.lines log.segments) logs
   pub home : All (IsHome logs) rows
   pub once : AllPairs (λ p q. p.row ≢ q.row) (pieces_of logs)
+  pub bare : All (λ log. All IsBare log.lines) logs
+
+-- a row that is placed at an old line, which has its literals and its tag
+pub record IsPlacedIn (old : List Line) (placed : List (ℕ × ℕ)) (row : KnownRow) : Type 0 where
+  pub number : ℕ
+  pub listed : Contains placed (row.number, number)
+  pub stands : Stands old row.content number
+
+-- The logs are good over rows, each of which is home in one segment of them or placed at one old line, and no row is
+-- both. No Count line cites.
+pub record AreGoodLogsAfter (instance : Instance) (old : List Line) (placed : List (ℕ × ℕ)) (rows : List KnownRow) (logs : List LogState) : Type 0 where
+  pub good : All (λ log. IsGoodLog instance rows log.lines log.segments) logs
+  pub home : All (λ row. IsHome logs row ⊎ IsPlacedIn old placed row) rows
+  pub once : AllPairs (λ p q. p.row ≢ q.row) (pieces_of logs)
+  pub placed_once : AllPairs (λ p q. p.0 ≢ q.0) placed
+  pub apart : All (λ p. All (λ q. p.0 ≢ q.row) (pieces_of logs)) placed
   pub bare : All (λ log. All IsBare log.lines) logs
 
 -- some pieces are all segments of the logs, by their rows

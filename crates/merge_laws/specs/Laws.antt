@@ -25,11 +25,11 @@ use Rattle.fapp_plan.specs.Outcomes.{IsPlacedFor, Placed, settled_by}
 use Rattle.fapp_plan.specs.VerdictRule.{IsVerdictOf}
 use Rattle.merge_laws.specs.declared.piece.Piece.{Piece}
 use Rattle.merge_laws.specs.Certificates.{gathered}
-use Rattle.merge_laws.specs.Conditions.{IsMergeable}
+use Rattle.merge_laws.specs.Conditions.{IsMergeable, IsMergeableAfter}
 use Rattle.merge_laws.specs.Fates.{AreMarked, IsFate}
 use Rattle.merge_laws.specs.GoodLogs.{AreByRow, AreGoodLogs, all_lines}
 use Rattle.merge_laws.specs.Levels.{emit_tree}
-use Rattle.merge_laws.specs.MergedLines.{IsCertificate, IsMerged}
+use Rattle.merge_laws.specs.MergedLines.{IsCertificate, IsCertificateAfter, IsMerged, IsMergedAfter}
 use Rattle.merge_laws.specs.Stages.{Merged, lines_of, number_of}
 
 -- Merged lines are well formed and accepted for the verdict, cite nothing at (0, 0, 0), and are no more than the bound.
@@ -37,6 +37,12 @@ abbrev pub MergedLinesAreAccepted : Type 0
 MergedLinesAreAccepted = (instance : Instance) (split : ℕ) (logs : List LogState) (outcomes : List Placed) (word : ℕ) (verdict : Verdict) (lines : List Line) →
     IsInstance instance → IsMergeable instance split logs outcomes word verdict → IsCertificate instance split logs outcomes verdict lines →
     IsNumber (length lines) → IsMerged instance split logs verdict lines
+
+-- So are those behind old lines, with which they begin.
+abbrev pub MergedLinesAfterAreAccepted : Type 0
+MergedLinesAfterAreAccepted = (instance : Instance) (split : ℕ) (old : List Line) (placed : List (ℕ × ℕ)) (logs : List LogState) (outcomes : List Placed) (word : ℕ) (verdict : Verdict) (lines : List Line) →
+    IsInstance instance → IsMergeableAfter instance split old placed logs outcomes word verdict → IsCertificateAfter instance split old placed logs outcomes verdict lines →
+    IsNumber (length lines) → IsMergedAfter instance split old logs verdict lines
 
 -- what the lines before the tree are: good, each choice outside the arcs marked, and whatever a log or an outcome cites
 -- has its number
@@ -51,7 +57,7 @@ pub record AreGathered (instance : Instance) (rows : List KnownRow) (logs : List
 abbrev pub GatheredLinesAreGood : Type 0
 GatheredLinesAreGood = (instance : Instance) (rows : List KnownRow) (logs : List LogState) (pieces : List Piece) (arcs : List Line) (room : ℕ) →
     IsInstance instance → AreArcLines instance arcs → AreGoodLogs instance rows logs → AreByRow logs pieces → All (λ p. p.row < room) pieces →
-    AreGathered instance rows logs (gathered arcs (all_lines logs) pieces room)
+    AreGathered instance rows logs (gathered arcs [] (all_lines logs) pieces room)
 
 -- Merged lines make an accepted answer, with any plan that has no fault for the verdict.
 abbrev pub MergedAnswerIsAccepted : Type 0

@@ -6,6 +6,7 @@ pub mod GoodLogs
 pub mod Levels
 pub mod Refuted
 pub mod Certificates
+pub mod OldRoots
 pub mod Conditions
 pub mod MergedLines
 pub mod Laws

@@ -12,9 +12,14 @@ pub record Merged : Type 0 where
   pub own : List (List ℕ)
   pub row : List ℕ
 
--- the arc lines, before any line of so many logs, with room for so many rows
-abbrev pub start : List Line → ℕ → ℕ → Merged
-start arcs logs rows = record { out = arcs; own = replicate logs []; row = replicate rows 0 }
+-- placed rows have the numbers of their lines
+abbrev pub with_placed : List (ℕ × ℕ) → List ℕ → List ℕ
+with_placed [] row = row
+with_placed (p ∷ placed) row = with_placed placed (slice_set row p.0 p.1)
+
+-- some lines, before any line of so many logs, with room for so many rows, some of which are placed
+abbrev pub start : List Line → List (ℕ × ℕ) → ℕ → ℕ → Merged
+start out placed logs rows = record { out = out; own = replicate logs []; row = with_placed placed (replicate rows 0) }
 
 -- the numbers of a log's lines
 abbrev pub own_of : Merged → ℕ → List ℕ

@@ -1,10 +1,16 @@
-ghost use Rattle.merge_laws.specs.Laws.{GatheredLinesAreGood, MergedAnswerIsAccepted, MergedLinesAreAccepted, OneRootTag, RuleSettlesPrefixes, TreeLines};
+ghost use Rattle.merge_laws.specs.Laws.{GatheredLinesAreGood, MergedAnswerIsAccepted, MergedLinesAfterAreAccepted, MergedLinesAreAccepted, OneRootTag, RuleSettlesPrefixes, TreeLines};
 
 /// The merged lines of good logs and of the jobs' outcomes are well formed and good, and end with a line without literals
 /// at the verdict's tag. A line of the tag (0, 0, 0) cites nothing. They are at most as many as the choices, the lists of
 /// choices of the first paths that prefixes name, the Branch lines of the logs, and one.
 pub fn merged_lines_are_accepted()
     ensures { MergedLinesAreAccepted }
+{}
+
+/// Merged lines behind old ones, of which rows may say some, are well formed and good, begin with the old lines, and have
+/// a line without literals at the verdict's tag. There are at most so many more of them.
+pub fn merged_lines_after_are_accepted()
+    ensures { MergedLinesAfterAreAccepted }
 {}
 
 /// Merged lines make an accepted answer, with any plan that has no fault for the verdict.

@@ -6,6 +6,7 @@ use record_reader::read_instance;
 use std::alloc::Global;
 use std::test::Fail;
 
+mod behind;
 mod counting;
 mod merges;
 mod workers;

@@ -1,4 +1,4 @@
-use Rattle.std.proofs.Common.{◌<◌, inr, subst, arith}
+use Rattle.std.proofs.Common.{◌<◌, inr, sym, ◌∙◌, subst, arith}
 use Rattle.fapp_model.specs.declared.instance.Instance.{Instance}
 use Rattle.fapp_model.specs.Tags.{triple_from}
 use Rattle.arc_levels.specs.ArcLines.{AreArcLines}
@@ -12,7 +12,10 @@ returns-clause-order c =
     let lines = subst (λ (i : Instance). AreArcLines i c.lines.result.now) c.requires.arcs c.lines.ensures in
     let root = subst (λ (i : Instance). IsRootTag i (triple_from c.root_tag.result.code)) c.requires.arcs c.root_tag.ensures in
     inr (
-      above,
-      whole-is c.args.plan.now.instance c.args.plan.now.split c.args.logs.items c.args.collected.now c.args.tag c.lines.result.now c.root_tag.result.code c.in_ok-merged.merged
-          c.in_ok-lines-2.lines.items lines root c.in_ok-merged.ensures c.in_ok-lines-2.ensures.value,
+      sym c.is_rooted.ensures ∙ c.if-is_rooted.false,
+      inr (
+        above,
+        whole-is c.args.plan.now.instance c.args.plan.now.split c.args.old.now c.args.placed.now c.args.logs.items c.args.collected.now c.args.tag c.lines.result.now c.root_tag.result.code c.in_ok-merged.merged
+            c.in_ok-lines-3.lines.items lines root c.in_ok-merged.ensures c.in_ok-lines-3.ensures.value,
+      ),
     )

@@ -1,6 +1,6 @@
 use Rattle.std.proofs.Common.{◌≡◌, take, fold, None}
 use Rattle.cert_lines.specs.acceptance.RootFaults.{with_line}
-use Rattle.cert_check.proofs.root.root_tag.Given as goal
+use Rattle.cert_lines.proofs.root.root_tag.Given as goal
 
 -- the lines so far
 abbrev pub invariant-loop-line : goal.invariant-loop-line
