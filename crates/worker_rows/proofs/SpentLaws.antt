@@ -1,5 +1,5 @@
 -- What spent jobs and no log come to.
-use Rattle.std.proofs.Common.{◌≡◌, ◌≢◌, ℕ, ◌+◌, ◌<◌, ◌≤◌, max, List, [], length, replicate, set, get_or, All, AllPairs, IsTrue, Option, Some, None, refl, sym, ap, ◌∙◌, subst, ⊎_elim, arith}
+use Rattle.std.proofs.Common.{◌≡◌, ◌≢◌, ℕ, ◌+◌, ◌<◌, ◌≤◌, List, [], length, replicate, set, get_or, All, AllPairs, IsTrue, Option, Some, None, refl, sym, ap, ◌∙◌, subst, ⊎_elim, arith}
 use Rattle.std.proofs.lemmas.Bool.{cases_eq}
 use Rattle.std.proofs.lemmas.List.{get_or-replicate, get_or-set_other, get_or-set_same, length-replicate, length-set}
 use Rattle.std.proofs.lemmas.List.Elements.{All-from_get_or, All-nil}
@@ -8,7 +8,6 @@ use Rattle.fapp_model.specs.declared.tag.Tag.{Tag}
 use Rattle.fapp_model.specs.Levels.{levels_of}
 use Rattle.fapp_model.specs.Tags.{triple_from}
 use Rattle.fapp_model.specs.search.Jobs.{job_count}
-use Rattle.cert_lines.specs.declared.answer.Line.{Line}
 use Rattle.cert_lines.specs.declared.answer.Verdict.{Verdict}
 use Rattle.cert_lines.specs.WellFormed.{is_shown}
 use Rattle.arc_levels.specs.Outside.{IsRootTag}
@@ -19,9 +18,8 @@ use Rattle.search_log.specs.declared.job.Outcome.TheVariants.{Refuted, Moot, Spe
 use Rattle.search_log.specs.LogStates.{LogState}
 use Rattle.fapp_plan.specs.Outcomes.{IsPlacedFor, Placed}
 use Rattle.fapp_plan.specs.VerdictRule.{IsVerdictOf}
-use Rattle.merge_laws.specs.Conditions.{AreOld, AreOutcomes, IsMergeable, IsMergeableAfter, IsPut}
+use Rattle.merge_laws.specs.Conditions.{IsMergeable, IsPut}
 use Rattle.merge_laws.specs.GoodLogs.{AreGoodLogs, IsBare, IsHome}
-use Rattle.merge_laws.specs.OldRoots.{old_root}
 use Rattle.merge_laws.specs.Refuted.{IsRefutedBy}
 use Rattle.worker_rows.specs.SpentJobs.{AreSpent}
 
@@ -72,45 +70,23 @@ no-refuted : (spent : Placed) (log : ℕ) (line : Ref) (tag : Tag) → spent ≡
 unfolding IsSpent IsSpentOutcome
 no-refuted spent log line tag is other = subst IsSpent other (subst IsSpent (sym is) (tt {0}))
 
-module _ (instance : Instance) (split : ℕ) (outcomes : List Placed) (spent : AreSpent (job_count instance split) outcomes) where
-  -- spent jobs name no line and no row
-  spent-outcomes : AreOutcomes instance split [] [] outcomes
-  spent-outcomes = record {
+-- no log and spent jobs may be merged
+pub spent-mergeable : (instance : Instance) (split : ℕ) (logs : List LogState) (outcomes : List Placed) (word root : ℕ) (verdict : Verdict) → logs ≡ [] → AreSpent (job_count instance split) outcomes →
+    IsTrue (is_shown (levels_of instance) (triple_from word)) → IsRootTag instance (triple_from root) → IsVerdictOf instance split outcomes word root verdict →
+    IsMergeable instance split logs outcomes word verdict
+spent-mergeable instance split logs outcomes word root verdict none spent shown root_is rule = subst (λ these. IsMergeable instance split these outcomes word verdict) (sym none) (record {
+  rows = [];
+  logs_are = record {
+    good = λ k d l. absurd (omega arith);
+    home = λ k d l. absurd (omega arith);
+    once = λ i j d before l. absurd (omega arith);
+    bare = λ k d l. absurd (omega arith);
+  };
+  outcomes_are = record {
     count = spent.whole;
     put = spent-put outcomes (job_count instance split) spent;
     tags = spent-tags outcomes (job_count instance split) spent instance;
     refuted = λ id log line tag l named. absurd (no-refuted (get_or outcomes id None) log line tag (spent.each id l) named);
-  }
-
-  -- no log and spent jobs may be merged
-  pub spent-mergeable : (logs : List LogState) (word root : ℕ) (verdict : Verdict) → logs ≡ [] → IsTrue (is_shown (levels_of instance) (triple_from word)) →
-      IsRootTag instance (triple_from root) → IsVerdictOf instance split outcomes word root verdict → IsMergeable instance split logs outcomes word verdict
-  spent-mergeable logs word root verdict none shown root_is rule = subst (λ these. IsMergeable instance split these outcomes word verdict) (sym none) (record {
-    rows = [];
-    logs_are = record {
-      good = λ k d l. absurd (omega arith);
-      home = λ k d l. absurd (omega arith);
-      once = λ i j d before l. absurd (omega arith);
-      bare = λ k d l. absurd (omega arith);
-    };
-    outcomes_are = spent-outcomes;
-    ruled = record { shown = shown; root = root; root_is = root_is; rule = rule };
-  })
-
-  -- so they may behind good lines
-  pub spent-behind : (old : List Line) (logs : List LogState) (word root : ℕ) (verdict : Verdict) → AreOld instance old → logs ≡ [] → IsTrue (is_shown (levels_of instance) (triple_from word)) →
-      IsRootTag instance (triple_from root) → IsVerdictOf instance split outcomes word (max root (old_root old)) verdict → IsMergeableAfter instance split old [] logs outcomes word verdict
-  spent-behind old logs word root verdict old_are none shown root_is rule = subst (λ these. IsMergeableAfter instance split old [] these outcomes word verdict) (sym none) (record {
-    old_are = old_are;
-    rows = [];
-    logs_are = record {
-      good = λ k d l. absurd (omega arith);
-      home = λ k d l. absurd (omega arith);
-      once = λ i j d before l. absurd (omega arith);
-      placed_once = λ i j d before l. absurd (omega arith);
-      apart = λ k d l. absurd (omega arith);
-      bare = λ k d l. absurd (omega arith);
-    };
-    outcomes_are = spent-outcomes;
-    ruled = record { shown = shown; root = root; root_is = root_is; rule = rule };
-  })
+  };
+  ruled = record { shown = shown; root = root; root_is = root_is; rule = rule };
+})

@@ -6,7 +6,6 @@ use record_reader::read_instance;
 use std::alloc::Global;
 use std::test::Fail;
 
-mod behind;
 mod counting;
 mod merges;
 mod workers;

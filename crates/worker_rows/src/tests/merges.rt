@@ -36,7 +36,7 @@ const MERGES: [(&str, Triple, &str); 5] = [
 ];
 
 /// The outcomes where all jobs are spent.
-pub(super) fn all_spent(alloc: Global, plan: &Plan) -> Result<Collected, NoMemory>
+fn all_spent(alloc: Global, plan: &Plan) -> Result<Collected, NoMemory>
     ensures { IfOk result (λ collected. AreSpent (job_count plan.now.instance plan.now.split) collected) }
 {
     let mut collected = Collected::new(alloc, plan)?;
@@ -47,7 +47,7 @@ pub(super) fn all_spent(alloc: Global, plan: &Plan) -> Result<Collected, NoMemor
 }
 
 /// A bound as a tag, if it may be shown.
-pub(super) fn bound(instance: &Instance, t: Triple) -> Option<Tag>
+fn bound(instance: &Instance, t: Triple) -> Option<Tag>
     ensures { IfSome result (λ tag. IsTrue (is_shown (levels_of instance.now) (triple_from tag.code))) }
 {
     let levels = levels(instance);

@@ -19,8 +19,8 @@ verdict-requires-clause-arcs c =
 pub merge-requires-clause-mergeable : goal.merge-requires-clause-mergeable
 merge-requires-clause-mergeable c = (
   c.args.word.code,
-  spent-mergeable c.args.plan.now.instance c.args.plan.now.split c.in_ok-collected.collected c.in_ok-collected.ensures c.new.result.items c.args.word.code c.root_tag.result.code c.in_ok-verdict.verdict
-      c.new.ensures.items c.requires.word
+  spent-mergeable c.args.plan.now.instance c.args.plan.now.split c.new.result.items c.in_ok-collected.collected c.args.word.code c.root_tag.result.code c.in_ok-verdict.verdict
+      c.new.ensures.items c.in_ok-collected.ensures c.requires.word
       (subst (λ (i : Instance). IsRootTag i (triple_from c.root_tag.result.code)) c.requires.arcs c.root_tag.ensures)
       c.in_ok-verdict.ensures.rule,
 )
