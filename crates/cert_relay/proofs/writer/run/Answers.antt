@@ -16,7 +16,7 @@ pub join_mut-requires-after_bounds : goal.join_mut-requires-after_bounds
 join_mut-requires-after_bounds g c κs within =
     let given = c.requires in
     let apart = c.another.ensures in (
-      ((search rules, (apart.queue.1, apart.rule.1 ∙ ap (λ (v : Hand). right_at v.first v) given.knows), given.job), (search rules, search rules)),
+      ((search rules, given.job, (apart.queue.1, apart.rule.1 ∙ ap (λ (v : Hand). right_at v.first v) given.knows)), (search rules, search rules)),
       (
         (apart.queue.0.0 ∙ given.queue.0, apart.queue.0.2 ∙ given.queue.1),
         apart.rule.0 ∙ ap (λ (v : Hand). left_at v.first v) given.knows,
