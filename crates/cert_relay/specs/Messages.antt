@@ -5,6 +5,7 @@ use Rattle.cert_lines.specs.declared.answer.Answer.{Answer}
 use Rattle.cert_relay.specs.declared.message.Message.{Message}
 use Rattle.cert_relay.specs.Pieces.{piece_text}
 
+-- their numbers, in order
 abbrev pub numbers : List Message → List ℕ
 numbers messages = map (λ message. message.number) messages
 
@@ -20,6 +21,6 @@ those_of senders sender all = filter (λ n. n % senders == sender) all
 abbrev pub IsRight : Instance → Answer → Message → Type 0
 IsRight instance answer message = IfSome message.text (λ text. text ≡ piece_text instance answer message.number)
 
--- some message of this number has no text
+-- a message of this number has no text
 abbrev pub LacksText : List Message → ℕ → Type 0
 LacksText messages number = Any (λ message. (message.number ≡ number) × (message.text ≡ None)) messages
