@@ -1,5 +1,5 @@
 -- What a worker holds, and what it does with one job.
-use Rattle.std.specs.Prelude.{◌≡◌, ◌⊎◌, ℕ, ◌-◌, ◌<◌, ◌≤◌, List, [], ◌∷◌, length, Ok}
+use Rattle.std.specs.Prelude.{◌≡◌, ◌⊎◌, ℕ, ◌-◌, ◌<◌, ◌≤◌, List, [], ◌∷◌, length, Ok, Err}
 use Rattle.std.specs.declared.alloc.AllocError.{AllocError}
 use Rattle.fapp_model.specs.search.Jobs.{job_count, job_level, job_prefix}
 use Rattle.fapp_plan.specs.Plans.{Split}
@@ -43,7 +43,34 @@ pub record Decides (split : Split) (fuel : ℕ) (old new : Held) (done : Done) :
   pub by : ((done.start.code ≤ level_code (job_level split.instance done.id)) × IsSkipped read old new done)
       ⊎ ((level_code (job_level split.instance done.id) < done.start.code) × IsSearched split fuel done.id read old new done.outcome done.ticks)
 
+-- the search of a job was given up for want of memory: what it leaves is what a search leaves then
+pub record IsLacking (split : Split) (fuel id : ℕ) (read : BoundState) (old new : Held) : Type 0 where
+  pub rest : ℕ
+  pub lack : AllocError
+  pub settles : Settles split.instance (job_level split.instance id) (job_prefix split.instance split.split id)
+      (world fuel read old.shared old.log) (world rest new.bound new.shared new.log) (Err lack)
+
+-- a job was begun, and its search was given up
+pub record IsBegun (split : Split) (fuel : ℕ) (old new : Held) : Type 0 where
+  pub id : ℕ
+  pub inside : id < job_count split.instance split.split
+  pub start : ℕ
+  pub read : BoundState
+  pub tells : Tells old.bound read start
+  pub lacks : IsLacking split fuel id read old new
+
+-- for want of memory a job was not begun, or its search was given up
+abbrev pub IsGivenUp : Split → ℕ → Held → Held → Type 0
+IsGivenUp split fuel old new = (new ≡ old) ⊎ IsBegun split fuel old new
+
 -- the jobs were decided one after another, and nothing happened between them
 abbrev pub AreDecided : Split → ℕ → Held → List Done → Held → Type 0
 AreDecided split fuel old [] new = new ≡ old
 AreDecided split fuel old (done ∷ more) new = (mid : Held) × Decides split fuel old mid done × AreDecided split fuel mid more new
+
+-- some jobs were decided, one after another, and the one behind them was given up
+pub record IsCutShort (split : Split) (fuel : ℕ) (old new : Held) : Type 0 where
+  pub done : List Done
+  pub mid : Held
+  pub decided : AreDecided split fuel old done mid
+  pub last : IsGivenUp split fuel mid new

@@ -1,10 +1,10 @@
 // One job of a worker: the bound is read, and where it leaves something to find the job is searched.
-ghost use Rattle.std.specs.Prelude.{◌≡◌, ◌<◌, ◌≤◌, [], IfOk};
+ghost use Rattle.std.specs.Prelude.{◌≡◌, ◌<◌, ◌≤◌, [], IfErr, IfOk};
 ghost use Rattle.fapp_model.specs.search.Jobs.{job_count, job_level, job_prefix};
 ghost use Rattle.best_word.specs.Seats.{view_of};
 ghost use Rattle.fapp_workers.specs.SharedBounds.{FindsFirst, IsLater};
 ghost use Rattle.fapp_workers.specs.States.{state_of};
-ghost use Rattle.fapp_workers.specs.Jobs.{Decides, IsSearched, held};
+ghost use Rattle.fapp_workers.specs.Jobs.{Decides, IsGivenUp, IsLacking, IsSearched, held};
 
 use crate::bound::SharedBound;
 use fapp_model::{NoMemory, Tag, Triple, tag_of};
@@ -53,6 +53,8 @@ fn search<B: Bound, H: Shared>(
     ensures serves { H.serves shared.new plan.now.instance }
     ensures instance { forward.new.instance ≡ forward.old.instance }
     ensures empty { forward.new.pushed ≡ [] }
+    ensures lack { IfErr result (λ _. IsLacking plan.now amount id (B.state bound.old) (held (B.state bound.old) (H.state shared.old) log.old)
+        (held (B.state bound.new) (H.state shared.new) log.new)) }
     ensures searched { IfOk result (λ ended. IsSearched plan.now amount id (B.state bound.old) (held (B.state bound.old) (H.state shared.old) log.old)
         (held (B.state bound.new) (H.state shared.new) log.new) ended.outcome ended.ticks) }
 {
@@ -86,6 +88,8 @@ pub(crate) fn decide<H: Shared>(
     ensures empty { forward.new.pushed ≡ [] }
     ensures id { IfOk result (λ done. done.id ≡ id) }
     ensures first { IfOk result (λ done. FindsFirst (view_of bound.old.seat).found (view_of bound.new.seat).found done.start.code) }
+    ensures lack { IfErr result (λ _. IsGivenUp plan.now amount (held (state_of bound.old) (H.state shared.old) log.old)
+        (held (state_of bound.new) (H.state shared.new) log.new)) }
     ensures decides { IfOk result (Decides plan.now amount (held (state_of bound.old) (H.state shared.old) log.old)
         (held (state_of bound.new) (H.state shared.new) log.new)) }
 {

@@ -1,5 +1,5 @@
 // One worker: its own counts, log and seats, and the jobs that its hand is given.
-ghost use Rattle.std.specs.Prelude.{◌≡◌, ◌<◌, ◌≤◌, [], IfOk};
+ghost use Rattle.std.specs.Prelude.{◌≡◌, ◌<◌, ◌≤◌, [], IfErr, IfOk};
 ghost use Rattle.fapp_model.specs.search.Jobs.{job_count};
 ghost use Rattle.log_laws.specs.Segments.{IsGoodLog};
 ghost use Rattle.search_log.specs.Shares.{known};
@@ -10,7 +10,7 @@ ghost use Rattle.pool_rows.specs.PoolRows.{AreLater, state_of_rows};
 ghost use Rattle.steal_ring.specs.Hands.{IsHandOf, IsSameHand};
 ghost use Rattle.fapp_workers.specs.SharedBounds.{IsLater};
 ghost use Rattle.fapp_workers.specs.States.{state_of};
-ghost use Rattle.fapp_workers.specs.Jobs.{AreDecided, held};
+ghost use Rattle.fapp_workers.specs.Jobs.{AreDecided, IsCutShort, held};
 ghost use Rattle.fapp_workers.specs.Rows.{IsOffersClause, IsRowsClause};
 ghost use Rattle.fapp_workers.specs.Works.{IsBoundClause, IsHandClause, IsLogClause};
 
@@ -55,6 +55,8 @@ pub(crate) fn decide_all<H: Shared, G: Gate>(
     ensures serves { H.serves shared.new plan.now.instance }
     ensures jobs { IfOk result (λ done. IsHandClause hand.old hand.new done.items) }
     ensures bound { IfOk result (λ done. IsBoundClause (view_of bound.old.seat).found (view_of bound.new.seat).found done.items) }
+    ensures short { IfErr result (λ _. IsCutShort plan.now fuel (held (state_of bound.old) (H.state shared.old) log.old)
+        (held (state_of bound.new) (H.state shared.new) log.new)) }
     ensures decided { IfOk result (λ done. AreDecided plan.now fuel (held (state_of bound.old) (H.state shared.old) log.old) done.items
         (held (state_of bound.new) (H.state shared.new) log.new)) }
     ensures log { IfOk result (λ done. IsLogClause plan.now fuel (held (state_of bound.old) (H.state shared.old) log.old)
@@ -74,7 +76,7 @@ pub(crate) fn decide_all<H: Shared, G: Gate>(
 /// One worker: it asks its hand for jobs until none is left, and decides each of them. It reads the shared least cost as each
 /// job begins, looks up the rows of the pool, and publishes the lines that refute its jobs. There is one `Done` a job, in
 /// the order in which the hand was given them. After `NoMemory` the hand, the bound, the rows and the log keep what was
-/// done until then.
+/// done until then, and the job that was given up leaves what its search leaves.
 pub fn work<G: Gate>(
     alloc: Global,
     tables: &Tables,
@@ -100,6 +102,8 @@ pub fn work<G: Gate>(
     ensures same_rows { AreLater rows.old rows.new }
     ensures jobs { IfOk result (λ done. IsHandClause hand.old hand.new done.items) }
     ensures bound { IfOk result (λ done. IsBoundClause (view_of bound.old.seat).found (view_of bound.new.seat).found done.items) }
+    ensures short { IfErr result (λ _. IsCutShort plan.now fuel (held (state_of bound.old) (state_of_rows rows.old) log.old)
+        (held (state_of bound.new) (state_of_rows rows.new) log.new)) }
     ensures decided { IfOk result (λ done. AreDecided plan.now fuel (held (state_of bound.old) (state_of_rows rows.old) log.old) done.items
         (held (state_of bound.new) (state_of_rows rows.new) log.new)) }
     ensures log { IfOk result (λ done. IsLogClause plan.now fuel (held (state_of bound.old) (state_of_rows rows.old) log.old)
