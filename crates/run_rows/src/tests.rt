@@ -1,6 +1,8 @@
 ghost use Rattle.fapp_run.specs.Answers.{AreOptions};
 
-use fapp_run::{OpenGate, answer, judge};
+use fapp_gate::{Gate, HoldGate};
+use fapp_io::{MemSink, MemSource};
+use fapp_run::{OpenGate, answer, judge, run};
 use fapp_words::SolveOptions;
 use std::alloc::Global;
 use std::test::Fail;
@@ -13,6 +15,10 @@ const SINGLE: &str = "DM 1 5\nTR 9 1 -1\n";
 // One of two choices of the first path is far from the second path's.
 const EDGE: &str =
     "DM 1 10\nDM 1 20\nDM 2 10\nTR 1 1 1\nTR 2 2 1\nCE 1 2 10 10 10 10 10 10 10 10 10 10 10\n";
+
+// Three paths of which each two need different frequencies, and two frequencies.
+const CLASH: &str =
+    "DM 1 10\nDM 1 20\nTR 1 1 1\nTR 2 1 1\nTR 3 1 1\nCI 1 2 F I 0\nCI 1 3 F I 0\nCI 2 3 F I 0\n";
 
 // A network, how many workers there are, the fuel and the most prefixes; the exit status and the verdict.
 const VERDICTS: [(&str, u32, u32, u32, u8, &str); 13] = [
@@ -70,5 +76,61 @@ fn each_answer_is_accepted_with_its_verdict(rt: HostRuntime) -> Result<(), Fail>
         let wanted = format!(in rt.alloc(); "ACCEPTED {verdict}")?;
         assert_eq!(rt; said.as_slice(), wanted.as_bytes(), "at {text}");
     }
+    Ok(())
+}
+
+/// What the program writes on these words for a network, through a gate.
+fn written<R: Threads + Sync, G: Gate>(
+    rt: &R,
+    alloc: Global,
+    line: &str,
+    text: &str,
+    gate: &G,
+) -> Result<Vec<u8>, Fail> {
+    let bytes = Vec::from_slice(alloc, text.as_bytes())?;
+    let mut source = MemSource::new(bytes, 4096, Vec::new(alloc));
+    let mut sink = MemSink::new(alloc, 100_000, 4096, Vec::new(alloc))?;
+    let mut words = Vec::new(alloc);
+    for word in line.split(' ') {
+        words.push(String::from_str(alloc, word)?)?;
+    }
+    run(rt, alloc, &words, &mut source, &mut sink, gate);
+    Ok(Vec::from_slice(alloc, sink.taken())?)
+}
+
+// A gate that waits for a job that never comes is missed: so the program's workers pass it at each job.
+#[test]
+fn two_workers_of_the_program_meet_and_steal(rt: HostRuntime) -> Result<(), Fail> {
+    let wanted = "AL 9 5 -1\n--\nBEST 0 0 0\nC 0 0 0 0 0\nEND\n";
+    for (other, turns, misses) in [
+        (1, 200_000_000, false),
+        (2, 200_000_000, false),
+        (99, 1000, true),
+    ] {
+        let gate = HoldGate::new(0, other, turns);
+        let text = written(&rt, rt.alloc(), "solve --workers 2", SINGLE, &gate)?;
+        assert_eq!(rt; text.as_slice(), wanted.as_bytes(), "at {other}");
+        assert_eq!(rt; gate.missed(), misses, "at {other}");
+    }
+    Ok(())
+}
+
+#[test]
+fn shared_rows_make_a_shorter_certificate(rt: HostRuntime) -> Result<(), Fail> {
+    let alone = written(
+        &rt,
+        rt.alloc(),
+        "solve --split 1 --workers 1 --pool 0",
+        CLASH,
+        &OpenGate,
+    )?;
+    let shared = written(
+        &rt,
+        rt.alloc(),
+        "solve --split 1 --workers 1 --pool 4096",
+        CLASH,
+        &OpenGate,
+    )?;
+    assert!(rt; shared.len() < alone.len());
     Ok(())
 }

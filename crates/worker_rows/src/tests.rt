@@ -19,7 +19,8 @@ const EDGE: &str =
     "DM 1 10\nDM 1 20\nDM 2 10\nTR 1 1 1\nTR 2 2 1\nCE 1 2 10 10 10 10 10 10 10 10 10 10 10\n";
 
 // Three paths of which each two need different frequencies, and two frequencies.
-const CLASH: &str = "DM 1 10\nDM 1 20\nTR 1 1 1\nTR 2 1 1\nTR 3 1 1\nCI 1 2 F I 0\nCI 1 3 F I 0\nCI 2 3 F I 0\n";
+const CLASH: &str =
+    "DM 1 10\nDM 1 20\nTR 1 1 1\nTR 2 1 1\nTR 3 1 1\nCI 1 2 F I 0\nCI 1 3 F I 0\nCI 2 3 F I 0\n";
 
 fn read(alloc: Global, text: &str) -> Result<Instance, Fail>
     requires { length text.now ≤ 1000 }

@@ -93,7 +93,11 @@ fn any_number_of_workers_finds_the_least_cost(rt: HostRuntime) -> Result<(), Fai
 #[test]
 fn two_workers_meet_and_steal(rt: HostRuntime) -> Result<(), Fail> {
     assert!(rt; SINGLE.len() <= 1000);
-    for (other, turns, misses) in [(1, 200_000_000, false), (2, 200_000_000, false), (99, 1000, true)] {
+    for (other, turns, misses) in [
+        (1, 200_000_000, false),
+        (2, 200_000_000, false),
+        (99, 1000, true),
+    ] {
         let gate = HoldGate::new(0, other, turns);
         let found = found_by(&rt, rt.alloc(), SINGLE, &plain(2), &gate)?;
         assert_eq!(rt; found.word, FREE, "at {other}");
@@ -138,7 +142,12 @@ fn a_published_row_settles_the_other_jobs(rt: HostRuntime) -> Result<(), Fail> {
         };
         let found = found_by(&rt, rt.alloc(), CLASH, &settings, &OpenGate)?;
         assert!(rt; found.ticks.get(0) > Some(&0), "at {pool}");
-        let busy = found.ticks.iter().skip(1).filter(|ticks| **ticks > 0).count();
+        let busy = found
+            .ticks
+            .iter()
+            .skip(1)
+            .filter(|ticks| **ticks > 0)
+            .count();
         assert_eq!(rt; busy, others, "at {pool}");
     }
     Ok(())

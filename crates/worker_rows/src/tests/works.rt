@@ -39,7 +39,17 @@ fn one_hand_after_another(rt: HostRuntime) -> Result<(), Fail> {
         };
         let mut log = Log::new(rt.alloc());
         let done = work(
-            rt.alloc(), &tables, &arcs, &plan, 1002, &ring, &mut hand, &mut bound, &mut rows, &mut log, &OpenGate,
+            rt.alloc(),
+            &tables,
+            &arcs,
+            &plan,
+            1002,
+            &ring,
+            &mut hand,
+            &mut bound,
+            &mut rows,
+            &mut log,
+            &OpenGate,
         )?;
         assert_eq!(rt; done.len(), if jobs.is_empty() { 12 } else { 0 });
         for job in &done {
@@ -81,7 +91,17 @@ fn later_jobs_are_refuted_by_the_first_ones_row(rt: HostRuntime) -> Result<(), F
     };
     let mut log = Log::new(rt.alloc());
     let done = work(
-        rt.alloc(), &tables, &arcs, &plan, 1003, &ring, &mut hand, &mut bound, &mut rows, &mut log, &OpenGate,
+        rt.alloc(),
+        &tables,
+        &arcs,
+        &plan,
+        1003,
+        &ring,
+        &mut hand,
+        &mut bound,
+        &mut rows,
+        &mut log,
+        &OpenGate,
     )?;
     assert_eq!(rt; done.len(), 12);
     for (job, id) in done.as_slice().iter().zip(0u32..) {
@@ -95,7 +115,14 @@ fn later_jobs_are_refuted_by_the_first_ones_row(rt: HostRuntime) -> Result<(), F
             assert_eq!(rt; triple_of(tag), Triple { k: 12, v: 0, s: 0 });
         } else {
             assert!(rt; job.ticks == 0 && job.segments > 0 && matches!(line, Ref::Row(_)));
-            assert_eq!(rt; triple_of(tag), Triple { k: 12u32.saturating_sub(id), v: 0, s: 0 });
+            assert_eq!(rt;
+                triple_of(tag),
+                Triple {
+                    k: 12u32.saturating_sub(id),
+                    v: 0,
+                    s: 0
+                }
+            );
         }
     }
     Ok(())
