@@ -57,3 +57,5 @@ pub record IsTopOfOne (seats : List BestSeat) (n : ℕ) : Type 0 where
 pub record IsLeastOfAll (seats : List BestSeat) (n : ℕ) : Type 0 where
   pub from : IsTopOfOne seats n ⊎ IsOfferedByOne seats n
   pub least : All (λ seat. n ≤ (view_of seat).least) seats
+  pub offers : All (λ seat. All (λ m. n ≤ m) (view_of seat).offers) seats
+  pub found : All (λ seat. All (λ m. n ≤ m) (view_of seat).found) seats

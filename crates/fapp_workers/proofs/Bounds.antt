@@ -1,5 +1,5 @@
 -- The least offer of a seat.
-use Rattle.std.proofs.Common.{◌≡◌, ℕ, ◌≤◌, min, List, [], ◌∷◌, ◌++◌, All, Option, Some, None, fold, refl, sym, ap, ◌∙◌, arith}
+use Rattle.std.proofs.Common.{◌≡◌, ℕ, ◌≤◌, min, List, [], ◌∷◌, ◌++◌, All, Option, Some, None, fold, refl, sym, ap, ◌∙◌, arith, le_refl, le_trans}
 use Rattle.std.proofs.lemmas.List.Elements.{All-head, All-tail}
 use Rattle.std.proofs.lemmas.List.Sums.{fold_push}
 use Rattle.search_log.specs.Bounds.{lowest, with_offer}
@@ -24,28 +24,29 @@ least-push offers x = fold_push with_offer None offers x
 
 -- ---- a seat, later
 
-later-by : (was old new : BestSeat) (offers found : List ℕ) → IsSameSeat old new → (view_of new).share ≡ (view_of old).share → (view_of new).levels ≡ (view_of old).levels →
+later-by : (was old new : BestSeat) (offers found : List ℕ) → IsSameSeat old new → (view_of new).share ≡ (view_of old).share → (view_of new).levels ≡ (view_of old).levels → (view_of new).least ≤ (view_of old).least →
     (view_of new).offers ≡ (view_of old).offers ++ offers → (view_of new).found ≡ (view_of old).found ++ found → IsLater was old → IsLater was new
-later-by was old new offers found same share levels o f h = record {
+later-by was old new offers found same share levels least o f h = record {
   table = h.table ∙ same;
   share = share ∙ h.share;
   levels = levels ∙ h.levels;
+  falls = le_trans least h.falls;
   offered = h.offered ++ offers;
   offers = o ∙ (ap (λ (xs : List ℕ). xs ++ offers) h.offers ∙ append_assoc (view_of was).offers h.offered offers);
   seen = h.seen ++ found;
   found = f ∙ (ap (λ (xs : List ℕ). xs ++ found) h.found ∙ append_assoc (view_of was).found h.seen found);
 }
 
-pub later-load : (was old new : BestSeat) (n : ℕ) → IsSameSeat old new → view_of new ≡ after_load (view_of old) n → IsLater was old → IsLater was new
-later-load was old new n same view h =
-    later-by was old new [] (n ∷ []) same (ap (λ v. v.share) view) (ap (λ v. v.levels) view) (ap (λ v. v.offers) view ∙ sym (append-nil (view_of old).offers)) (ap (λ v. v.found) view) h
+pub later-load : (was old new : BestSeat) (n : ℕ) → n ≤ (view_of old).least → IsSameSeat old new → view_of new ≡ after_load (view_of old) n → IsLater was old → IsLater was new
+later-load was old new n low same view h =
+    later-by was old new [] (n ∷ []) same (ap (λ v. v.share) view) (ap (λ v. v.levels) view) (omega (arith, ap (λ v. v.least) view, low)) (ap (λ v. v.offers) view ∙ sym (append-nil (view_of old).offers)) (ap (λ v. v.found) view) h
 
-pub later-offer : (was old new : BestSeat) (k n : ℕ) → IsSameSeat old new → view_of new ≡ after_offer (view_of old) k n → IsLater was old → IsLater was new
-later-offer was old new k n same view h =
-    later-by was old new (k ∷ []) (n ∷ []) same (ap (λ v. v.share) view) (ap (λ v. v.levels) view) (ap (λ v. v.offers) view) (ap (λ v. v.found) view) h
+pub later-offer : (was old new : BestSeat) (k n : ℕ) → n ≤ (view_of old).least → IsSameSeat old new → view_of new ≡ after_offer (view_of old) k n → IsLater was old → IsLater was new
+later-offer was old new k n low same view h =
+    later-by was old new (k ∷ []) (n ∷ []) same (ap (λ v. v.share) view) (ap (λ v. v.levels) view) (let least = ap (λ v. v.least) view in omega (arith, least, low)) (ap (λ v. v.offers) view) (ap (λ v. v.found) view) h
 
 pub later-here : (seat : BestSeat) → IsLater seat seat
-later-here seat = record { table = refl; share = refl; levels = refl; offered = []; offers = sym (append-nil (view_of seat).offers); seen = []; found = sym (append-nil (view_of seat).found) }
+later-here seat = record { table = refl; share = refl; levels = refl; falls = le_refl (view_of seat).least; offered = []; offers = sym (append-nil (view_of seat).offers); seen = []; found = sym (append-nil (view_of seat).found) }
 
 -- a load finds the first word of those that are found from then on
 pub finds-first : (old mid new : BestSeat) (n : ℕ) → view_of mid ≡ after_load (view_of old) n → IsLater mid new → FindsFirst (view_of old).found (view_of new).found n
@@ -55,4 +56,4 @@ finds-first old mid new n view h = record {
 }
 
 pub later-trans : (was old new : BestSeat) → IsLater was old → IsLater old new → IsLater was new
-later-trans was old new h k = later-by was old new k.offered k.seen k.table k.share k.levels k.offers k.found h
+later-trans was old new h k = later-by was old new k.offered k.seen k.table k.share k.levels k.falls k.offers k.found h

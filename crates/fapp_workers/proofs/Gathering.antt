@@ -17,10 +17,11 @@ use Rattle.fapp_workers.specs.declared.closing.Work.{Work}
 use Rattle.fapp_workers.specs.declared.gather.Put.{Put}
 use Rattle.fapp_workers.specs.declared.job.Done.{Done}
 use Rattle.fapp_workers.specs.declared.solve.Gathered.{Gathered}
-use Rattle.fapp_workers.specs.Collections.{IsGathered, IsPutBelow, IsPutByWorkers}
+use Rattle.fapp_workers.specs.Collections.{IsDeadCount, IsGathered, IsPutBelow, IsPutByWorkers}
 use Rattle.fapp_workers.specs.Puts.{ArePut, puts_from, put_at, put_ids}
 use Rattle.fapp_workers.specs.Solved.{AreSolved, IsWorkFor, times_done, works_logs}
 use Rattle.fapp_workers.specs.Works.{IsAllTaken, IsDone, branches_in, ids_of, ticks_in}
+use Rattle.fapp_workers.proofs.DeadCounts.{counts-dead}
 use Rattle.fapp_workers.proofs.Putting.{once_at}
 
 -- ---- puts and works
@@ -164,6 +165,7 @@ module _ (split : Split) (fuel workers : ℕ) (works : List Work) (word : ℕ) (
     gathered g same_logs same_outcomes same_ticks same_word = record {
       rows = solved.rows;
       logs = subst (Rattle.merge_laws.specs.GoodLogs.AreGoodLogs split.instance solved.rows) (sym same_logs) solved.good;
+      dead = subst (λ ls. All (λ (log : LogState). All (IsDeadCount split.instance) log.lines) ls) (sym same_logs) (counts-dead split.instance solved.rows logs solved.good);
       word = rw (same_logs, same_word) solved.least;
       settled = rw (same_logs, same_outcomes, same_word) (record { planned = put.whole.0; each = placed });
       counted = rw same_ticks put.whole.1;

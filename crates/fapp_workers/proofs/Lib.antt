@@ -9,4 +9,5 @@ pub mod Ending
 pub mod Solving
 pub mod Final
 pub mod Putting
+pub mod DeadCounts
 pub mod Gathering

@@ -1,8 +1,12 @@
 -- What all workers did, by job.
 use Rattle.std.specs.Prelude.{◌≡◌, ℕ, ◌<◌, ◌≤◌, List, [], length, slice_index_or, sum, sum_by, All, Some, None}
+use Rattle.fapp_model.specs.declared.instance.Instance.{Instance}
+use Rattle.fapp_model.specs.Tags.{triple_from}
+use Rattle.fapp_model.specs.search.Dead.{Dead}
 use Rattle.fapp_model.specs.search.Jobs.{job_count}
 use Rattle.fapp_plan.specs.Outcomes.{Placed}
 use Rattle.fapp_plan.specs.Plans.{Split}
+use Rattle.log_laws.specs.declared.line.LogLine.{LogLine}
 use Rattle.log_laws.specs.Contents.{KnownRow}
 use Rattle.search_log.specs.LogStates.{LogState}
 use Rattle.merge_laws.specs.GoodLogs.{AreGoodLogs}
@@ -11,12 +15,18 @@ use Rattle.outcome_laws.specs.Outcomes.{AreTicksOf}
 use Rattle.fapp_workers.specs.declared.solve.Gathered.{Gathered}
 use Rattle.fapp_workers.specs.Works.{IsAllTaken, branches_in}
 
--- The logs are good over the rows that they call home, each in one of them. Each job has one outcome, which a log or such a row
+-- a Count line's literals are dead at its tag
+abbrev pub IsDeadCount : Instance → LogLine → Type 0
+IsDeadCount instance line = line.path ≡ None → Dead instance (triple_from line.tag.code) line.lits
+
+-- The logs are good over the rows that they call home, each in one of them; a Count line of them
+-- cites nothing and is dead at its tag. Each job has one outcome, which a log or such a row
 -- shows; the word is the least cost that is kept; no job has more ticks than its fuel or its tries; and the Branch lines of all
 -- logs are no more than the ticks of all jobs.
 pub record IsGathered (split : Split) (fuel : ℕ) (gathered : Gathered) : Type 0 where
   pub rows : List KnownRow
   pub logs : AreGoodLogs split.instance rows gathered.logs.items
+  pub dead : All (λ (log : LogState). All (IsDeadCount split.instance) log.lines) gathered.logs.items
   pub word : IsLeastWord split.instance gathered.logs.items gathered.word.code
   pub settled : AreSettled split fuel rows gathered.logs.items gathered.word.code gathered.collected
   pub counted : length gathered.ticks.items ≡ job_count split.instance split.split

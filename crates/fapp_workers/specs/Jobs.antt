@@ -50,27 +50,20 @@ pub record IsLacking (split : Split) (fuel id : ℕ) (read : BoundState) (old ne
   pub settles : Settles split.instance (job_level split.instance id) (job_prefix split.instance split.split id)
       (world fuel read old.shared old.log) (world rest new.bound new.shared new.log) (Err lack)
 
--- a job was begun, and its search was given up
-pub record IsBegun (split : Split) (fuel : ℕ) (old new : Held) : Type 0 where
-  pub id : ℕ
+-- a job was begun, its start leaves something to find, and its search was given up
+pub record IsBegun (split : Split) (fuel id : ℕ) (old new : Held) : Type 0 where
   pub inside : id < job_count split.instance split.split
   pub start : ℕ
   pub read : BoundState
   pub tells : Tells old.bound read start
+  pub above : level_code (job_level split.instance id) < start
   pub lacks : IsLacking split fuel id read old new
 
--- for want of memory a job was not begun, or its search was given up
-abbrev pub IsGivenUp : Split → ℕ → Held → Held → Type 0
-IsGivenUp split fuel old new = (new ≡ old) ⊎ IsBegun split fuel old new
+-- of at most one job that was given: it was not begun, or its search was given up
+abbrev pub IsGivenUp : Split → ℕ → List ℕ → Held → Held → Type 0
+IsGivenUp split fuel rest old new = ((length rest ≤ 1) × (new ≡ old)) ⊎ ((id : ℕ) × (rest ≡ id ∷ []) × IsBegun split fuel id old new)
 
 -- the jobs were decided one after another, and nothing happened between them
 abbrev pub AreDecided : Split → ℕ → Held → List Done → Held → Type 0
 AreDecided split fuel old [] new = new ≡ old
 AreDecided split fuel old (done ∷ more) new = (mid : Held) × Decides split fuel old mid done × AreDecided split fuel mid more new
-
--- some jobs were decided, one after another, and the one behind them was given up
-pub record IsCutShort (split : Split) (fuel : ℕ) (old new : Held) : Type 0 where
-  pub done : List Done
-  pub mid : Held
-  pub decided : AreDecided split fuel old done mid
-  pub last : IsGivenUp split fuel mid new

@@ -14,7 +14,7 @@ use Rattle.search_log.specs.declared.job.Outcome.TheVariants.{Refuted, Moot, Spe
 use Rattle.steal_ring.specs.declared.hand.Hand.{Hand}
 use Rattle.steal_ring.specs.Hands.{won_of, IsDone as IsAtEnd}
 use Rattle.fapp_workers.specs.declared.job.Done.{Done}
-use Rattle.fapp_workers.specs.Jobs.{Held}
+use Rattle.fapp_workers.specs.Jobs.{AreDecided, Held, IsGivenUp}
 
 abbrev pub ids_of : List Done → List ℕ
 ids_of done = map (λ (d : Done). d.id) done
@@ -51,7 +51,7 @@ IsAllTaken fuel (Refuted line tag) ticks = Unit {0}
 IsAllTaken fuel (Moot seen) ticks = Unit {0}
 IsAllTaken fuel Spent ticks = ticks ≡ fuel
 
--- a job is settled by what the log and the rows say, for every word that is at most the given one, within its fuel and tries
+-- a job is settled by what the log and the rows say, for the given word and so (a law) for each lower one, within its fuel and tries
 pub record IsDone (split : Split) (fuel : ℕ) (rows : List KnownRow) (lines : List LogLine) (word : ℕ) (done : Done) : Type 0 where
   pub inside : done.id < job_count split.instance split.split
   pub settled : IsJobSettledBy split fuel done.id rows lines word done.outcome
@@ -67,3 +67,12 @@ pub record IsLogClause (split : Split) (fuel : ℕ) (old new : Held) (done : Lis
   pub lines : Gains old.log.lines new.log.lines
   pub branches : branches_in new.log.lines ≤ branches_in old.log.lines + ticks_in done
   pub each : All (IsDone split fuel new.shared.copied new.log.lines (floor new.bound)) done
+
+-- Want of memory ended the call: some jobs were decided, one after another, and the hand was given these and at most one more.
+pub record IsCutShort (split : Split) (fuel : ℕ) (was now : List ℕ) (old new : Held) : Type 0 where
+  pub done : List Done
+  pub mid : Held
+  pub decided : AreDecided split fuel old done mid
+  pub rest : List ℕ
+  pub given : now ≡ was ++ (ids_of done ++ rest)
+  pub last : IsGivenUp split fuel rest mid new

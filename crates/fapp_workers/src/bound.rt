@@ -67,6 +67,7 @@ impl<'a> Bound for SharedBound<'a> {
         ensures tells { Tells (⟦<SharedBound<'a> as Bound>⟧.state self.old) (⟦<SharedBound<'a> as Bound>⟧.state self.new) result.code }
         ensures since { (was : _) → ⟦<SharedBound<'a> as Bound>⟧.since was self.old → ⟦<SharedBound<'a> as Bound>⟧.since was self.new }
         ensures view { view_of self.new.seat ≡ after_load (view_of self.old.seat) result.code }
+        ensures least { result.code ≤ (view_of self.old.seat).least }
     {
         self.told = self.word.now(&mut self.seat);
         self.told

@@ -1,5 +1,5 @@
 // One job of a worker: the bound is read, and where it leaves something to find the job is searched.
-ghost use Rattle.std.specs.Prelude.{◌≡◌, ◌<◌, ◌≤◌, [], IfErr, IfOk};
+ghost use Rattle.std.specs.Prelude.{◌≡◌, ◌<◌, ◌≤◌, [], ◌∷◌, IfErr, IfOk};
 ghost use Rattle.fapp_model.specs.search.Jobs.{job_count, job_level, job_prefix};
 ghost use Rattle.best_word.specs.Seats.{view_of};
 ghost use Rattle.fapp_workers.specs.SharedBounds.{FindsFirst, IsLater};
@@ -88,7 +88,7 @@ pub(crate) fn decide<H: Shared>(
     ensures empty { forward.new.pushed ≡ [] }
     ensures id { IfOk result (λ done. done.id ≡ id) }
     ensures first { IfOk result (λ done. FindsFirst (view_of bound.old.seat).found (view_of bound.new.seat).found done.start.code) }
-    ensures lack { IfErr result (λ _. IsGivenUp plan.now amount (held (state_of bound.old) (H.state shared.old) log.old)
+    ensures lack { IfErr result (λ _. IsGivenUp plan.now amount (id ∷ []) (held (state_of bound.old) (H.state shared.old) log.old)
         (held (state_of bound.new) (H.state shared.new) log.new)) }
     ensures decides { IfOk result (Decides plan.now amount (held (state_of bound.old) (H.state shared.old) log.old)
         (held (state_of bound.new) (H.state shared.new) log.new)) }

@@ -7,12 +7,12 @@ ghost use Rattle.settle_laws.specs.Worlds.{IsLeastOffered};
 ghost use Rattle.best_word.specs.Seats.{view_of};
 ghost use Rattle.nogood_pool.specs.Seats.{view_of as pool_view};
 ghost use Rattle.pool_rows.specs.PoolRows.{AreLater, state_of_rows};
-ghost use Rattle.steal_ring.specs.Hands.{IsHandOf, IsSameHand};
+ghost use Rattle.steal_ring.specs.Hands.{won_of, IsHandOf, IsSameHand};
 ghost use Rattle.fapp_workers.specs.SharedBounds.{IsLater};
 ghost use Rattle.fapp_workers.specs.States.{state_of};
-ghost use Rattle.fapp_workers.specs.Jobs.{AreDecided, IsCutShort, held};
+ghost use Rattle.fapp_workers.specs.Jobs.{AreDecided, held};
 ghost use Rattle.fapp_workers.specs.Rows.{IsOffersClause, IsRowsClause};
-ghost use Rattle.fapp_workers.specs.Works.{IsBoundClause, IsHandClause, IsLogClause};
+ghost use Rattle.fapp_workers.specs.Works.{IsBoundClause, IsCutShort, IsHandClause, IsLogClause};
 
 use crate::bound::SharedBound;
 use crate::job::{Done, decide};
@@ -55,7 +55,7 @@ pub(crate) fn decide_all<H: Shared, G: Gate>(
     ensures serves { H.serves shared.new plan.now.instance }
     ensures jobs { IfOk result (λ done. IsHandClause hand.old hand.new done.items) }
     ensures bound { IfOk result (λ done. IsBoundClause (view_of bound.old.seat).found (view_of bound.new.seat).found done.items) }
-    ensures short { IfErr result (λ _. IsCutShort plan.now fuel (held (state_of bound.old) (H.state shared.old) log.old)
+    ensures short { IfErr result (λ _. IsCutShort plan.now fuel (won_of hand.old) (won_of hand.new) (held (state_of bound.old) (H.state shared.old) log.old)
         (held (state_of bound.new) (H.state shared.new) log.new)) }
     ensures decided { IfOk result (λ done. AreDecided plan.now fuel (held (state_of bound.old) (H.state shared.old) log.old) done.items
         (held (state_of bound.new) (H.state shared.new) log.new)) }
@@ -74,7 +74,7 @@ pub(crate) fn decide_all<H: Shared, G: Gate>(
 }
 
 /// One worker: it asks its hand for jobs until none is left, and decides each of them. It reads the shared least cost as each
-/// job begins, looks up the rows of the pool, and publishes the lines that refute its jobs. There is one `Done` a job, in
+/// job begins, looks up the rows of the pool, and offers it the lines that refute its jobs. There is one `Done` a job, in
 /// the order in which the hand was given them. After `NoMemory` the hand, the bound, the rows and the log keep what was
 /// done until then, and the job that was given up leaves what its search leaves.
 pub fn work<G: Gate>(
@@ -102,7 +102,7 @@ pub fn work<G: Gate>(
     ensures same_rows { AreLater rows.old rows.new }
     ensures jobs { IfOk result (λ done. IsHandClause hand.old hand.new done.items) }
     ensures bound { IfOk result (λ done. IsBoundClause (view_of bound.old.seat).found (view_of bound.new.seat).found done.items) }
-    ensures short { IfErr result (λ _. IsCutShort plan.now fuel (held (state_of bound.old) (state_of_rows rows.old) log.old)
+    ensures short { IfErr result (λ _. IsCutShort plan.now fuel (won_of hand.old) (won_of hand.new) (held (state_of bound.old) (state_of_rows rows.old) log.old)
         (held (state_of bound.new) (state_of_rows rows.new) log.new)) }
     ensures decided { IfOk result (λ done. AreDecided plan.now fuel (held (state_of bound.old) (state_of_rows rows.old) log.old) done.items
         (held (state_of bound.new) (state_of_rows rows.new) log.new)) }

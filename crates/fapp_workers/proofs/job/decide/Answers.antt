@@ -1,8 +1,10 @@
-use Rattle.std.proofs.Common.{◌≤◌, inl, inr, refl, arith}
+use Rattle.std.proofs.Common.{◌<◌, ◌≤◌, inl, inr, refl, arith, rules}
 use Rattle.std.proofs.lemmas.Bool.{le-leb}
 use Rattle.fapp_model.proofs.LevelNumbers.{levels-few}
 use Rattle.tries_laws.proofs.JobParts.{job-is}
 use Rattle.fapp_workers.proofs.Bounds.{finds-first, later-here}
+use Rattle.fapp_model.specs.search.Jobs.{job_level}
+use Rattle.settle_laws.specs.Levels.{level_code}
 use Rattle.fapp_workers.specs.States.{state_of}
 use Rattle.fapp_workers.proofs.Deciding.{if-err}
 use Rattle.fapp_workers.proofs.job.decide.Goals as goal
@@ -30,16 +32,21 @@ pub returns-clause-first : goal.returns-clause-first
 returns-clause-first g c = finds-first c.args.bound.now.seat c.now-start.new.self.seat c.search.new.bound.seat c.now-start.result.code c.now-start.ensures.view (c.search.ensures.bound c.now-start.new.self (later-here c.now-start.new.self.seat))
 
 pub returns-in_err-job-clause-lack : goal.returns-in_err-job-clause-lack
-returns-in_err-job-clause-lack g c = if-err _ _ (inl refl)
+returns-in_err-job-clause-lack g c = if-err _ _ (inl (omega arith, refl))
 
 pub returns-in_err-ended-clause-lack : goal.returns-in_err-ended-clause-lack
 returns-in_err-ended-clause-lack g c =
     let lacks = c.in_err-ended.ensures.lack in
-    if-err _ _ (inr (record {
-      id = c.args.id;
-      inside = c.requires.id;
-      start = c.now-start.result.code;
-      read = state_of c.now-start.new.self;
-      tells = c.now-start.ensures.tells;
-      lacks = record { rest = lacks.rest; lack = lacks.lack; settles = lacks.settles };
-    }))
+    let above : level_code (job_level c.args.plan.now.instance c.args.id) < c.now-start.result.code = search rules in
+    if-err _ _ (inr (
+      c.args.id,
+      refl,
+      record {
+        inside = c.requires.id;
+        start = c.now-start.result.code;
+        read = state_of c.now-start.new.self;
+        tells = c.now-start.ensures.tells;
+        above = above;
+        lacks = record { rest = lacks.rest; lack = lacks.lack; settles = lacks.settles };
+      },
+    ))

@@ -5,14 +5,19 @@ use Rattle.settle_laws.proofs.Entering.{floor-le}
 use Rattle.best_word.specs.Seats.{view_of}
 use Rattle.steal_ring.specs.Hands.{won_of}
 use Rattle.fapp_workers.specs.declared.job.Done.{Done}
-use Rattle.fapp_workers.specs.Jobs.{IsCutShort, held}
+use Rattle.fapp_workers.specs.Jobs.{held}
 use Rattle.fapp_workers.specs.States.{state_of}
-use Rattle.fapp_workers.specs.Works.{IsLogClause, ids_of}
+use Rattle.fapp_workers.specs.Works.{IsCutShort, IsLogClause, ids_of}
 use Rattle.fapp_workers.proofs.Bounds.{later-here, later-trans}
 use Rattle.fapp_workers.proofs.Deciding.{if-err}
 use Rattle.fapp_workers.proofs.Starting.{AreStarted, none-started, one-started}
 use Rattle.fapp_workers.proofs.Working.{at-start, decided-on, told-after, works-on}
 use Rattle.fapp_workers.proofs.worker.decide_all.Goals as goal
+
+-- the jobs given, with one more
+given-on : (old now next : List ℕ) (done longer : List Done) (last : Done) → longer ≡ done ++ last ∷ [] → now ≡ old ++ ids_of done → next ≡ now ++ last.id ∷ [] → next ≡ old ++ ids_of longer
+given-on old now next done longer last more was is =
+    is ∙ (ap (λ (xs : List ℕ). xs ++ last.id ∷ []) was ∙ (append_assoc old (ids_of done) (last.id ∷ []) ∙ ap (λ xs. old ++ xs) (sym (ap ids_of more ∙ map-append (λ (d : Done). d.id) done (last ∷ [])))))
 
 pub loop-id-init : goal.loop-id-init
 loop-id-init g c =
@@ -61,15 +66,12 @@ loop-id-preserved g c =
       decided = rw more (decided-on c.args.plan.now c.args.fuel (held (state_of c.args.bound.now) (g.H.Shared.state c.args.shared.now) c.args.log.now) now next done last was.decided decides);
       log = rw more (works-on c.args.plan.now c.args.fuel (held (state_of c.args.bound.now) (g.H.Shared.state c.args.shared.now) c.args.log.now) now next done last was.log decides);
     }
-  where
-    given-on : (old now next : List ℕ) (done longer : List Done) (last : Done) → longer ≡ done ++ last ∷ [] → now ≡ old ++ ids_of done → next ≡ now ++ last.id ∷ [] → next ≡ old ++ ids_of longer
-    given-on old now next done longer last more was is =
-        is ∙ (ap (λ (xs : List ℕ). xs ++ last.id ∷ []) was ∙ (append_assoc old (ids_of done) (last.id ∷ []) ∙ ap (λ xs. old ++ xs) (sym (ap ids_of more ∙ map-append (λ (d : Done). d.id) done (last ∷ [])))))
 
 pub returns-in_err-forward-clause-short : goal.returns-in_err-forward-clause-short
 returns-in_err-forward-clause-short g c =
     let old = held (state_of c.args.bound.now) (g.H.Shared.state c.args.shared.now) c.args.log.now in
-    let short : IsCutShort c.args.plan.now c.args.fuel old old = record { done = []; mid = old; decided = refl; last = inl refl } in
+    let won = won_of c.args.hand.now in
+    let short : IsCutShort c.args.plan.now c.args.fuel won won old old = record { done = []; mid = old; decided = refl; rest = []; given = sym (append-nil won); last = inl (omega arith, refl) } in
     if-err _ _ short
 
 pub returns-in_err-decided-clause-short : goal.returns-in_err-decided-clause-short
@@ -77,7 +79,10 @@ returns-in_err-decided-clause-short g c =
     let old = held (state_of c.args.bound.now) (g.H.Shared.state c.args.shared.now) c.args.log.now in
     let now = held (state_of c.loop-id.bound) (g.H.Shared.state c.loop-id.shared) c.loop-id.log in
     let next = held (state_of c.decide-decided.new.bound) (g.H.Shared.state c.decide-decided.new.shared) c.decide-decided.new.log in
-    let short : IsCutShort c.args.plan.now c.args.fuel old next = record { done = c.loop-id.done.items; mid = now; decided = c.loop-id.invariant.decided; last = c.in_err-decided.ensures.lack } in
+    let done = c.loop-id.done.items in
+    let given = c.in-Some.ensures.some.2 ∙ (ap (λ xs. xs ++ c.in-Some.id ∷ []) c.loop-id.invariant.given ∙ append_assoc (won_of c.args.hand.now) (ids_of done) (c.in-Some.id ∷ [])) in
+    let short : IsCutShort c.args.plan.now c.args.fuel (won_of c.args.hand.now) (won_of c.next.new.hand) old next =
+    record { done = done; mid = now; decided = c.loop-id.invariant.decided; rest = c.in-Some.id ∷ []; given = given; last = c.in_err-decided.ensures.lack } in
     if-err _ _ short
 
 pub returns-in_err-push-clause-short : goal.returns-in_err-push-clause-short
@@ -87,5 +92,9 @@ returns-in_err-push-clause-short g c =
     let now = held (state_of c.loop-id.bound) (g.H.Shared.state c.loop-id.shared) c.loop-id.log in
     let next = held (state_of c.decide-decided.new.bound) (g.H.Shared.state c.decide-decided.new.shared) c.decide-decided.new.log in
     let more = decided-on c.args.plan.now c.args.fuel old now next c.loop-id.done.items last c.loop-id.invariant.decided c.in_ok-decided.ensures.decides in
-    let short : IsCutShort c.args.plan.now c.args.fuel old next = record { done = c.loop-id.done.items ++ last ∷ []; mid = next; decided = more; last = inl refl } in
+    let done = c.loop-id.done.items in
+    let given = given-on (won_of c.args.hand.now) (won_of c.loop-id.hand) (won_of c.next.new.hand) done (done ++ last ∷ []) last refl c.loop-id.invariant.given
+    (c.in-Some.ensures.some.2 ∙ ap (λ n. won_of c.loop-id.hand ++ n ∷ []) (sym c.in_ok-decided.ensures.id)) in
+    let short : IsCutShort c.args.plan.now c.args.fuel (won_of c.args.hand.now) (won_of c.next.new.hand) old next =
+    record { done = done ++ last ∷ []; mid = next; decided = more; rest = []; given = given ∙ sym (ap (λ xs. won_of c.args.hand.now ++ xs) (append-nil (ids_of (done ++ last ∷ [])))); last = inl (omega arith, refl) } in
     if-err _ _ short

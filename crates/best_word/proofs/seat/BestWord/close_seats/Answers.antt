@@ -1,9 +1,9 @@
-use Rattle.std.proofs.Common.{arith, ◌≡◌, ℕ, ◌+◌, List, [], ◌∷◌, ◌++◌, sum_by, Some, ap, sym, ◌∙◌, subst}
+use Rattle.std.proofs.Common.{arith, ◌≡◌, ℕ, ◌+◌, ◌-◌, take, List, [], ◌∷◌, ◌++◌, sum_by, Some, ap, sym, ◌∙◌, subst}
 use Rattle.std.proofs.lemmas.List.Elements.{All-pop}
 use Rattle.std.proofs.lemmas.List.Sums.{sum_by_push}
 use Rattle.best_word.specs.declared.seat.BestSeat.{BestSeat}
 use Rattle.best_word.specs.Seats.{view_of, IsSeatOf}
-use Rattle.best_word.proofs.Joining.{IsJoined, joined-first, joined-more}
+use Rattle.best_word.proofs.Joining.{IsJoined, joined-all, joined-first, joined-more}
 use Rattle.best_word.proofs.seat.BestWord.close_seats.Goals as goal
 
 popped : (f : BestSeat → ℕ) (seats rest : List BestSeat) (s : BestSeat) → seats ≡ rest ++ s ∷ [] → sum_by f seats ≡ sum_by f rest + f s
@@ -40,3 +40,10 @@ loop-seat-preserved c =
       shares = let p = popped (λ (s : BestSeat). (view_of s).share) seats rest seat e in let s = was.shares in let w = ap (λ x. x.share) view in omega arith;
       joined = subst (IsJoined c.args.seats.items rest) (sym view) (joined-more c.args.seats.items seats rest seat (view_of c.loop-seat.all) e was.joined);
     }
+
+pub returns : goal.returns
+returns c =
+    let pop = c.in_default-pop.ensures in
+    let empty : c.loop-seat.seats.items ≡ [] = pop.items ∙ ap (λ (xs : List BestSeat). xs ++ []) (pop.rest ∙ ap (λ (n : ℕ). take (n - 1) c.loop-seat.seats.items) pop.cases.0) in
+    joined-all c.args.seats.items (view_of c.loop-seat.all) c.close.result.code
+    (subst (λ xs. IsJoined c.args.seats.items xs (view_of c.loop-seat.all)) empty c.loop-seat.invariant.joined) c.close.ensures

@@ -15,4 +15,4 @@ returns-clause-tells c =
     }
 
 pub returns-clause-since : goal.returns-clause-since
-returns-clause-since c was h = later-load was.seat c.args.self.now.seat c.now-self.new.seat c.now-self.result.code c.now-self.ensures.same c.now-self.ensures.view h
+returns-clause-since c was h = later-load was.seat c.args.self.now.seat c.now-self.new.seat c.now-self.result.code c.now-self.ensures.least c.now-self.ensures.same c.now-self.ensures.view h
