@@ -10,3 +10,4 @@ pub mod Solving
 pub mod Final
 pub mod Putting
 pub mod Gathering
+pub mod FirstRows

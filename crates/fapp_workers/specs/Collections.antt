@@ -1,15 +1,28 @@
 -- What all workers did, by job.
-use Rattle.std.specs.Prelude.{◌≡◌, ℕ, ◌<◌, ◌≤◌, List, [], length, slice_index_or, sum, sum_by, All, Some, None}
+use Rattle.std.specs.Prelude.{◌≡◌, ℕ, ◌<◌, ◌≤◌, List, [], ◌++◌, length, slice_index_or, sum, sum_by, All, Some, None}
 use Rattle.fapp_model.specs.search.Jobs.{job_count}
 use Rattle.fapp_plan.specs.Outcomes.{Placed}
 use Rattle.fapp_plan.specs.Plans.{Split}
 use Rattle.log_laws.specs.Contents.{KnownRow}
 use Rattle.search_log.specs.LogStates.{LogState}
 use Rattle.merge_laws.specs.GoodLogs.{AreGoodLogs}
+use Rattle.home_laws.specs.Laws.{AreGoodLogsOver}
 use Rattle.outcome_laws.specs.Gathered.{AreSettled, IsLeastWord}
 use Rattle.outcome_laws.specs.Outcomes.{AreTicksOf}
 use Rattle.fapp_workers.specs.declared.solve.Gathered.{Gathered}
 use Rattle.fapp_workers.specs.Works.{IsAllTaken, branches_in}
+
+-- The logs are good over the rows that they call home, each in one of them, and those that were placed before, none of which is
+-- home. Each job has one outcome, which a log or such a row shows; the word is the least cost that is kept; no job has more ticks
+-- than its fuel or its tries; and the Branch lines of all logs are no more than the ticks of all jobs.
+pub record IsGatheredOver (split : Split) (fuel : ℕ) (placed : List KnownRow) (gathered : Gathered) : Type 0 where
+  pub rows : List KnownRow
+  pub logs : AreGoodLogsOver split.instance placed rows gathered.logs.items
+  pub word : IsLeastWord split.instance gathered.logs.items gathered.word.code
+  pub settled : AreSettled split fuel (placed ++ rows) gathered.logs.items gathered.word.code gathered.collected
+  pub counted : length gathered.ticks.items ≡ job_count split.instance split.split
+  pub ticks : (id : ℕ) → id < job_count split.instance split.split → AreTicksOf split fuel id (slice_index_or gathered.ticks.items id 0)
+  pub branches : sum_by (λ (log : LogState). branches_in log.lines) gathered.logs.items ≤ sum gathered.ticks.items
 
 -- The logs are good over the rows that they call home, each in one of them. Each job has one outcome, which a log or such a row
 -- shows; the word is the least cost that is kept; no job has more ticks than its fuel or its tries; and the Branch lines of all
