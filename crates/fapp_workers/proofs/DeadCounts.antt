@@ -1,5 +1,5 @@
 -- The Count lines of good logs.
-use Rattle.std.proofs.Common.{◌≡◌, ◌⊎◌, inl, inr, ℕ, ◌<◌, ◌≤◌, List, length, take, get_or, All, None, ap, arith}
+use Rattle.std.proofs.Common.{◌≡◌, ◌⊎◌, inl, inr, ℕ, ◌<◌, ◌≤◌, List, ◌++◌, length, take, get_or, All, None, ap, arith}
 use Rattle.std.specs.List.{slice_get}
 use Rattle.std.proofs.lemmas.Bool.{cases_lt}
 use Rattle.std.proofs.lemmas.Option.{slice_get-get_or}
@@ -12,7 +12,8 @@ use Rattle.log_laws.specs.declared.line.LogLine.{LogLine}
 use Rattle.log_laws.specs.Contents.{Cites, KnownRow}
 use Rattle.log_laws.specs.GoodLines.{AreGoodLines, IsGoodLine}
 use Rattle.search_log.specs.LogStates.{LogState}
-use Rattle.merge_laws.specs.GoodLogs.{AreGoodLogs, IsBare}
+use Rattle.home_laws.specs.Laws.{AreGoodLogsOver}
+use Rattle.merge_laws.specs.GoodLogs.{IsBare}
 use Rattle.merge_laws.proofs.Beside.{zip-none}
 use Rattle.merge_laws.proofs.WrittenLines.{left-out-dead}
 use Rattle.fapp_workers.specs.Collections.{IsDeadCount}
@@ -24,8 +25,8 @@ dead-count instance rows earlier line good bare e (inl some) =
     (rw e at good.passes some)
 dead-count instance rows earlier line good bare e (inr none) = let zero : line.tag.code ≡ 0 = omega (arith, none) in Dead.least (ap triple_from zero)
 
-pub counts-dead : (instance : Instance) (rows : List KnownRow) (logs : List LogState) → AreGoodLogs instance rows logs → All (λ (log : LogState). All (IsDeadCount instance) log.lines) logs
-counts-dead instance rows logs are = λ k d less n line inside e.
+pub counts-dead : (instance : Instance) (placed rows : List KnownRow) (logs : List LogState) → AreGoodLogsOver instance placed rows logs → All (λ (log : LogState). All (IsDeadCount instance) log.lines) logs
+counts-dead instance placed rows logs are = λ k d less n line inside e.
     let log = get_or logs k d in
     let other = get_or log.lines n line in
-    dead-count instance rows (take n log.lines) other ((are.good k d less).good_lines n other (slice_get-get_or log.lines n line inside)) (are.bare k d less n line inside) e (cases_lt 0 other.tag.code)
+    dead-count instance (placed ++ rows) (take n log.lines) other ((are.good k d less).good_lines n other (slice_get-get_or log.lines n line inside)) (are.bare k d less n line inside) e (cases_lt 0 other.tag.code)

@@ -1,5 +1,5 @@
 -- The final word and the works of all.
-use Rattle.std.proofs.Common.{◌≡◌, ◌⊎◌, inl, inr, ⊎_elim, ℕ, zero, suc, ◌+◌, ◌<◌, ◌≤◌, min, List, [], ◌∷◌, length, map, get_or, sum_by, All, Contains, Option, Some, None, Ok, IfOk, fold, refl, sym, ap, ◌∙◌, subst, arith, le_trans, le_refl}
+use Rattle.std.proofs.Common.{◌≡◌, ◌⊎◌, inl, inr, ⊎_elim, ℕ, zero, suc, ◌+◌, ◌<◌, ◌≤◌, min, List, [], ◌∷◌, ◌++◌, length, map, get_or, sum_by, All, Contains, Option, Some, None, Ok, IfOk, fold, refl, sym, ap, ◌∙◌, subst, arith, le_trans, le_refl}
 use Rattle.std.proofs.lemmas.List.{get_or-map, get_or_default, length-map}
 use Rattle.std.proofs.lemmas.List.Elements.{All-map, All-weaker, Contains-get_or}
 use Rattle.fapp_model.specs.declared.instance.Instance.{Instance}
@@ -31,8 +31,8 @@ use Rattle.std.specs.List.{AllZip}
 use Rattle.std.proofs.lemmas.List.Elements.{All-cons, All-head, All-nil, All-tail}
 use Rattle.home_laws.specs.Ends.{AreClosed, IsSeatEnd, IsWorkerEnd, WorkerEnd, all_published, logs_of}
 use Rattle.home_laws.proofs.Closing.{closes}
-use Rattle.home_laws.proofs.Homes.{good-alone}
-use Rattle.merge_laws.specs.GoodLogs.{AreGoodLogs}
+use Rattle.home_laws.proofs.Homes.{good-after}
+use Rattle.home_laws.specs.Laws.{AreGoodLogsOver}
 use Rattle.steal_ring.specs.declared.seat.Ring.{Ring}
 use Rattle.steal_ring.specs.Hands.{won_of, times_given}
 use Rattle.steal_ring.specs.Jobs.{times}
@@ -156,7 +156,7 @@ module _ (split : Split) (fuel : ℕ) where
 
 -- ---- all works
 
-module _ (split : Split) (fuel workers : ℕ) (valid : IsInstance split.instance) (ring : Ring) (word : BestWord) (pool : Pool) (first : PoolView) (unpublished : first.published ≡ []) (old new : List Place) (len : length new ≡ length old) (count : length old ≡ workers)
+module _ (split : Split) (fuel workers : ℕ) (valid : IsInstance split.instance) (ring : Ring) (word : BestWord) (pool : Pool) (first : PoolView) (placed : List KnownRow) (published : all_known first.published ≡ placed) (old new : List Place) (len : length new ≡ length old) (count : length old ≡ workers)
     (stand : All (Stands split ring word pool) old) (tended : (i : ℕ) (d e : Place) → i < length old → IsTended split fuel ring word pool (get_or old i d) (get_or new i e))
     (works : List Work) (code : ℕ) (closed : IsClosed (job_count split.instance split.split) first new works code) where
   as-many : length works ≡ length new
@@ -183,17 +183,17 @@ module _ (split : Split) (fuel workers : ℕ) (valid : IsInstance split.instance
     ends : List WorkerEnd
     ends = ends-by split fuel new works zip
 
-    closed-ends : AreClosed [] ends
+    closed-ends : AreClosed placed ends
     unfolding ends ends-by
-    closed-ends = subst (λ rows. AreClosed rows ends) (ap all_known unpublished) (closes first (map pool_view (pool_seats_of new)) ends closed.pooled (ends-seats split fuel new works zip))
+    closed-ends = subst (λ rows. AreClosed rows ends) published (closes first (map pool_view (pool_seats_of new)) ends closed.pooled (ends-seats split fuel new works zip))
 
-    logs-are-good : AreGoodLogs split.instance (all_published ends) (works_logs works)
+    logs-are-good : AreGoodLogsOver split.instance placed (all_published ends) (works_logs works)
     unfolding ends ends-by
-    logs-are-good = subst (AreGoodLogs split.instance (all_published ends)) (ends-logs split fuel new works zip) (good-alone split.instance ends (ends-good split fuel new works zip) closed-ends)
+    logs-are-good = subst (AreGoodLogsOver split.instance placed (all_published ends)) (ends-logs split fuel new works zip) (good-after split.instance placed ends (ends-good split fuel new works zip) closed-ends)
 
-    work-for : All (IsWorkFor split fuel code (all_published ends)) works
+    work-for : All (IsWorkFor split fuel code (placed ++ all_published ends)) works
     unfolding ends ends-by
-    work-for = works-for split fuel (all_published ends) code new works zip (λ k q less. seat-low k q less) closed-ends.copied
+    work-for = works-for split fuel (placed ++ all_published ends) code new works zip (λ k q less. seat-low k q less) closed-ends.copied
 
     once : (job : ℕ) → job < job_count split.instance split.split → times_done job works ≡ 1
     once job inside =
@@ -244,7 +244,7 @@ module _ (split : Split) (fuel workers : ℕ) (valid : IsInstance split.instance
         keeps-by split.instance valid code (works_logs works) log among log.best (least_offer (view_of seat).offers) refl (work-at k w p inside).kept (offers-low k inside)
         (contains-low (view_of seat).offers code (subst (λ (s : BestSeat). Contains (view_of s).offers code) (sym (seat-place o.seat o.among)) o.offered))
 
-    pub solved : Work → AreSolved split fuel workers works code
+    pub solved : Work → AreSolved split fuel workers placed works code
     solved w = record {
       rows = all_published ends;
       count = as-many ∙ (len ∙ count);

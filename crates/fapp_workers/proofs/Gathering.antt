@@ -17,7 +17,8 @@ use Rattle.fapp_workers.specs.declared.closing.Work.{Work}
 use Rattle.fapp_workers.specs.declared.gather.Put.{Put}
 use Rattle.fapp_workers.specs.declared.job.Done.{Done}
 use Rattle.fapp_workers.specs.declared.solve.Gathered.{Gathered}
-use Rattle.fapp_workers.specs.Collections.{IsDeadCount, IsGathered, IsPutBelow, IsPutByWorkers}
+use Rattle.home_laws.specs.Laws.{AreGoodLogsOver}
+use Rattle.fapp_workers.specs.Collections.{IsDeadCount, IsGathered, IsGatheredOver, IsPutBelow, IsPutByWorkers}
 use Rattle.fapp_workers.specs.Puts.{ArePut, puts_from, put_at, put_ids}
 use Rattle.fapp_workers.specs.Solved.{AreSolved, IsWorkFor, times_done, works_logs}
 use Rattle.fapp_workers.specs.Works.{IsAllTaken, IsDone, branches_in, ids_of, ticks_in}
@@ -75,21 +76,25 @@ found-put (put ∷ puts) job some = ⊎_elim
 
 -- ---- what follows
 
-module _ (split : Split) (fuel workers : ℕ) (works : List Work) (word : ℕ) (solved : AreSolved split fuel workers works word) where
+module _ (split : Split) (fuel workers : ℕ) (placed : List KnownRow) (works : List Work) (word : ℕ) (solved : AreSolved split fuel workers placed works word) where
+  -- the rows over which the logs are good
+  abbrev rows : List KnownRow
+  rows = placed ++ solved.rows
+
   abbrev logs : List LogState
   logs = works_logs works
 
   -- what is known of each job that was put
   abbrev IsKnown : ℕ → Done → Type 0
-  IsKnown place done = (place < length works) × IsDone split fuel solved.rows (log_at logs place).lines word done
+  IsKnown place done = (place < length works) × IsDone split fuel rows (log_at logs place).lines word done
 
   known-at : (i : ℕ) (w : Work) → i < length works → All (IsKnown (0 + i)) (get_or works i w).done.items
   known-at i w less =
       let log = get_or-map (λ (x : Work). x.log) works i w empty_log less in
       let here : 0 + i ≡ i = omega arith in
       subst (λ m. All (IsKnown m) (get_or works i w).done.items) (sym here)
-      (All-weaker (IsDone split fuel solved.rows (get_or works i w).log.lines word) (IsKnown i)
-      (λ d one. (less, subst (λ (l : LogState). IsDone split fuel solved.rows l.lines word d) (sym log) one)) (get_or works i w).done.items (solved.each i w less).each)
+      (All-weaker (IsDone split fuel rows (get_or works i w).log.lines word) (IsKnown i)
+      (λ d one. (less, subst (λ (l : LogState). IsDone split fuel rows l.lines word d) (sym log) one)) (get_or works i w).done.items (solved.each i w less).each)
 
   all-known-puts : All (λ (put : Put). IsKnown put.place put.done) (puts_from 0 works)
   all-known-puts = all-put IsKnown 0 works known-at
@@ -126,12 +131,12 @@ module _ (split : Split) (fuel workers : ℕ) (works : List Work) (word : ℕ) (
         some-put [] some = absurd (omega (arith, some))
         some-put (p ∷ puts) some = p
 
-    placed : (id : ℕ) → id < job_count split.instance split.split → IsPlacedBy split fuel solved.rows logs word id (get_or outcomes id None)
-    placed id inside =
+    settled-at : (id : ℕ) → id < job_count split.instance split.split → IsPlacedBy split fuel rows logs word id (get_or outcomes id None)
+    settled-at id inside =
         let p = put-of id inside in
         let at : get_or outcomes id None ≡ Some (p.0.place, p.0.done.outcome) = ap (λ n. get_or outcomes n None) (sym p.1) ∙ p.3 in
-        subst (IsPlacedBy split fuel solved.rows logs word id) (sym at)
-        (subst (λ n. IsPlacedBy split fuel solved.rows logs word n (Some (p.0.place, p.0.done.outcome))) p.1
+        subst (IsPlacedBy split fuel rows logs word id) (sym at)
+        (subst (λ n. IsPlacedBy split fuel rows logs word n (Some (p.0.place, p.0.done.outcome))) p.1
         (omega (arith, p.2.0, length-map works (λ (x : Work). x.log)), p.2.1.settled))
 
     tried : (id : ℕ) → id < job_count split.instance split.split → AreTicksOf split fuel id (get_or ticks id 0)
@@ -150,24 +155,24 @@ module _ (split : Split) (fuel workers : ℕ) (works : List Work) (word : ℕ) (
     branches-few : sum_by (λ (log : LogState). branches_in log.lines) logs ≤ sum ticks
     branches-few = omega (arith, few works solved.each, put.total, ticks-put 0 works)
       where
-        few : (works : List Work) → All (IsWorkFor split fuel word solved.rows) works → sum_by (λ (log : LogState). branches_in log.lines) (works_logs works) ≤ sum_by (λ (w : Work). ticks_in w.done.items) works
+        few : (works : List Work) → All (IsWorkFor split fuel word rows) works → sum_by (λ (log : LogState). branches_in log.lines) (works_logs works) ≤ sum_by (λ (w : Work). ticks_in w.done.items) works
         few [] each = omega arith
         few (w ∷ works) each =
             omega (
               arith,
-              (All-head (IsWorkFor split fuel word solved.rows) w works each).branches,
-              few works (All-tail (IsWorkFor split fuel word solved.rows) w works each),
+              (All-head (IsWorkFor split fuel word rows) w works each).branches,
+              few works (All-tail (IsWorkFor split fuel word rows) w works each),
               sum_by-cons (λ (log : LogState). branches_in log.lines) w.log (works_logs works),
               sum_by-cons (λ (x : Work). ticks_in x.done.items) w works,
             )
 
-    pub gathered : (g : Gathered) → g.logs.items ≡ logs → g.collected ≡ outcomes → g.ticks.items ≡ ticks → g.word.code ≡ word → IsGathered split fuel g
+    pub gathered : (g : Gathered) → g.logs.items ≡ logs → g.collected ≡ outcomes → g.ticks.items ≡ ticks → g.word.code ≡ word → IsGatheredOver split fuel placed g
     gathered g same_logs same_outcomes same_ticks same_word = record {
       rows = solved.rows;
-      logs = subst (Rattle.merge_laws.specs.GoodLogs.AreGoodLogs split.instance solved.rows) (sym same_logs) solved.good;
-      dead = subst (λ ls. All (λ (log : LogState). All (IsDeadCount split.instance) log.lines) ls) (sym same_logs) (counts-dead split.instance solved.rows logs solved.good);
+      logs = subst (AreGoodLogsOver split.instance placed solved.rows) (sym same_logs) solved.good;
+      dead = subst (λ ls. All (λ (log : LogState). All (IsDeadCount split.instance) log.lines) ls) (sym same_logs) (counts-dead split.instance placed solved.rows logs solved.good);
       word = rw (same_logs, same_word) solved.least;
-      settled = rw (same_logs, same_outcomes, same_word) (record { planned = put.whole.0; each = placed });
+      settled = rw (same_logs, same_outcomes, same_word) (record { planned = put.whole.0; each = settled-at });
       counted = rw same_ticks put.whole.1;
       ticks = rw same_ticks tried;
       branches = rw (same_logs, same_ticks) branches-few;
@@ -178,3 +183,16 @@ module _ (split : Split) (fuel workers : ℕ) (works : List Work) (word : ℕ) (
       logs = rw same_logs (omega (arith, length-map works (λ (x : Work). x.log), solved.count));
       each = rw (same_outcomes, same_ticks) below;
     }
+
+-- where no row was placed before
+pub gathered-alone : (split : Split) (fuel : ℕ) (g : Gathered) → IsGatheredOver split fuel [] g → IsGathered split fuel g
+gathered-alone split fuel g h = record {
+  rows = h.rows;
+  logs = record { good = h.logs.good; home = h.logs.home; once = h.logs.once; bare = h.logs.bare };
+  dead = h.dead;
+  word = h.word;
+  settled = h.settled;
+  counted = h.counted;
+  ticks = h.ticks;
+  branches = h.branches;
+}

@@ -1,5 +1,5 @@
 -- What all workers did, by job.
-use Rattle.std.specs.Prelude.{◌≡◌, ℕ, ◌<◌, ◌≤◌, List, [], length, slice_index_or, sum, sum_by, All, Some, None}
+use Rattle.std.specs.Prelude.{◌≡◌, ℕ, ◌<◌, ◌≤◌, List, [], ◌++◌, length, slice_index_or, sum, sum_by, All, Some, None}
 use Rattle.fapp_model.specs.declared.instance.Instance.{Instance}
 use Rattle.fapp_model.specs.Tags.{triple_from}
 use Rattle.fapp_model.specs.search.Dead.{Dead}
@@ -10,6 +10,7 @@ use Rattle.log_laws.specs.declared.line.LogLine.{LogLine}
 use Rattle.log_laws.specs.Contents.{KnownRow}
 use Rattle.search_log.specs.LogStates.{LogState}
 use Rattle.merge_laws.specs.GoodLogs.{AreGoodLogs}
+use Rattle.home_laws.specs.Laws.{AreGoodLogsOver}
 use Rattle.outcome_laws.specs.Gathered.{AreSettled, IsLeastWord}
 use Rattle.outcome_laws.specs.Outcomes.{AreTicksOf}
 use Rattle.fapp_workers.specs.declared.solve.Gathered.{Gathered}
@@ -19,10 +20,21 @@ use Rattle.fapp_workers.specs.Works.{IsAllTaken, branches_in}
 abbrev pub IsDeadCount : Instance → LogLine → Type 0
 IsDeadCount instance line = line.path ≡ None → Dead instance (triple_from line.tag.code) line.lits
 
--- The logs are good over the rows that they call home, each in one of them; a Count line of them
--- cites nothing and is dead at its tag. Each job has one outcome, which a log or such a row
--- shows; the word is the least cost that is kept; no job has more ticks than its fuel or its tries; and the Branch lines of all
--- logs are no more than the ticks of all jobs.
+-- The logs are good over the rows that they call home, each in one of them, and those that were placed before, none of which is
+-- home; a Count line of them cites nothing and is dead at its tag. Each job has one outcome, which a log or such a row shows; the
+-- word is the least cost that is kept; no job has more ticks than its fuel or its tries; and the Branch lines of all logs are no
+-- more than the ticks of all jobs.
+pub record IsGatheredOver (split : Split) (fuel : ℕ) (placed : List KnownRow) (gathered : Gathered) : Type 0 where
+  pub rows : List KnownRow
+  pub logs : AreGoodLogsOver split.instance placed rows gathered.logs.items
+  pub dead : All (λ (log : LogState). All (IsDeadCount split.instance) log.lines) gathered.logs.items
+  pub word : IsLeastWord split.instance gathered.logs.items gathered.word.code
+  pub settled : AreSettled split fuel (placed ++ rows) gathered.logs.items gathered.word.code gathered.collected
+  pub counted : length gathered.ticks.items ≡ job_count split.instance split.split
+  pub ticks : (id : ℕ) → id < job_count split.instance split.split → AreTicksOf split fuel id (slice_index_or gathered.ticks.items id 0)
+  pub branches : sum_by (λ (log : LogState). branches_in log.lines) gathered.logs.items ≤ sum gathered.ticks.items
+
+-- the same where no row was placed before
 pub record IsGathered (split : Split) (fuel : ℕ) (gathered : Gathered) : Type 0 where
   pub rows : List KnownRow
   pub logs : AreGoodLogs split.instance rows gathered.logs.items

@@ -10,3 +10,4 @@ pub mod Closings
 pub mod Solved
 pub mod Puts
 pub mod Collections
+pub mod FirstRows

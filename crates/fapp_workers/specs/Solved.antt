@@ -1,10 +1,10 @@
 -- What all workers have done.
-use Rattle.std.specs.Prelude.{◌≡◌, ℕ, ◌<◌, ◌≤◌, List, length, map, sum_by, All}
+use Rattle.std.specs.Prelude.{◌≡◌, ℕ, ◌<◌, ◌≤◌, List, ◌++◌, length, map, sum_by, All}
 use Rattle.fapp_model.specs.search.Jobs.{job_count}
 use Rattle.fapp_plan.specs.Plans.{Split}
 use Rattle.log_laws.specs.Contents.{KnownRow}
 use Rattle.search_log.specs.LogStates.{LogState}
-use Rattle.merge_laws.specs.GoodLogs.{AreGoodLogs}
+use Rattle.home_laws.specs.Laws.{AreGoodLogsOver}
 use Rattle.outcome_laws.specs.Gathered.{IsLeastWord}
 use Rattle.steal_ring.specs.Jobs.{times}
 use Rattle.fapp_workers.specs.declared.closing.Work.{Work}
@@ -22,12 +22,12 @@ pub record IsWorkFor (split : Split) (fuel word : ℕ) (rows : List KnownRow) (w
   pub branches : branches_in work.log.lines ≤ ticks_in work.done.items
   pub each : All (IsDone split fuel rows work.log.lines word) work.done.items
 
--- each job was done once, as a log shows; the logs are good over the rows that they call home; and the word is the least cost
--- that a log keeps
-pub record AreSolved (split : Split) (fuel workers : ℕ) (works : List Work) (word : ℕ) : Type 0 where
+-- each job was done once, as a log shows; the logs are good over the rows that they call home and those that were placed; and
+-- the word is the least cost that a log keeps
+pub record AreSolved (split : Split) (fuel workers : ℕ) (placed : List KnownRow) (works : List Work) (word : ℕ) : Type 0 where
   pub rows : List KnownRow
   pub count : length works ≡ workers
   pub once : (job : ℕ) → job < job_count split.instance split.split → times_done job works ≡ 1
-  pub good : AreGoodLogs split.instance rows (works_logs works)
-  pub each : All (IsWorkFor split fuel word rows) works
+  pub good : AreGoodLogsOver split.instance placed rows (works_logs works)
+  pub each : All (IsWorkFor split fuel word (placed ++ rows)) works
   pub least : IsLeastWord split.instance (works_logs works) word

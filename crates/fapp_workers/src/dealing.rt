@@ -5,25 +5,30 @@ ghost use Rattle.fapp_model.specs.Levels.{levels_of};
 ghost use Rattle.best_word.specs.Seats.{shares_of as seat_shares, view_of, IsNewSeat, IsSeatOf};
 ghost use Rattle.nogood_pool.specs.Dealt.{shares_of as pool_shares};
 ghost use Rattle.nogood_pool.specs.Seats.{IsSeatOf as IsPoolSeatOf};
+ghost use Rattle.fapp_workers.specs.FirstRows.{ArePublishable};
 ghost use Rattle.fapp_workers.specs.Places.{IsUnpublished, IsSeated, hands_of, pool_seats_of, seats_of};
 ghost use Rattle.fapp_workers.specs.Starts.{IsDealtOut};
 
+use crate::first_rows::publish_first;
 use crate::place::Place;
 use best_word::{BestSeat, BestWord};
 use fapp_model::{NoMemory, levels};
 use fapp_plan::Plan;
+use nogood::Row;
 use nogood_pool::{Pool, PoolSeat};
 use search_log::Log;
 use std::alloc::Global;
 use steal_ring::{Hand, Ring};
 
-/// A ring of the plan's jobs, a word, a pool with its first seat, which no worker has, and a place for each worker.
+/// A ring of the plan's jobs, a word, a pool with its first seat, which no worker has, the numbers of the rows that stand in
+/// it with their places, and a place for each worker.
 #[derive(Drop)]
 pub(crate) struct Dealt {
     pub ring: Ring,
     pub word: BestWord,
     pub pool: Pool,
     pub first: PoolSeat,
+    pub placed: Vec<(u32, u32)>,
     pub places: Vec<Place>,
 }
 
@@ -68,15 +73,24 @@ fn place_all(
     Ok(places)
 }
 
-/// All that workers need to begin, with a pool of so many rows.
-pub(crate) fn deal(alloc: Global, plan: &Plan, workers: u32, rows: u32) -> Result<Dealt, NoMemory>
+/// All that workers need to begin, with a pool of so many rows, of which the first are these.
+pub(crate) fn deal(
+    alloc: Global,
+    plan: &Plan,
+    workers: u32,
+    rows: u32,
+    first_rows: &[Row],
+) -> Result<Dealt, NoMemory>
     requires workers { (0 < workers) × (workers ≤ 32) }
     requires rows { rows ≤ 65536 }
-    ensures { IfOk result (IsDealtOut plan.now workers) }
+    requires room { length first_rows.now ≤ rows }
+    requires first { ArePublishable plan.now.instance first_rows.now }
+    ensures { IfOk result (IsDealtOut plan.now workers first_rows.now) }
 {
     let (ring, hands) = Ring::new(alloc, plan.job_count(), workers)?;
     let (word, seats) = BestWord::with_seats(alloc, levels(plan.instance()), workers)?;
     let (pool, mut first) = Pool::new(alloc, rows, plan.instance())?;
+    let placed = publish_first(alloc, &pool, &mut first, first_rows)?;
     let pool_seats = pool.split_seats(alloc, &mut first, workers)?;
     let places = place_all(alloc, plan, &word, &pool, hands, seats, pool_seats)?;
     Ok(Dealt {
@@ -84,6 +98,7 @@ pub(crate) fn deal(alloc: Global, plan: &Plan, workers: u32, rows: u32) -> Resul
         word,
         pool,
         first,
+        placed,
         places,
     })
 }

@@ -5,6 +5,7 @@
 mod bound;
 mod closing;
 mod dealing;
+mod first_rows;
 mod gather;
 mod job;
 mod place;
@@ -17,5 +18,5 @@ pub use fapp_gate::{Gate, OpenGate};
 pub use job::Done;
 pub use pool_rows::{PoolRows, SeatBack};
 pub use settings::Settings;
-pub use solve::{Gathered, solve_jobs};
+pub use solve::{Gathered, solve_jobs, solve_rows};
 pub use worker::work;

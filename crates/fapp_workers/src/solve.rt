@@ -1,6 +1,8 @@
 // The workers side by side.
-ghost use Rattle.std.specs.Prelude.{◌≡◌, IfOk};
-ghost use Rattle.fapp_workers.specs.Collections.{IsGathered, IsPutByWorkers};
+ghost use Rattle.std.specs.Prelude.{◌≡◌, ◌≤◌, IfOk, length};
+ghost use Rattle.search_log.specs.NumberedRows.{numbered_rows};
+ghost use Rattle.fapp_workers.specs.Collections.{IsGathered, IsGatheredOver, IsPutByWorkers};
+ghost use Rattle.fapp_workers.specs.FirstRows.{ArePublishable, AreTwins};
 ghost use Rattle.fapp_workers.specs.Ranges.{AreInRange};
 ghost use Rattle.fapp_workers.specs.Solved.{AreSolved};
 
@@ -14,6 +16,7 @@ use fapp_gate::Gate;
 use fapp_model::{NoMemory, Tag};
 use fapp_plan::{Collected, Plan};
 use fapp_tables::Tables;
+use nogood::Row;
 use search_log::Log;
 use std::alloc::Global;
 use std::thread::Threads;
@@ -28,7 +31,7 @@ pub struct Gathered {
     pub ticks: Vec<u64>,
 }
 
-/// What all workers do, with the least cost that one of them offered.
+/// What all workers do, the least cost that one of them offered, and the placed rows.
 fn solve_all<R: Threads + Sync, G: Gate>(
     rt: &R,
     alloc: Global,
@@ -36,12 +39,16 @@ fn solve_all<R: Threads + Sync, G: Gate>(
     arcs: &ArcTable,
     plan: &Plan,
     settings: &Settings,
+    first_rows: &[Row],
     gate: &G,
-) -> Result<(Vec<Work>, Tag), NoMemory>
+) -> Result<(Vec<Work>, Tag, Vec<(u32, u32)>), NoMemory>
     requires arcs { arcs.now ≡ tables.now }
     requires plan { plan.now.instance ≡ tables.now }
     requires settings { AreInRange settings.now }
-    ensures { IfOk result (λ solved. AreSolved plan.now settings.now.fuel settings.now.workers solved.0.items solved.1.code) }
+    requires room { length first_rows.now ≤ settings.now.pool }
+    requires first { ArePublishable plan.now.instance first_rows.now }
+    ensures solved { IfOk result (λ solved. AreSolved plan.now settings.now.fuel settings.now.workers (numbered_rows first_rows.now) solved.0.items solved.1.code) }
+    ensures placed { IfOk result (λ solved. AreTwins (length first_rows.now) solved.2.items) }
 {
     let _valid = plan.instance();
     let Dealt {
@@ -49,8 +56,9 @@ fn solve_all<R: Threads + Sync, G: Gate>(
         word,
         pool,
         first,
+        placed,
         places,
-    } = deal(alloc, plan, settings.workers, settings.pool)?;
+    } = deal(alloc, plan, settings.workers, settings.pool, first_rows)?;
     let places = tend_all(
         rt,
         alloc,
@@ -64,7 +72,44 @@ fn solve_all<R: Threads + Sync, G: Gate>(
         places,
         gate,
     )?;
-    close(alloc, ring, word, pool, first, places)
+    let (works, least) = close(alloc, ring, word, pool, first, places)?;
+    Ok((works, least, placed))
+}
+
+/// The same as `solve_jobs`, where some rows stand in the pool from the start. They are published before the workers begin, in
+/// order; the second answer pairs the number of each of them in the pool with its place.
+pub fn solve_rows<R: Threads + Sync, G: Gate>(
+    rt: &R,
+    alloc: Global,
+    tables: &Tables,
+    arcs: &ArcTable,
+    plan: &Plan,
+    settings: &Settings,
+    first_rows: &[Row],
+    gate: &G,
+) -> Result<(Gathered, Vec<(u32, u32)>), NoMemory>
+    requires arcs { arcs.now ≡ tables.now }
+    requires plan { plan.now.instance ≡ tables.now }
+    requires settings { AreInRange settings.now }
+    requires room { length first_rows.now ≤ settings.now.pool }
+    requires first { ArePublishable plan.now.instance first_rows.now }
+    ensures gathered { IfOk result (λ all. IsGatheredOver plan.now settings.now.fuel (numbered_rows first_rows.now) all.0) }
+    ensures put { IfOk result (λ all. IsPutByWorkers plan.now settings.now.workers settings.now.fuel all.0) }
+    ensures placed { IfOk result (λ all. AreTwins (length first_rows.now) all.1.items) }
+{
+    let (works, word, placed) = solve_all(
+        rt, alloc, tables, arcs, plan, settings, first_rows, gate,
+    )?;
+    let puts = puts_of(alloc, &works)?;
+    let (collected, ticks) = collect(alloc, plan, &puts)?;
+    let logs = logs_of(alloc, works)?;
+    let gathered = Gathered {
+        logs,
+        collected,
+        word,
+        ticks,
+    };
+    Ok((gathered, placed))
 }
 
 /// Settles all jobs of a plan by workers side by side, which share the least cost and their refuted lines, and take jobs from
@@ -84,14 +129,6 @@ pub fn solve_jobs<R: Threads + Sync, G: Gate>(
     ensures gathered { IfOk result (IsGathered plan.now settings.now.fuel) }
     ensures put { IfOk result (IsPutByWorkers plan.now settings.now.workers settings.now.fuel) }
 {
-    let (works, word) = solve_all(rt, alloc, tables, arcs, plan, settings, gate)?;
-    let puts = puts_of(alloc, &works)?;
-    let (collected, ticks) = collect(alloc, plan, &puts)?;
-    let logs = logs_of(alloc, works)?;
-    Ok(Gathered {
-        logs,
-        collected,
-        word,
-        ticks,
-    })
+    let (gathered, _) = solve_rows(rt, alloc, tables, arcs, plan, settings, &[], gate)?;
+    Ok(gathered)
 }

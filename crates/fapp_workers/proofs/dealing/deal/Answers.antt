@@ -25,6 +25,7 @@ returns c =
       hand_shares = ap shares_of are ∙ c.in_ok-ring.ensures.shares;
       seat_shares = c.in_ok-places.ensures.shares ∙ c.in_ok-word.ensures.shares;
       first = search rules;
-      unpublished = search rules;
+      published = search rules;
+      placed = c.in_ok-placed.ensures.placed;
       pool_shares = ap (λ n. (pool_view c.split_seats.new.seat).share + n) c.in_ok-places.ensures.pool_shares ∙ c.in_ok-pool_seats.ensures.shares;
     }

@@ -3,6 +3,7 @@ use Rattle.std.proofs.lemmas.Result.{IfOk-weaker}
 use Rattle.fapp_model.specs.Instances.{IsInstance}
 use Rattle.nogood_pool.specs.Seats.{view_of as pool_view}
 use Rattle.steal_ring.specs.Hands.{IsDealt}
+use Rattle.search_log.specs.NumberedRows.{numbered_rows}
 use Rattle.fapp_workers.specs.Closings.{IsClosed}
 use Rattle.fapp_workers.specs.Places.{hands_of}
 use Rattle.fapp_workers.specs.Solved.{AreSolved}
@@ -56,19 +57,17 @@ close-requires-clause-finished g c =
     let d = c.in_ok-ring.field-0 in
     all-finished c.args.plan.now c.args.settings.now.fuel d.ring d.word d.pool d.places.items c.in_ok-places.places.items c.in_ok-places.ensures.count c.in_ok-places.ensures.each
 
-pub returns : goal.returns
-returns g c =
+pub returns-clause-solved : goal.returns-clause-solved
+returns-clause-solved g c =
     let split = c.args.plan.now in
     let fuel = c.args.settings.now.fuel in
     let workers = c.args.settings.now.workers in
     let d = c.in_ok-ring.field-0 in
     let old = d.places.items in
     let new = c.in_ok-places.places.items in
+    let works = c.in_ok-works.works.items in
     let some : 0 < length new = omega (arith, c.in_ok-places.ensures.count, c.in_ok-ring.ensures.count, c.requires.settings.some_workers) in
-    IfOk-weaker c.close.result (λ closed. IsClosed d.ring.jobs (pool_view d.first) new closed.0.items closed.1.code) (λ solved. AreSolved split fuel workers solved.0.items solved.1.code)
-    (λ closed is.
-    let here = subst (λ n. IsClosed n (pool_view d.first) new closed.0.items closed.1.code) c.in_ok-ring.ensures.jobs is in
-    solved split fuel workers (subst IsInstance c.instance-valid.ensures.value c.instance-valid.ensures.valid) d.ring d.word d.pool (pool_view d.first) c.in_ok-ring.ensures.unpublished old new
-    c.in_ok-places.ensures.count c.in_ok-ring.ensures.count c.in_ok-ring.ensures.stand c.in_ok-places.ensures.each
-    closed.0.items closed.1.code here (some-place new some) (some-work closed.0.items (omega (arith, count-same closed.0.items new is.kept, some))))
-    c.close.ensures
+    let here = subst (λ n. IsClosed n (pool_view d.first) new works c.in_ok-works.least.code) c.in_ok-ring.ensures.jobs c.in_ok-works.ensures in
+    solved split fuel workers (subst IsInstance c.instance-valid.ensures.value c.instance-valid.ensures.valid) d.ring d.word d.pool (pool_view d.first)
+    (numbered_rows c.args.first_rows.now) c.in_ok-ring.ensures.published old new c.in_ok-places.ensures.count c.in_ok-ring.ensures.count c.in_ok-ring.ensures.stand
+    c.in_ok-places.ensures.each works c.in_ok-works.least.code here (some-place new some) (some-work works (omega (arith, count-same works new here.kept, some)))
