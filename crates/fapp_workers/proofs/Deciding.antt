@@ -1,5 +1,5 @@
 -- What the search of one job comes to.
-use Rattle.std.proofs.Common.{◌≡◌, ℕ, ◌-◌, ◌≤◌, List, Ok, sym, subst, arith}
+use Rattle.std.proofs.Common.{◌≡◌, ℕ, ◌-◌, List, Ok, sym, subst, arith}
 use Rattle.std.specs.declared.alloc.AllocError.{AllocError}
 use Rattle.fapp_model.specs.declared.instance.Instance.{Instance}
 use Rattle.fapp_model.specs.declared.literal.Literal.{Literal}
@@ -10,7 +10,7 @@ use Rattle.search_log.specs.Bounds.{BoundState}
 use Rattle.search_log.specs.LogStates.{LogState}
 use Rattle.search_log.specs.Shares.{SharedState}
 use Rattle.settle_laws.specs.Settling.{Settles}
-use Rattle.settle_laws.specs.Worlds.{World, world}
+use Rattle.settle_laws.specs.Worlds.{world}
 use Rattle.fapp_workers.specs.Jobs.{IsSearched, held}
 
 pub searched-by : (split : Split) (amount id start rest ticks : ℕ) (instance : Instance) (level : ℕ) (prefix : List Literal) (bound after : BoundState) (shared more : SharedState) (log longer : LogState) (outcome : Outcome) →

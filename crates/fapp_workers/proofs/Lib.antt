@@ -11,3 +11,4 @@ pub mod Final
 pub mod Putting
 pub mod Gathering
 pub mod FirstRows
+pub mod Beginning

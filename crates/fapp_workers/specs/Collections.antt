@@ -1,5 +1,5 @@
 -- What all workers did, by job.
-use Rattle.std.specs.Prelude.{◌≡◌, ℕ, ◌<◌, ◌≤◌, List, [], ◌++◌, length, slice_index_or, sum, sum_by, All, Some, None}
+use Rattle.std.specs.Prelude.{◌≡◌, ℕ, ◌<◌, ◌≤◌, List, ◌++◌, length, slice_index_or, sum, sum_by, Some, None}
 use Rattle.fapp_model.specs.search.Jobs.{job_count}
 use Rattle.fapp_plan.specs.Outcomes.{Placed}
 use Rattle.fapp_plan.specs.Plans.{Split}

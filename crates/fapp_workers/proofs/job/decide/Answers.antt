@@ -1,4 +1,4 @@
-use Rattle.std.proofs.Common.{◌≤◌, arith}
+use Rattle.std.proofs.Common.{arith}
 use Rattle.std.proofs.lemmas.Bool.{le-leb}
 use Rattle.fapp_model.proofs.LevelNumbers.{levels-few}
 use Rattle.tries_laws.proofs.JobParts.{job-is}

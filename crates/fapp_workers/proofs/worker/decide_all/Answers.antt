@@ -1,15 +1,14 @@
-use Rattle.std.proofs.Common.{ℕ, ◌≡◌, ◌≤◌, ◌++◌, ◌∷◌, [], List, refl, sym, ap, ◌∙◌, subst, arith, le_trans}
+use Rattle.std.proofs.Common.{ℕ, ◌≡◌, ◌++◌, ◌∷◌, [], List, refl, sym, ap, ◌∙◌, le_trans}
 use Rattle.std.proofs.lemmas.List.{append-nil, append_assoc, map-append}
-use Rattle.fapp_plan.specs.Plans.{Split}
 use Rattle.settle_laws.proofs.Entering.{floor-le}
 use Rattle.best_word.specs.Seats.{view_of}
 use Rattle.steal_ring.specs.Hands.{won_of}
 use Rattle.fapp_workers.specs.declared.job.Done.{Done}
 use Rattle.fapp_workers.specs.Jobs.{held}
 use Rattle.fapp_workers.specs.States.{state_of}
-use Rattle.fapp_workers.specs.Works.{IsLogClause, ids_of}
+use Rattle.fapp_workers.specs.Works.{ids_of}
 use Rattle.fapp_workers.proofs.Bounds.{later-here, later-trans}
-use Rattle.fapp_workers.proofs.Starting.{AreStarted, none-started, one-started}
+use Rattle.fapp_workers.proofs.Starting.{none-started, one-started}
 use Rattle.fapp_workers.proofs.Working.{at-start, decided-on, told-after, works-on}
 use Rattle.fapp_workers.proofs.worker.decide_all.Goals as goal
 
