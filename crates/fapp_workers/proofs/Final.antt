@@ -1,7 +1,7 @@
 -- The final word and the works of all.
-use Rattle.std.proofs.Common.{◌≡◌, ◌⊎◌, inl, inr, ⊎_elim, ℕ, zero, suc, ◌+◌, ◌<◌, ◌≤◌, min, List, [], ◌∷◌, ◌++◌, length, map, get_or, sum_by, All, Contains, Option, Some, None, Ok, IfOk, fold, refl, sym, ap, ◌∙◌, subst, arith, le_trans, le_refl}
+use Rattle.std.proofs.Common.{◌≡◌, inl, inr, ⊎_elim, ℕ, zero, suc, ◌+◌, ◌<◌, ◌≤◌, min, List, [], ◌∷◌, ◌++◌, length, map, get_or, All, Contains, Option, Some, None, IfOk, fold, refl, sym, ap, ◌∙◌, subst, arith, le_trans, le_refl}
 use Rattle.std.proofs.lemmas.List.{get_or-map, get_or_default, length-map}
-use Rattle.std.proofs.lemmas.List.Elements.{All-map, All-weaker, Contains-get_or}
+use Rattle.std.proofs.lemmas.List.Elements.{All-contains, All-map, All-weaker, Contains-get_or}
 use Rattle.fapp_model.specs.declared.instance.Instance.{Instance}
 use Rattle.fapp_model.specs.Costs.{cost}
 use Rattle.fapp_model.specs.Instances.{IsInstance}
@@ -16,13 +16,12 @@ use Rattle.search_log.specs.LogStates.{LogState}
 use Rattle.settle_laws.specs.Worlds.{IsKeptRight, IsLeastOffered}
 use Rattle.settle_laws.proofs.Adding.{gains-none}
 use Rattle.settle_laws.proofs.TagCodes.{code-back}
-use Rattle.outcome_laws.specs.Gathered.{IsAtMostKept, IsLeastWord, KeepsCost}
+use Rattle.outcome_laws.specs.Gathered.{IsAtMostKept, KeepsCost}
 use Rattle.outcome_laws.proofs.Words.{cost-level}
 use Rattle.best_word.specs.declared.seat.BestSeat.{BestSeat}
 use Rattle.best_word.specs.declared.seat.BestWord.{BestWord}
-use Rattle.best_word.specs.Seats.{view_of, IsLeastOfAll, IsOfferedByOne, IsTopOfOne}
+use Rattle.best_word.specs.Seats.{view_of, IsOfferedByOne, IsTopOfOne}
 use Rattle.nogood_pool.specs.declared.seat.Pool.{Pool}
-use Rattle.nogood_pool.specs.declared.seat.PoolSeat.{PoolSeat}
 use Rattle.nogood_pool.specs.declared.view.PoolView.{PoolView}
 use Rattle.nogood_pool.specs.Seats.{view_of as pool_view}
 use Rattle.pool_rows.specs.Copying.{all_known}
@@ -34,12 +33,14 @@ use Rattle.home_laws.proofs.Closing.{closes}
 use Rattle.home_laws.proofs.Homes.{good-after}
 use Rattle.home_laws.specs.Laws.{AreGoodLogsOver}
 use Rattle.steal_ring.specs.declared.seat.Ring.{Ring}
-use Rattle.steal_ring.specs.Hands.{won_of, times_given}
+use Rattle.steal_ring.specs.Hands.{won_of}
 use Rattle.steal_ring.specs.Jobs.{times}
 use Rattle.fapp_workers.specs.declared.place.Place.{Place}
 use Rattle.fapp_workers.specs.declared.closing.Work.{Work}
-use Rattle.fapp_workers.specs.Closings.{IsClosed, kept_by, kept_of}
-use Rattle.fapp_workers.specs.Places.{end_by, hands_of, pool_seats_of, seats_of, IsTended, IsWorkOf, Stands}
+use Rattle.search_log.specs.Logs.{empty_log}
+use Rattle.fapp_workers.specs.Begun.{IsStartUsed, KeepsAsCheap, OffersFirst}
+use Rattle.fapp_workers.specs.Closings.{IsClosed}
+use Rattle.fapp_workers.specs.Places.{end_by, pool_seats_of, seats_of, IsTended, IsWorkOf, Stands}
 use Rattle.fapp_workers.specs.SharedBounds.{least_offer}
 use Rattle.fapp_workers.specs.Solved.{AreSolved, IsWorkFor, times_done, works_logs}
 use Rattle.fapp_workers.specs.Works.{IsDone, ids_of}
@@ -257,6 +258,27 @@ module _ (split : Split) (fuel workers : ℕ) (valid : IsInstance split.instance
         is = ⊎_elim (λ t. let top = is-top t in inl (top, none-kept top)) (λ o. inr (is-kept w o)) closed.least.from;
       };
     }
+
+    -- what the first seat offered before is used
+    pub start-used : (plan : List ℕ) → 0 < length new → OffersFirst split.instance plan old → IsStartUsed split.instance plan (works_logs works) code
+    start-used plan some offers =
+        let seat = (get_or new 0 p).seat in
+        let n : ℕ = code_of (cost split.instance plan) in
+        let has : Contains (view_of seat).offers n = (tended 0 p p (omega (arith, some, len))).offered n (offers p) in
+        record {
+          kept = at-first works (omega (arith, some, as-many)) (λ w. cheap (get_or works 0 w).log.best (least_offer (view_of seat).offers) n (work-at 0 w p some).kept (contains-low (view_of seat).offers n has));
+          word_is = le_trans (seat-low 0 p some) (All-contains (λ m. (view_of seat).least ≤ m) (view_of seat).offers n seat.offered has);
+        }
+      where
+        at-first : (xs : List Work) → 0 < length xs → ((w : Work) → KeepsAsCheap (get_or xs 0 w).log.best (code_of (cost split.instance plan))) → KeepsAsCheap (get_or (works_logs xs) 0 empty_log).best (code_of (cost split.instance plan))
+        at-first [] inside h = absurd (omega (arith, inside))
+        at-first (x ∷ xs) inside h = h x
+
+        cheap : (best : Option KeptPlan) (least : Option ℕ) (n : ℕ) → IsLeastOffered best least → IsLow least n → KeepsAsCheap best n
+        cheap None None n h low = low
+        cheap None (Some m) n h low = h
+        cheap (Some best) None n h low = absurd h
+        cheap (Some best) (Some m) n h low = omega (arith, ap code_of h ∙ code-back m, low)
 
 pub some-work : (works : List Work) → 0 < length works → Work
 some-work [] some = absurd (omega (arith, some))

@@ -1,5 +1,5 @@
 -- All jobs, by their numbers, from what the workers have done.
-use Rattle.std.proofs.Common.{◌≡◌, ◌⊎◌, inl, inr, ⊎_elim, ℕ, zero, suc, ◌+◌, ◌<◌, ◌≤◌, List, [], ◌∷◌, ◌++◌, length, map, get_or, sum, sum_by, All, Option, Some, None, refl, sym, ap, ◌∙◌, subst, arith}
+use Rattle.std.proofs.Common.{◌≡◌, inl, inr, ⊎_elim, ℕ, suc, ◌+◌, ◌<◌, ◌≤◌, List, [], ◌∷◌, ◌++◌, length, map, get_or, sum, sum_by, All, Some, None, refl, sym, ap, ◌∙◌, subst, arith}
 use Rattle.std.proofs.lemmas.Bool.{cases_lt}
 use Rattle.std.proofs.lemmas.List.{get_or-map, length-map, map-append}
 use Rattle.std.proofs.lemmas.List.Elements.{All-append, All-head, All-map, All-nil, All-tail, All-weaker}
@@ -10,7 +10,7 @@ use Rattle.fapp_plan.specs.Plans.{Split}
 use Rattle.log_laws.specs.Contents.{KnownRow}
 use Rattle.search_log.specs.Logs.{empty_log}
 use Rattle.search_log.specs.LogStates.{LogState}
-use Rattle.outcome_laws.specs.Gathered.{AreSettled, IsPlacedBy, log_at}
+use Rattle.outcome_laws.specs.Gathered.{IsPlacedBy, log_at}
 use Rattle.outcome_laws.specs.Outcomes.{AreTicksOf}
 use Rattle.steal_ring.specs.Jobs.{times, once}
 use Rattle.fapp_workers.specs.declared.closing.Work.{Work}

@@ -12,3 +12,4 @@ pub mod Putting
 pub mod DeadCounts
 pub mod Gathering
 pub mod FirstRows
+pub mod Beginning

@@ -1,5 +1,5 @@
 -- The places that are dealt.
-use Rattle.std.proofs.Common.{◌≡◌, ℕ, ◌<◌, List, [], length, map, get_or, All, sym, ap, ◌∙◌, subst, arith}
+use Rattle.std.proofs.Common.{◌≡◌, ◌<◌, List, [], length, get_or, All, sym, ap, ◌∙◌, subst, arith}
 use Rattle.std.proofs.lemmas.List.{get_or-map, length-map}
 use Rattle.fapp_plan.specs.Plans.{Split}
 use Rattle.best_word.specs.declared.seat.BestWord.{BestWord}

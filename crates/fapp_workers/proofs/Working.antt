@@ -1,5 +1,5 @@
 -- A worker between two jobs.
-use Rattle.std.proofs.Common.{◌≡◌, ◌⊎◌, inl, inr, ⊎_elim, ℕ, ◌+◌, ◌-◌, ◌<◌, ◌≤◌, min, List, [], ◌∷◌, ◌++◌, length, map, sum_by, count_by, cond, is_some, All, AllPairs, Contains, Option, Some, None, Ok, refl, sym, ap, ◌∙◌, subst, arith}
+use Rattle.std.proofs.Common.{◌≡◌, inl, inr, ⊎_elim, ℕ, ◌+◌, ◌-◌, ◌<◌, ◌≤◌, List, [], ◌∷◌, ◌++◌, length, count_by, cond, is_some, All, Contains, Option, Ok, refl, sym, ap, ◌∙◌, subst, arith}
 use Rattle.std.specs.declared.alloc.AllocError.{AllocError}
 use Rattle.std.proofs.lemmas.Bool.{cases_lt}
 use Rattle.std.proofs.lemmas.List.{append-nil, append_assoc, length-append}
@@ -15,12 +15,12 @@ use Rattle.log_laws.specs.declared.line.Ref.{Ref}
 use Rattle.log_laws.specs.Contents.{KnownRow}
 use Rattle.search_log.specs.declared.job.Outcome.{Outcome}
 use Rattle.search_log.specs.declared.job.Outcome.TheVariants.{Refuted, Moot, Spent}
-use Rattle.search_log.specs.Bounds.{BoundState, Tells, floor, lowest}
+use Rattle.search_log.specs.Bounds.{BoundState, Tells, floor}
 use Rattle.settle_laws.specs.Founds.{IsRefuted}
 use Rattle.settle_laws.specs.Levels.{level_code}
 use Rattle.settle_laws.specs.Lined.{IsAtMostCount}
 use Rattle.settle_laws.specs.Settling.{IsOutcome}
-use Rattle.settle_laws.specs.Worlds.{Gains, IsKeptRight, IsLeastOffered, IsPlain, World, world}
+use Rattle.settle_laws.specs.Worlds.{Gains, IsLeastOffered, IsPlain, World, world}
 use Rattle.settle_laws.proofs.Entering.{floor-le}
 use Rattle.settle_laws.proofs.Settling.{ticks-most}
 use Rattle.settle_laws.proofs.TagCodes.{tag-small}
@@ -29,8 +29,8 @@ use Rattle.fapp_model.specs.search.Prefixes.{IsPrefix}
 use Rattle.tries_laws.proofs.JobParts.{job-is, prefixes-all}
 use Rattle.outcome_laws.specs.Outcomes.{AreTicksOf, IsPrefixSettledBy}
 use Rattle.fapp_workers.specs.declared.job.Done.{Done}
-use Rattle.fapp_workers.specs.Jobs.{AreDecided, Decides, Held, IsSearched, IsSkipped, held}
-use Rattle.fapp_workers.specs.Works.{IsAllTaken, IsDone, IsLogClause, branches_in, ticks_in}
+use Rattle.fapp_workers.specs.Jobs.{AreDecided, Decides, Held, IsSearched, held}
+use Rattle.fapp_workers.specs.Works.{IsAllTaken, IsDone, IsLogClause, branches_in}
 
 -- ---- a settled job stays settled
 

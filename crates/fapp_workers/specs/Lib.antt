@@ -11,3 +11,4 @@ pub mod Solved
 pub mod Puts
 pub mod Collections
 pub mod FirstRows
+pub mod Begun

@@ -68,6 +68,7 @@ pub record IsTended (split : Split) (fuel : ℕ) (ring : Ring) (word : BestWord)
   pub seat : IsSeatOf word new.seat
   pub share : (view_of new.seat).share ≡ (view_of old.seat).share
   pub levels : (view_of new.seat).levels ≡ (view_of old.seat).levels
+  pub offered : (n : ℕ) → Contains (view_of old.seat).offers n → Contains (view_of new.seat).offers n
   pub pool_seat : IsPoolSeatOf pool new.pool_seat
   pub pool_share : (pool_view new.pool_seat).share ≡ (pool_view old.pool_seat).share
   pub works : IfOk new.done (λ done. IsWorkOf split fuel new.hand new.seat new.pool_seat new.log done.items)

@@ -1,5 +1,5 @@
 -- All jobs with the places of their workers.
-use Rattle.std.specs.Prelude.{◌≡◌, ℕ, ◌+◌, ◌<◌, ◌≤◌, List, [], ◌∷◌, ◌++◌, length, map, slice_index_or, sum, sum_by, All, Option, Some, None}
+use Rattle.std.specs.Prelude.{◌≡◌, ℕ, ◌+◌, ◌<◌, List, [], ◌∷◌, ◌++◌, length, map, slice_index_or, sum, sum_by, All, Some, None}
 use Rattle.fapp_plan.specs.Outcomes.{Placed}
 use Rattle.steal_ring.specs.Jobs.{times}
 use Rattle.fapp_workers.specs.declared.closing.Work.{Work}

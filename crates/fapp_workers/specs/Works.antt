@@ -5,7 +5,7 @@ use Rattle.fapp_plan.specs.Plans.{Split}
 use Rattle.log_laws.specs.declared.line.LogLine.{LogLine}
 use Rattle.log_laws.specs.Contents.{KnownRow}
 use Rattle.log_laws.specs.Segments.{IsGoodLog}
-use Rattle.search_log.specs.Bounds.{BoundState, floor}
+use Rattle.search_log.specs.Bounds.{floor}
 use Rattle.search_log.specs.Shares.{known}
 use Rattle.settle_laws.specs.Worlds.{Gains, IsKeptRight, IsLeastOffered}
 use Rattle.outcome_laws.specs.Outcomes.{AreTicksOf, IsJobSettledBy}

@@ -1,16 +1,20 @@
 // What each worker is given, and what all of them share.
-ghost use Rattle.std.specs.Prelude.{◌≡◌, ◌+◌, ◌<◌, ◌≤◌, All, IfOk, length, map};
+ghost use Rattle.std.specs.Prelude.{◌≡◌, ◌+◌, ◌<◌, ◌≤◌, All, IfOk, IfSome, length, map};
+ghost use Rattle.std.specs.Option.{ForSome};
 ghost use Rattle.seat_laws.specs.declared.TheConstants.{WHOLE_SHARE};
+ghost use Rattle.fapp_model.specs.Least.{IsFeasible};
 ghost use Rattle.fapp_model.specs.Levels.{levels_of};
 ghost use Rattle.best_word.specs.Seats.{shares_of as seat_shares, view_of, IsNewSeat, IsSeatOf};
 ghost use Rattle.nogood_pool.specs.Dealt.{shares_of as pool_shares};
 ghost use Rattle.nogood_pool.specs.Seats.{IsSeatOf as IsPoolSeatOf};
+ghost use Rattle.fapp_workers.specs.Begun.{IsFresh, OffersFirst};
 ghost use Rattle.fapp_workers.specs.FirstRows.{ArePublishable};
 ghost use Rattle.fapp_workers.specs.Places.{IsUnpublished, IsSeated, hands_of, pool_seats_of, seats_of};
 ghost use Rattle.fapp_workers.specs.Starts.{IsDealtOut};
 
 use crate::first_rows::publish_first;
 use crate::place::Place;
+use crate::start::keep_start;
 use best_word::{BestSeat, BestWord};
 use fapp_model::{NoMemory, levels};
 use fapp_plan::Plan;
@@ -51,6 +55,7 @@ fn place_all(
     ensures seated { IfOk result (λ places. All (IsSeated plan.now word.now pool.now) places.items) }
     ensures shares { IfOk result (λ places. seat_shares (seats_of places.items) ≡ seat_shares seats.items) }
     ensures pool_shares { IfOk result (λ places. pool_shares (pool_seats_of places.items) ≡ pool_shares pool_seats.items) }
+    ensures fresh { IfOk result (λ places. All (IsFresh (levels_of plan.now.instance)) places.items) }
 {
     let mut seats = seats;
     let mut pool_seats = pool_seats;
@@ -80,19 +85,23 @@ pub(crate) fn deal(
     workers: u32,
     rows: u32,
     first_rows: &[Row],
+    start: Option<&[u16]>,
 ) -> Result<Dealt, NoMemory>
     requires workers { (0 < workers) × (workers ≤ 32) }
     requires rows { rows ≤ 65536 }
     requires room { length first_rows.now ≤ rows }
     requires first { ArePublishable plan.now.instance first_rows.now }
-    ensures { IfOk result (IsDealtOut plan.now workers first_rows.now) }
+    requires start { ForSome start (λ s. IsFeasible plan.now.instance s.now) }
+    ensures dealt { IfOk result (IsDealtOut plan.now workers first_rows.now) }
+    ensures started { IfOk result (λ dealt. IfSome start.entry (λ s. OffersFirst plan.now.instance s.now dealt.places.items)) }
 {
     let (ring, hands) = Ring::new(alloc, plan.job_count(), workers)?;
     let (word, seats) = BestWord::with_seats(alloc, levels(plan.instance()), workers)?;
     let (pool, mut first) = Pool::new(alloc, rows, plan.instance())?;
     let placed = publish_first(alloc, &pool, &mut first, first_rows)?;
     let pool_seats = pool.split_seats(alloc, &mut first, workers)?;
-    let places = place_all(alloc, plan, &word, &pool, hands, seats, pool_seats)?;
+    let fresh = place_all(alloc, plan, &word, &pool, hands, seats, pool_seats)?;
+    let places = keep_start(plan, &word, &pool, fresh, start)?;
     Ok(Dealt {
         ring,
         word,

@@ -11,6 +11,7 @@ mod job;
 mod place;
 mod settings;
 mod solve;
+mod start;
 mod worker;
 
 pub use bound::SharedBound;

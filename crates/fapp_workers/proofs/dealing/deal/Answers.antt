@@ -1,21 +1,17 @@
-use Rattle.std.proofs.Common.{◌≡◌, ℕ, ◌+◌, List, length, sym, ap, ◌∙◌, subst, arith, rules}
+use Rattle.std.proofs.Common.{◌+◌, length, ap, ◌∙◌, arith, rules}
 use Rattle.std.proofs.lemmas.List.{length-map}
-use Rattle.seat_laws.specs.declared.TheConstants.{WHOLE_SHARE}
-use Rattle.nogood_pool.specs.declared.seat.PoolSeat.{PoolSeat}
-use Rattle.nogood_pool.specs.declared.view.PoolView.{PoolView}
 use Rattle.nogood_pool.specs.Dealt.{shares_of as pool_shares}
 use Rattle.nogood_pool.specs.Seats.{view_of as pool_view}
-use Rattle.steal_ring.specs.declared.hand.Hand.{Hand}
-use Rattle.steal_ring.specs.Hands.{shares_of, IsDealt}
+use Rattle.steal_ring.specs.Hands.{shares_of}
 use Rattle.fapp_workers.specs.declared.place.Place.{Place}
 use Rattle.fapp_workers.proofs.Seating.{stand-all}
 use Rattle.fapp_workers.proofs.dealing.deal.Goals as goal
 
-pub returns : goal.returns
-returns c =
+pub returns-clause-dealt : goal.returns-clause-dealt
+returns-clause-dealt c =
     let places = c.in_ok-places.places.items in
     let hands = c.in_ok-ring.hands.items in
-    let are = c.in_ok-places.ensures.hands in
+    let are = c.in_ok-places.ensures.hands ∙ c.in_ok-fresh.ensures.hands in
     let kept = c.in_ok-pool_seats.ensures.kept in
     record {
       jobs = search rules;
@@ -23,9 +19,9 @@ returns c =
       stand = stand-all c.args.plan.now c.in_ok-ring.ring c.in_ok-word.word c.in_ok-pool.pool places hands are c.in_ok-ring.ensures.hands.0 c.in_ok-ring.ensures.new c.in_ok-places.ensures.seated;
       hands = search rules;
       hand_shares = ap shares_of are ∙ c.in_ok-ring.ensures.shares;
-      seat_shares = c.in_ok-places.ensures.shares ∙ c.in_ok-word.ensures.shares;
+      seat_shares = c.in_ok-places.ensures.shares ∙ (c.in_ok-fresh.ensures.shares ∙ c.in_ok-word.ensures.shares);
       first = search rules;
       published = search rules;
       placed = c.in_ok-placed.ensures.placed;
-      pool_shares = ap (λ n. (pool_view c.split_seats.new.seat).share + n) c.in_ok-places.ensures.pool_shares ∙ c.in_ok-pool_seats.ensures.shares;
+      pool_shares = ap (λ n. (pool_view c.split_seats.new.seat).share + n) (ap pool_shares c.in_ok-places.ensures.pool_seats ∙ c.in_ok-fresh.ensures.pool_shares) ∙ c.in_ok-pool_seats.ensures.shares;
     }

@@ -1,4 +1,4 @@
-use Rattle.std.proofs.Common.{◌≡◌, ◌+◌, [], ◌∷◌, ◌++◌, length, All, Ok, Some, sym, ap, ◌∙◌, subst, arith}
+use Rattle.std.proofs.Common.{◌≡◌, [], ◌∷◌, ◌++◌, length, All, Ok, Some, sym, ap, ◌∙◌, subst, arith}
 use Rattle.std.proofs.lemmas.List.{length-append, map-append}
 use Rattle.std.proofs.lemmas.List.Elements.{All-pop, All-push}
 use Rattle.std.proofs.lemmas.List.Sums.{sum_by_push}
@@ -14,6 +14,7 @@ use Rattle.fapp_plan.specs.Plans.{Split}
 use Rattle.search_log.specs.Logs.{empty_log}
 use Rattle.search_log.specs.LogStates.{LogState}
 use Rattle.fapp_workers.specs.declared.place.Place.{Place}
+use Rattle.fapp_workers.specs.Begun.{IsFresh}
 use Rattle.fapp_workers.specs.Places.{IsSeated, IsUnpublished, hands_of, pool_seats_of, seats_of}
 use Rattle.fapp_workers.proofs.dealing.place_all.Goals as goal
 
@@ -55,6 +56,8 @@ loop-hand-preserved c =
     let longer = length-append c.loop-hand.yielded (c.in-Some.hand ∷ []) in
     record {
       hands = ap hands_of items ∙ (map-append (λ (p : Place). p.hand) places (place ∷ []) ∙ ap (λ hs. hs ++ c.in-Some.hand ∷ []) was.hands);
+      fresh = subst (All (IsFresh (levels_of split.instance))) (sym items)
+          (All-push (IsFresh (levels_of split.instance)) places place was.fresh (record { levels_are = new.1.same_levels; offers = new.1.offers; log = c.new.ensures }));
       seated = subst (All (IsSeated split word pool)) (sym items)
           (All-push (IsSeated split word pool) places place was.seated (seated-by split word pool place own.1 new.1 pool_own.1 pool_new.1 c.new.ensures));
       count = (let w = was.count in let l = ap length e ∙ length-append rest (seat ∷ []) in omega (arith, w, l, longer));

@@ -3,6 +3,7 @@ use Rattle.fapp_model.specs.Levels.{levels_of}
 use Rattle.best_word.specs.Seats.{view_of, shares_of, IsNewSeat, IsSeatOf}
 use Rattle.nogood_pool.specs.Dealt.{shares_of as pool_shares}
 use Rattle.nogood_pool.specs.Seats.{IsSeatOf as IsPoolSeatOf}
+use Rattle.fapp_workers.specs.Begun.{IsFresh}
 use Rattle.fapp_workers.specs.Places.{IsSeated, IsUnpublished, hands_of, pool_seats_of, seats_of}
 use Rattle.fapp_workers.proofs.dealing.place_all.Given as goal
 
@@ -10,6 +11,7 @@ use Rattle.fapp_workers.proofs.dealing.place_all.Given as goal
 abbrev pub invariant-loop-hand : goal.invariant-loop-hand
 invariant-loop-hand l = record {
   hands : hands_of l.places.items ≡ l.yielded;
+  fresh : All (IsFresh (levels_of l.plan.instance)) l.places.items;
   seated : All (IsSeated l.plan l.word l.pool) l.places.items;
   count : length l.seats.items + length l.yielded ≡ length l.fn.hands.items;
   pool_count : length l.pool_seats.items + length l.yielded ≡ length l.fn.hands.items;

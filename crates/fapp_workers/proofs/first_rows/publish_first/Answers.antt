@@ -5,7 +5,7 @@ use Rattle.nogood.specs.declared.row.Row.{Row}
 use Rattle.nogood_pool.specs.Seats.{view_of}
 use Rattle.search_log.specs.NumberedRows.{numbered_rows}
 use Rattle.search_log.specs.Shares.{row_content}
-use Rattle.fapp_workers.proofs.FirstRows.{IsHomeAt, home-at, numbered-next, twins-more}
+use Rattle.fapp_workers.proofs.FirstRows.{home-at, numbered-next, twins-more}
 use Rattle.fapp_workers.proofs.first_rows.publish_first.Goals as goal
 
 pub loop-place-preserved : goal.loop-place-preserved

@@ -1,4 +1,4 @@
-use Rattle.std.proofs.Common.{◌≡◌, ℕ, suc, ◌+◌, ◌<◌, ◌∷◌, [], ◌++◌, List, take, get_or, set, sym, ap, ◌∙◌, subst, arith}
+use Rattle.std.proofs.Common.{◌≡◌, suc, ◌+◌, ◌<◌, ◌∷◌, [], ◌++◌, take, get_or, set, sym, ap, ◌∙◌, subst, arith}
 use Rattle.fapp_model.specs.search.Jobs.{job_count}
 use Rattle.fapp_workers.specs.declared.gather.Put.{Put}
 use Rattle.fapp_workers.specs.Puts.{ArePut, put_ids}

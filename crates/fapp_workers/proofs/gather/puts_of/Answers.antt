@@ -1,5 +1,4 @@
 use Rattle.std.proofs.Common.{◌≡◌, suc, ◌+◌, ◌++◌, map, take, get_or, sym, ap, ◌∙◌, arith}
-use Rattle.fapp_workers.specs.declared.closing.Work.{Work}
 use Rattle.fapp_workers.specs.Puts.{puts_from, put_at}
 use Rattle.fapp_workers.proofs.Putting.{puts-next}
 use Rattle.fapp_workers.proofs.gather.puts_of.Goals as goal

@@ -1,4 +1,5 @@
-use Rattle.std.proofs.Common.{◌≡◌, IfOk, sym, ap, ◌∙◌, subst}
+use Rattle.std.proofs.Common.{Contains, sym, ap, ◌∙◌, subst}
+use Rattle.std.proofs.lemmas.List.Elements.{Contains-append_left}
 use Rattle.best_word.specs.Seats.{view_of}
 use Rattle.nogood_pool.specs.Seats.{view_of as pool_view, IsSeatOf as IsPoolSeatOf}
 use Rattle.pool_rows.specs.Copying.{all_known}
@@ -29,6 +30,7 @@ returns g c =
       seat = sym later.table ∙ stands.seated.seat;
       share = later.share;
       levels = later.levels;
+      offered = λ n has. subst (λ offers. Contains offers n) (sym later.offers) (Contains-append_left (view_of c.args.place.seat).offers later.offered n has);
       pool_seat = subst (λ p. IsPoolSeatOf p pool_seat) (same.pool ∙ made.2) c.into_seat-2.ensures.own;
       pool_share = ap (λ s. (pool_view s).share) pool_is ∙ (same.view.share_is ∙ ap (λ s. (pool_view s).share) made.1);
       works = works-if split c.args.fuel (state_of bound) (state_of after) (state_of_rows old_rows) (state_of_rows rows) seat pool_seat c.args.place.hand c.work-done.new.hand c.args.place.log c.work-done.new.log

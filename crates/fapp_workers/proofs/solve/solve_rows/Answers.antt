@@ -1,6 +1,5 @@
-use Rattle.std.proofs.Common.{◌≡◌, ℕ, ◌<◌, ◌≤◌, ◌^◌, List, length, All, refl, sym, ap, ◌∙◌, subst, arith}
+use Rattle.std.proofs.Common.{ℕ, ◌<◌, ◌≤◌, length, All, refl, sym, ap, ◌∙◌, subst, arith}
 use Rattle.fapp_model.specs.search.Jobs.{job_count}
-use Rattle.fapp_plan.specs.Outcomes.{Placed}
 use Rattle.steal_ring.specs.Jobs.{times}
 use Rattle.fapp_workers.specs.declared.gather.Put.{Put}
 use Rattle.search_log.specs.NumberedRows.{numbered_rows}

@@ -1,6 +1,5 @@
 use Rattle.std.proofs.Common.{inl, ℕ, ◌≡◌, ◌≤◌, ◌++◌, ◌∷◌, [], List, refl, sym, ap, ◌∙◌, subst, arith, le_trans}
 use Rattle.std.proofs.lemmas.List.{append-nil, append_assoc, map-append}
-use Rattle.fapp_plan.specs.Plans.{Split}
 use Rattle.settle_laws.proofs.Entering.{floor-le}
 use Rattle.best_word.specs.Seats.{view_of}
 use Rattle.steal_ring.specs.Hands.{won_of}

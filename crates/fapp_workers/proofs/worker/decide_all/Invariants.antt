@@ -1,4 +1,4 @@
-use Rattle.std.proofs.Common.{◌≡◌, ℕ, ◌*◌, ◌-◌, ◌++◌, [], length}
+use Rattle.std.proofs.Common.{◌≡◌, ◌*◌, ◌-◌, ◌++◌, [], length}
 use Rattle.best_word.specs.Seats.{view_of}
 use Rattle.steal_ring.specs.Hands.{IsHandOf, IsSameHand, won_of}
 use Rattle.fapp_workers.specs.Jobs.{AreDecided, held}

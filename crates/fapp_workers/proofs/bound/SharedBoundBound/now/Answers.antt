@@ -1,4 +1,4 @@
-use Rattle.std.proofs.Common.{refl, ap, arith, le_trans}
+use Rattle.std.proofs.Common.{refl, ap, le_trans}
 use Rattle.best_word.specs.Seats.{view_of}
 use Rattle.fapp_workers.specs.SharedBounds.{least_offer}
 use Rattle.fapp_workers.proofs.Bounds.{low-offers, later-load}
