@@ -131,6 +131,7 @@ fn shared_rows_make_a_shorter_certificate(rt: HostRuntime) -> Result<(), Fail> {
         CLASH,
         &OpenGate,
     )?;
+    assert!(rt; shared.starts_with(b"--\nNONE\n"));
     assert!(rt; shared.len() < alone.len());
     Ok(())
 }

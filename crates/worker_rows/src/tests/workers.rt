@@ -58,6 +58,16 @@ fn found_by<R: Threads + Sync, G: Gate>(
     })
 }
 
+/// How many of the jobs after the first have taken ticks.
+fn busy_after_first(found: &Found) -> usize {
+    found
+        .ticks
+        .iter()
+        .skip(1)
+        .filter(|ticks| **ticks > 0)
+        .count()
+}
+
 /// Jobs of one prefix each level, without a pool.
 fn plain(workers: u32) -> Settings
     requires some { 1 ≤ workers }
@@ -142,13 +152,25 @@ fn a_published_row_settles_the_other_jobs(rt: HostRuntime) -> Result<(), Fail> {
         };
         let found = found_by(&rt, rt.alloc(), CLASH, &settings, &OpenGate)?;
         assert!(rt; found.ticks.get(0) > Some(&0), "at {pool}");
-        let busy = found
-            .ticks
-            .iter()
-            .skip(1)
-            .filter(|ticks| **ticks > 0)
-            .count();
-        assert_eq!(rt; busy, others, "at {pool}");
+        assert_eq!(rt; busy_after_first(&found), others, "at {pool}");
     }
+    Ok(())
+}
+
+// The second worker begins when the first has ended a job: the row that it published settles all that is left.
+#[test]
+fn a_row_of_one_worker_settles_the_other_workers_jobs(rt: HostRuntime) -> Result<(), Fail> {
+    assert!(rt; CLASH.len() <= 1000);
+    let gate = OrderGate::new(0, 1, 200_000_000);
+    let settings = Settings {
+        workers: 2,
+        fuel: 1003,
+        split: 1,
+        pool: 4096,
+    };
+    let found = found_by(&rt, rt.alloc(), CLASH, &settings, &gate)?;
+    assert!(rt; !gate.missed());
+    assert!(rt; found.ticks.get(0) > Some(&0));
+    assert_eq!(rt; busy_after_first(&found), 0);
     Ok(())
 }
