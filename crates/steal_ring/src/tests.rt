@@ -30,19 +30,13 @@ fn three_hands_in_a_ring(rt: HostRuntime) -> Result<(), NoMemory> {
     let (ring, mut hands) = Ring::new(rt.alloc(), 7, 3)?;
     let third = hands.pop();
     let second = hands.pop();
-    let first = hands.pop();
-    let (Some(mut first), Some(mut second), Some(mut third)) = (first, second, third) else {
+    let (Some(second), Some(third)) = (second, third) else {
         panic!(rt; "three workers have three hands");
     };
-    for _ in 0..6 {
-        ring.next(&mut third);
-    }
+    let third = take_all(&ring, third);
     assert_eq!(rt; third.taken(), [2, 5, 0, 3, 6].as_slice());
-    for _ in 0..3 {
-        ring.next(&mut first);
-    }
-    assert_eq!(rt; first.taken(), [1, 4].as_slice());
-    assert_eq!(rt; ring.next(&mut second), None);
+    let second = take_all(&ring, second);
+    assert_eq!(rt; second.taken(), [1, 4].as_slice());
     Ok(())
 }
 
