@@ -1,5 +1,6 @@
 mod arcs;
 mod counts;
+mod falling;
 mod jobs;
 mod plans;
 mod tables;

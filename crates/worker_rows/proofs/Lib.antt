@@ -1,1 +1,2 @@
 pub mod SpentLaws
+pub mod Popped

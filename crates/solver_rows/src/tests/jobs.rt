@@ -3,13 +3,14 @@ ghost use Rattle.fapp_model.specs.Levels.{levels_of};
 ghost use Rattle.count_laws.specs.ForwardStates.{at_level};
 ghost use Rattle.search_log.specs.Shares.{IsServed, row_content};
 
+use super::falling::FallingBound;
 use super::tables::read;
 use arc_levels::ArcTable;
 use fapp_model::{Items, Literal, Tag, Triple, levels, tag_of, triple_of};
 use fapp_tables::Tables;
 use forward_count::Forward;
 use nogood::Row;
-use search_log::{Fuel, Job, Log, MemRows, NoRows, Outcome, PlainBound, Ref, Shared};
+use search_log::{Bound, Fuel, Job, Log, MemRows, NoRows, Outcome, PlainBound, Ref, Shared};
 use std::alloc::Global;
 use std::test::Fail;
 use subtree_search::settle;
@@ -64,10 +65,10 @@ fn end_of(outcome: Outcome) -> End {
 }
 
 /// Runs a job with these rows.
-fn run_job<H: Shared>(
+fn run_job<B: Bound, H: Shared>(
     forward: &mut Forward,
     job: &Job,
-    bound: Tag,
+    bound: &mut B,
     fuel: u64,
     shared: &mut H,
     alloc: Global,
@@ -78,9 +79,8 @@ fn run_job<H: Shared>(
     requires serves { H.serves shared.old forward.old.instance }
 {
     let mut fuel = Fuel::new(fuel);
-    let mut bound = PlainBound::new(bound);
     let mut log = Log::new(alloc);
-    let outcome = settle(alloc, job, forward, &mut fuel, &mut bound, shared, &mut log)?;
+    let outcome = settle(alloc, job, forward, &mut fuel, bound, shared, &mut log)?;
     let kept = match log.best() {
         Some(best) => Some(best.0),
         None => None,
@@ -92,8 +92,14 @@ fn run_job<H: Shared>(
     })
 }
 
-/// Runs a level's job on the empty prefix, without rows.
-fn run_alone(alloc: Global, text: &str, level: u32, bound: Tag, fuel: u64) -> Result<Ended, Fail>
+/// Runs a level's job on the empty prefix under this bound, without rows.
+fn run_under<B: Bound>(
+    alloc: Global,
+    text: &str,
+    level: u32,
+    bound: &mut B,
+    fuel: u64,
+) -> Result<Ended, Fail>
     requires { length text.now ≤ 1000 }
 {
     let instance = read(alloc, text)?;
@@ -108,6 +114,13 @@ fn run_alone(alloc: Global, text: &str, level: u32, bound: Tag, fuel: u64) -> Re
         prefix: Items::new(alloc),
     };
     run_job(&mut forward, &job, bound, fuel, &mut NoRows, alloc)
+}
+
+/// The same, under a bound that nobody else lowers.
+fn run_alone(alloc: Global, text: &str, level: u32, bound: Tag, fuel: u64) -> Result<Ended, Fail>
+    requires { length text.now ≤ 1000 }
+{
+    run_under(alloc, text, level, &mut PlainBound::new(bound), fuel)
 }
 
 /// The row without literals that a job's search finds, by its line.
@@ -149,7 +162,8 @@ fn run_with_row(forward: &mut Forward, job: &Job, row: Row, alloc: Global) -> Re
     requires served { IsServed forward.old.instance (row_content row) }
 {
     let mut rows = MemRows::new(Vec::from_slice(alloc, &[row])?);
-    run_job(forward, job, tag_of(TOP), 0, &mut rows, alloc)
+    let mut bound = PlainBound::new(tag_of(TOP));
+    run_job(forward, job, &mut bound, 0, &mut rows, alloc)
 }
 
 /// Runs APART's job of the last level without fuel, where the row that its own search finds is shared.
@@ -241,5 +255,22 @@ fn two_ticks_do_not(rt: HostRuntime) -> Result<(), Fail> {
         kept: None,
     };
     assert_eq!(rt; ended, wanted);
+    Ok(())
+}
+
+// Three ticks suffice where the bound stays: it is read at each of three prefixes.
+#[test]
+fn a_job_is_moot_once_the_bound_falls_to_zero(rt: HostRuntime) -> Result<(), Fail> {
+    assert!(rt; EDGE.len() <= 1000);
+    for (reads, left) in [(0, 3), (1, 2), (2, 1)] {
+        let mut bound = FallingBound::new(tag_of(TOP), reads);
+        let ended = run_under(rt.alloc(), EDGE, 0, &mut bound, 3)?;
+        let wanted = Ended {
+            end: End::Moot(ZERO),
+            left,
+            kept: None,
+        };
+        assert_eq!(rt; ended, wanted, "at {reads}");
+    }
     Ok(())
 }

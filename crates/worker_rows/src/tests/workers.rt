@@ -9,6 +9,7 @@ use fapp_model::{Triple, triple_of};
 use fapp_plan::{Collected, Plan};
 use fapp_tables::Tables;
 use fapp_workers::{Settings, solve_jobs};
+use search_log::Log;
 use std::alloc::Global;
 use std::test::Fail;
 use std::thread::Threads;
@@ -28,12 +29,23 @@ fn have_ended(collected: &Collected, jobs: u32) -> bool
     true
 }
 
-/// What workers find for a network: the word, whether each job has an outcome, and the ticks of each job.
+/// How many segments some logs have, each for a row that was published.
+fn segments_in(logs: &[Log]) -> usize {
+    let mut count: usize = 0;
+    for log in logs {
+        count = count.saturating_add(log.segments().len());
+    }
+    count
+}
+
+/// What workers find for a network: the word, whether each job has an outcome, the ticks of each job, and how many rows
+/// they published.
 #[derive(Drop)]
 struct Found {
     word: Triple,
     ended: bool,
     ticks: Vec<u64>,
+    published: usize,
 }
 
 fn found_by<R: Threads + Sync, G: Gate>(
@@ -55,6 +67,7 @@ fn found_by<R: Threads + Sync, G: Gate>(
         word: triple_of(gathered.word),
         ended: have_ended(&gathered.collected, plan.job_count()),
         ticks: gathered.ticks,
+        published: segments_in(gathered.logs.as_slice()),
     })
 }
 
@@ -172,5 +185,22 @@ fn a_row_of_one_worker_settles_the_other_workers_jobs(rt: HostRuntime) -> Result
     assert!(rt; !gate.missed());
     assert!(rt; found.ticks.get(0) > Some(&0));
     assert_eq!(rt; busy_after_first(&found), 0);
+    Ok(())
+}
+
+// Each of the eight assignments of three paths is refuted by a row of its own, where the pool has room for it.
+#[test]
+fn as_many_rows_are_published_as_the_pool_has(rt: HostRuntime) -> Result<(), Fail> {
+    assert!(rt; CLASH.len() <= 1000);
+    for (pool, published) in [(0, 0), (1, 1), (2, 2), (4096, 8)] {
+        let settings = Settings {
+            workers: 1,
+            fuel: 1003,
+            split: 64,
+            pool,
+        };
+        let found = found_by(&rt, rt.alloc(), CLASH, &settings, &OpenGate)?;
+        assert_eq!(rt; found.published, published, "at {pool}");
+    }
     Ok(())
 }

@@ -1,0 +1,3 @@
+pub mod Feasible
+pub mod Saying
+pub mod GoingOn
