@@ -26,11 +26,13 @@ use Rattle.cert_lines.proofs.Codes.{small_tag, triple_from-code_of, is_tag-code}
 use Rattle.dead_laws.proofs.ImpliedLemmas.{Implied-lower, none-at-top}
 use Rattle.cert_lines.specs.acceptance.Accepts.{answer_fault}
 use Rattle.accept_laws.specs.Answers.{HasNoFault, IsRight, Shows}
+use Rattle.cert_lines.specs.acceptance.Deleted.{kept}
 use Rattle.cert_lines.specs.acceptance.LineFaults.{lines_fault, rejected_at}
 use Rattle.accept_laws.specs.Lines.{IsImplied}
 use Rattle.cert_lines.specs.acceptance.PlanFaults.{demanded, indices, is_same_triple, plan_fault, shown_fault_by}
 use Rattle.cert_lines.specs.acceptance.RootFaults.{greater, is_root, root_fault, root_fault_by, root_tag, tag_by, tag_for, verdict_tag, with_line}
 use Rattle.accept_laws.proofs.CodeOrder.{codes-at_most}
+use Rattle.cert_lines.proofs.Deleting.{all-kept, entries-of}
 use Rattle.accept_laws.proofs.GoodLines.{clean-lines, good-none, good-lines}
 use Rattle.accept_laws.proofs.Options.{both-none, mapped-none, neither, cause_unless-none}
 use Rattle.accept_laws.proofs.ShownPlans.{same-triples, shown-plan}
@@ -72,7 +74,7 @@ module _ (instance : Instance) where
 
   pub claimed-implied : (verdict : Verdict) (lines : List Line) → All (IsImplied instance) lines → root_fault instance verdict lines ≡ None → Implied instance (triple_from (verdict_tag instance verdict).code) []
   unfolding root_fault
-  claimed-implied verdict lines all e = at-root (verdict_tag instance verdict) (root_tag lines) (root-implied lines all) e
+  claimed-implied verdict lines all e = at-root (verdict_tag instance verdict) (root_tag (kept lines)) (root-implied (kept lines) (all-kept (IsImplied instance) lines all)) e
 
 tag_by-code : (code : ℕ) (b : Bool) (h : is_code code ≡ b) → b ≡ true → (tag_by code b h).code ≡ code
 tag_by-code code true h e = refl
@@ -128,7 +130,7 @@ unfolding plan_fault
 accepted-right instance answer valid formed h =
     let parts = accepted-parts instance answer h in
     right instance answer.plan answer.verdict formed.verdict parts.plan
-    (claimed-implied instance answer.verdict answer.lines (good-lines instance answer.lines valid formed.lines parts.lines) parts.root)
+    (claimed-implied instance answer.verdict answer.lines (good-lines instance answer.lines valid (entries-of instance answer formed) parts.lines) parts.root)
 
 pub tag_for-code : (levels : ℕ) (t : Triple) → levels ≤ MAX_LEVELS → is_tag levels t ≡ true → (tag_for t).code ≡ code_of t
 unfolding tag_for

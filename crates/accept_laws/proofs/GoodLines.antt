@@ -19,8 +19,8 @@ use Rattle.fapp_model.specs.Triples.{IsBelow}
 use Rattle.cert_lines.specs.declared.answer.Child.{Child}
 use Rattle.cert_lines.specs.declared.answer.Line.{Line}
 use Rattle.cert_lines.specs.declared.answer.Rule.{Rule}
-use Rattle.cert_lines.specs.declared.answer.Rule.TheVariants.{Count, Branch}
-use Rattle.cert_lines.specs.WellFormed.{IsLine, IsRule}
+use Rattle.cert_lines.specs.declared.answer.Rule.TheVariants.{Count, Branch, Delete}
+use Rattle.cert_lines.specs.WellFormed.{IsEntry, IsRule}
 use Rattle.fapp_model.specs.search.Implied.{RulesOut}
 use Rattle.fapp_model.specs.search.Partials.{HasAll}
 use Rattle.fapp_model.proofs.Anys.{none-member, passing}
@@ -28,12 +28,14 @@ use Rattle.fapp_model.proofs.Members.{in-range, All-range}
 use Rattle.dead_laws.proofs.DeadImplied.{dead_by-implied}
 use Rattle.dead_laws.proofs.DeadLower.{nothing_below}
 use Rattle.dead_laws.proofs.ImpliedLemmas.{Implied-lower, Implied-more, Implied-branch}
-use Rattle.cert_lines.specs.declared.reject.RejectCause.TheVariants.{CiteNotEarlier, CiteNotContained, CiteTagTooLow, NotDead, WrongPath}
+use Rattle.cert_lines.specs.declared.reject.RejectCause.TheVariants.{CiteDeleted, CiteNotEarlier, CiteNotContained, CiteTagTooLow, NotDead, WrongPath}
 use Rattle.cert_lines.specs.acceptance.Contained.{has_all, has_all_but_one}
+use Rattle.cert_lines.specs.acceptance.Deleted.{deletes, is_deleted, kept}
 use Rattle.cert_lines.specs.acceptance.Excluded.{no_line, line_at, is_only, is_marked, is_cited, is_excluded}
-use Rattle.cert_lines.specs.acceptance.LineFaults.{first_of, cause_unless, cite_fault, child_fault, is_dead, is_settled, count_fault, branch_fault, rule_fault, line_fault, fault_at, lines_fault, rejected_at}
+use Rattle.cert_lines.specs.acceptance.LineFaults.{first_of, cause_unless, cite_fault, child_fault, delete_fault, is_dead, is_settled, count_fault, branch_fault, rule_fault, line_fault, fault_at, lines_fault, rejected_at}
 use Rattle.accept_laws.specs.Lines.{AreGood, IsImplied}
 use Rattle.accept_laws.proofs.CodeOrder.{codes-at_most}
+use Rattle.cert_lines.proofs.Deleting.{all-kept}
 use Rattle.accept_laws.proofs.Having.{has_all-each, only-literal, formed-partial}
 use Rattle.accept_laws.proofs.Judging.{judged-dead}
 use Rattle.accept_laws.proofs.Options.{neither, cause_unless-none, first_of-none, none-first_of, mapped-none}
@@ -42,17 +44,20 @@ use Rattle.accept_laws.proofs.Options.{neither, cause_unless-none, first_of-none
 pub record IsGoodCite (earlier : List Line) (t : Tag) (contains : List Literal → Bool) (n : ℕ) : Type 0 where
   pub low : 0 < n
   pub high : n ≤ length earlier
+  pub stays : is_deleted earlier n ≡ false
   pub contained : contains (line_at earlier n).lits ≡ true
   pub tag : t.code ≤ (line_at earlier n).tag.code
 
 pub good-cite : (earlier : List Line) (t : Tag) (contains : List Literal → Bool) (n : ℕ) → cite_fault earlier t contains n ≡ None → IsGoodCite earlier t contains n
 good-cite earlier t contains n h =
     let place = neither (cause_unless (ltb 0 n && leb n (length earlier)) CiteNotEarlier) _ h in
-    let rest = neither (cause_unless (contains (line_at earlier n).lits) CiteNotContained) (cause_unless (leb t.code (line_at earlier n).tag.code) CiteTagTooLow) place.1 in
+    let kept = neither (cause_unless (not (is_deleted earlier n)) CiteDeleted) _ place.1 in
+    let rest = neither (cause_unless (contains (line_at earlier n).lits) CiteNotContained) (cause_unless (leb t.code (line_at earlier n).tag.code) CiteTagTooLow) kept.1 in
     let range = and_parts (ltb 0 n) (leb n (length earlier)) (cause_unless-none _ _ place.0) in
     record {
       low = ltb-true _ _ range.0;
       high = leb-true _ _ range.1;
+      stays = not-true (is_deleted earlier n) (cause_unless-none _ _ kept.0);
       contained = cause_unless-none _ _ rest.0;
       tag = leb-true _ _ (cause_unless-none _ _ rest.1);
     }
@@ -68,11 +73,11 @@ module _ (instance : Instance) (valid : IsInstance instance) (earlier : List Lin
   pub cite-implied : (contains : List Literal → Bool) (n : ℕ) → IsGoodCite earlier t contains n → Implied instance (triple_from t.code) (line_at earlier n).lits
   cite-implied contains n good = line-implied (line_at earlier n) (implied (n - 1) no_line (omega (arith, good.low, good.high))) good.tag
 
-  marked-implied : (a : Literal) (literals : List Literal) → is_marked earlier t a ≡ true → Implied instance (triple_from t.code) (a ∷ literals)
+  marked-implied : (a : Literal) (literals : List Literal) → is_marked (kept earlier) t a ≡ true → Implied instance (triple_from t.code) (a ∷ literals)
   marked-implied a literals h =
-      let found = passing (λ line. is_only a line.lits && leb t.code line.tag.code) earlier h in
+      let found = passing (λ line. is_only a line.lits && leb t.code line.tag.code) (kept earlier) h in
       let parts = and_parts (is_only a found.item.lits) (leb t.code found.item.tag.code) found.passes in
-      let one = line-implied found.item (All-contains (IsImplied instance) earlier found.item implied found.member) (leb-true _ _ parts.1) in
+      let one = line-implied found.item (All-contains (IsImplied instance) (kept earlier) found.item (all-kept (IsImplied instance) earlier implied) found.member) (leb-true _ _ parts.1) in
       Implied-more instance (triple_from t.code) (a ∷ []) (a ∷ literals) (one-of-more a literals)
       (subst (Implied instance (triple_from t.code)) (only-literal a found.item.lits parts.0) one)
 
@@ -85,7 +90,7 @@ module _ (instance : Instance) (valid : IsInstance instance) (earlier : List Lin
 
   rules-out : (contains : List Literal → Bool) (cites : List ℕ) (literals : List Literal) → All (λ n. cite_fault earlier t contains n ≡ None) cites → RulesOut instance (triple_from t.code) literals (λ a. IsTrue (is_excluded earlier t cites literals a))
   rules-out contains cites literals good a at_home h =
-      elim (or_cases (is_marked earlier t a) (is_cited earlier cites literals a) h) [
+      elim (or_cases (is_marked (kept earlier) t a) (is_cited earlier cites literals a) h) [
         | inl marked ↦ marked-implied a literals marked
         | inr cited ↦ cited-implied contains cites a literals good cited
       ]
@@ -151,14 +156,17 @@ module _ (instance : Instance) (valid : IsInstance instance) (earlier : List Lin
   rule-implied : (literals : List Literal) (rule : Rule) → IsPartial instance literals → IsRule instance rule → rule_fault instance earlier t literals rule ≡ None → Implied instance (triple_from t.code) literals
   rule-implied literals (Count cites) partial formed h = count-implied literals cites partial h
   rule-implied literals (Branch path children) partial formed h = branch-implied literals path children partial formed.0 h
+  rule-implied literals (Delete cites) partial formed h = absurd formed
 
 -- nothing costs less than (0, 0, 0)
 zero-implied : (instance : Instance) (code : ℕ) (literals : List Literal) → code ≡ 0 → Implied instance (triple_from code) literals
 zero-implied instance code literals e = λ plan feasible extends below. nothing_below (cost instance plan) (subst (λ c. IsBelow (cost instance plan) (triple_from c)) e below)
 
-pub good-line : (instance : Instance) → IsInstance instance → (earlier : List Line) → All (IsImplied instance) earlier → (line : Line) → IsLine instance line → line_fault instance earlier line ≡ None → IsImplied instance line
+pub good-line : (instance : Instance) → IsInstance instance → (earlier : List Line) → All (IsImplied instance) earlier → (line : Line) → IsEntry instance line → line_fault instance earlier line ≡ None → IsImplied instance line
 unfolding line_fault
-good-line instance valid earlier implied line formed h = by_code (eqb line.tag.code 0) refl h
+good-line instance valid earlier implied line (inr deleting) h = zero-implied instance line.tag.code line.lits deleting.tag
+good-line instance valid earlier implied line (inl formed) h =
+    by_code (eqb line.tag.code 0) refl (neither (first_of (delete_fault earlier) (deletes line.rule)) (cond (eqb line.tag.code 0) None (rule_fault instance earlier line.tag line.lits line.rule)) h).1
   where
     by_code : (b : Bool) → eqb line.tag.code 0 ≡ b → cond b None (rule_fault instance earlier line.tag line.lits line.rule) ≡ None → IsImplied instance line
     by_code true e g = zero-implied instance line.tag.code line.lits (eqb-true _ _ e)
@@ -184,7 +192,7 @@ pub good-none : (instance : Instance) (lines : List Line) → AreGood instance l
 unfolding lines_fault
 good-none instance lines good = none-first_of (fault_at instance lines) (range_with_len 0 (length lines)) (All-range (λ k. fault_at instance lines k ≡ None) (length lines) good)
 
-pub good-lines : (instance : Instance) (lines : List Line) → IsInstance instance → All (IsLine instance) lines → AreGood instance lines → All (IsImplied instance) lines
+pub good-lines : (instance : Instance) (lines : List Line) → IsInstance instance → All (IsEntry instance) lines → AreGood instance lines → All (IsImplied instance) lines
 good-lines instance lines valid formed good =
     subst (All (IsImplied instance)) (take-whole lines)
     (All-by-earlier (IsImplied instance) lines no_line each (length lines) (omega arith))

@@ -9,7 +9,7 @@ use Rattle.fapp_model.specs.Instances.{IsInstance}
 use Rattle.fapp_model.specs.search.Partials.{IsPartial}
 use Rattle.fapp_model.specs.Tags.{least_tag, triple_from}
 use Rattle.cert_lines.specs.declared.answer.Line.{Line}
-use Rattle.cert_lines.specs.WellFormed.{IsLine}
+use Rattle.cert_lines.specs.WellFormed.{IsEntry}
 use Rattle.cert_lines.specs.acceptance.Judged.{judged_dead}
 use Rattle.cert_lines.specs.acceptance.LineFaults.{IsGood}
 
@@ -34,5 +34,5 @@ AreGood instance lines = (n : ℕ) → n < length lines → IsGood instance line
 
 -- Where each line of a list is good, each line's literals are implied at its tag.
 abbrev pub GoodLinesAreImplied : Type 0
-GoodLinesAreImplied = (instance : Instance) (lines : List Line) → IsInstance instance → All (IsLine instance) lines →
+GoodLinesAreImplied = (instance : Instance) (lines : List Line) → IsInstance instance → All (IsEntry instance) lines →
     AreGood instance lines → All (IsImplied instance) lines

@@ -1,6 +1,9 @@
 ghost use Rattle.accept_laws.specs.Answers.{AcceptanceIsProof, AcceptsByParts};
 ghost use Rattle.accept_laws.specs.Lines.{DeadIsJudged, GoodLinesAreImplied, JudgedIsDead};
 ghost use Rattle.accept_laws.specs.Renumbering.{GoodBehindOthers};
+ghost use Rattle.accept_laws.specs.Compacting.{CompactedLinesAreFormed, CompactedLinesAreGood, StrippedAgain};
+ghost use Rattle.accept_laws.specs.Stripping.{StrippedLinesAreFormed, StrippedLinesAreGood};
+ghost use Rattle.accept_laws.specs.Deletion.{CompactKeepsAcceptance, StripKeepsAcceptance};
 ghost use Rattle.accept_laws.specs.ShownPlans.{FeasiblePlansAreWellShown, NoPlanHasNoFault};
 
 /// Literals that are judged dead are dead by one of the cases, with the excluded choices outside.
@@ -45,4 +48,41 @@ pub fn no_plan_has_no_fault()
 /// Good lines stay good behind other good lines, with cites that count these.
 pub fn good_behind_others()
     ensures { GoodBehindOthers }
+{}
+
+/// Good lines stay good without the Delete lines.
+pub fn stripped_lines_are_good()
+    ensures { StrippedLinesAreGood }
+{}
+
+/// Good lines stay good with Delete lines for what is cited no more.
+pub fn compacted_lines_are_good()
+    ensures { CompactedLinesAreGood }
+{}
+
+/// An accepted answer is accepted without its Delete lines.
+pub fn strip_keeps_acceptance()
+    ensures { StripKeepsAcceptance }
+{}
+
+/// An accepted answer without Delete lines is accepted with those for what is cited no more.
+pub fn compact_keeps_acceptance()
+    ensures { CompactKeepsAcceptance }
+{}
+
+/// Without the Delete lines that were put in, lines of which none was one are as before, where each cites earlier lines
+/// alone, and none at the tag (0, 0, 0).
+pub fn stripped_again()
+    ensures { StrippedAgain }
+{}
+
+/// Good lines stay well formed without the Delete lines.
+pub fn stripped_lines_are_formed()
+    ensures { StrippedLinesAreFormed }
+{}
+
+/// Well formed lines of version 1 are well formed in version 2 with Delete lines for what is cited no more, where each cites
+/// earlier lines alone, and none at the tag (0, 0, 0), and there are then at most 1,000,000,000.
+pub fn compacted_lines_are_formed()
+    ensures { CompactedLinesAreFormed }
 {}

@@ -9,7 +9,7 @@ use Rattle.fapp_model.specs.Tags.{IsTagOf, triple_from}
 use Rattle.fapp_model.specs.search.Implied.{Implied}
 use Rattle.fapp_model.specs.search.Partials.{AreLiterals}
 use Rattle.cert_lines.specs.declared.answer.Line.{Line}
-use Rattle.cert_lines.specs.WellFormed.{IsLine}
+use Rattle.cert_lines.specs.WellFormed.{IsEntry, IsLine}
 use Rattle.cert_lines.specs.acceptance.Excluded.{line_at, no_line}
 use Rattle.accept_laws.specs.Lines.{AreGood, IsImplied}
 use Rattle.accept_laws.proofs.GoodLines.{good-lines}
@@ -29,7 +29,8 @@ said-row instance old number row valid are said =
     let stands = said.stands in
     let inside : number - 1 < length old = omega (arith, stands.low, stands.high) in
     let formed : IsLine instance (line_at old number) = are.formed (number - 1) no_line inside in
-    let implied : IsImplied instance (line_at old number) = good-lines instance old valid are.formed are.good (number - 1) no_line inside in
+    let entries : All (IsEntry instance) old = λ k d l. inl (are.formed k d l) in
+    let implied : IsImplied instance (line_at old number) = good-lines instance old valid entries are.good (number - 1) no_line inside in
     record {
       literals = subst (AreLiterals instance) stands.lits_are formed.lits;
       code = row.tag.of_tag;

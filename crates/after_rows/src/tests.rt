@@ -42,9 +42,13 @@ fn accepted(alloc: Global, instance: &Instance, bytes: &[u8]) -> Result<Vec<Line
     let Ok(()) = check(alloc, instance, &answer) else {
         return Err("refused".into());
     };
+    if answer.version != 1 {
+        return Err("a later version".into());
+    }
     let Answer {
         plan: _,
         verdict: _,
+        version: _,
         lines,
     } = answer;
     Ok(lines.into_vec())

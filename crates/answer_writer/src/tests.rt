@@ -96,6 +96,7 @@ fn an_answer_or_its_plan_is_written(rt: HostRuntime) -> Result<(), Fail> {
         records: Items::new(rt.alloc()),
     };
     let answer = Answer {
+        version: 1,
         plan: Items::from_vec(vec![in rt.alloc(); Choice { freq: 10, pol: 1 }]?),
         verdict: Verdict::Best(Triple { k: 0, v: 0, s: 0 }),
         lines: Items::new(rt.alloc()),

@@ -1,5 +1,5 @@
 -- Lines of removed choices, and why each is good.
-use Rattle.std.proofs.Common.{◌≡◌, ◌≢◌, ◌⊎◌, ℕ, ◌+◌, ◌-◌, ◌<◌, ◌≤◌, Bool, true, false, cond, ◌&&◌, not, eqb, leb, List, [], ◌∷◌, ◌++◌, length, take, get_or, fold, refl, sym, ap, ◌∙◌, subst, inl, inr, arith, Contains, Option, Some, None, is_none}
+use Rattle.std.proofs.Common.{◌≡◌, ◌≢◌, ◌⊎◌, ℕ, ◌+◌, ◌-◌, ◌<◌, ◌≤◌, Bool, true, false, cond, ◌&&◌, not, eqb, leb, List, [], ◌∷◌, ◌++◌, length, take, get_or, fold, refl, sym, ap, ◌∙◌, subst, inl, inr, arith, All, Contains, Option, Some, None, is_none}
 use Rattle.std.specs.List.{list_any, range_with_len}
 use Rattle.std.specs.Option.{option_map}
 use Rattle.std.proofs.lemmas.List.{get_or_append_left, get_or_push, length_push, take-append-le, take_at}
@@ -21,6 +21,8 @@ use Rattle.fapp_model.proofs.Members.{All-from_members, at_front, behind, from-r
 use Rattle.cert_lines.specs.declared.answer.Line.{Line}
 use Rattle.cert_lines.specs.declared.answer.Rule.{Rule}
 use Rattle.cert_lines.specs.declared.reject.RejectCause.TheVariants.{NotDead}
+use Rattle.cert_lines.specs.acceptance.Deleted.{is_delete}
+use Rattle.cert_lines.proofs.Deleting.{IsPlain, plain-excluded, plain-line}
 use Rattle.cert_lines.specs.acceptance.Contained.{is_same}
 use Rattle.cert_lines.specs.acceptance.Excluded.{line_at, no_line, is_excluded, is_marked, is_cited, is_only}
 use Rattle.cert_lines.specs.acceptance.Judged.{has_clash, is_over, is_stuck, judged_dead, least_pair, lesser, remains, with_choice}
@@ -38,14 +40,18 @@ codes_rise : (m n : ℕ) → m ≤ n → code_of (plain_tag m) ≤ code_of (plai
 codes_rise m n h = omega (arith, h)
 
 -- a choice's line excludes it at its tag and at each lower one
-pub line_excludes : (lines : List Line) (line : Line) (b : Literal) (m n : ℕ) (t : Tag) (literals : List Literal) → Contains lines line → IsLineAt b m line → t.code ≡ code_of (plain_tag n) → n ≤ m →
+pub line_excludes : (lines : List Line) (line : Line) (b : Literal) (m n : ℕ) (t : Tag) (literals : List Literal) → All IsPlain lines → Contains lines line → IsLineAt b m line → t.code ≡ code_of (plain_tag n) → n ≤ m →
     is_excluded lines t [] literals b ≡ true
-line_excludes lines line b m n t literals member is code below =
-    or_left (is_marked lines t b) (is_cited lines [] literals b)
+line_excludes lines line b m n t literals plain member is code below =
+    plain-excluded lines plain t [] literals b
+    ∙ or_left (is_marked lines t b) (is_cited lines [] literals b)
     (any-member (λ l. is_only b l.lits && leb t.code l.tag.code) lines line member
     (and_from (is_only b line.lits) (leb t.code line.tag.code)
     (subst (λ xs. is_only b xs ≡ true) (sym is.lits) (same_itself b))
     (le-leb _ _ (omega (arith, code, is.code, codes_rise n m below)))))
+
+lines-plain : (instance : Instance) (rows : List (List ℕ)) (lines : List Line) → AreLines instance rows lines → All IsPlain lines
+lines-plain instance rows lines lined = λ i d small. ap is_delete (lined.formed i d small).is.rule
 
 -- ---- a path without remaining choices
 
@@ -85,7 +91,7 @@ gone instance level rows lines t a b lined home code lone =
     excluded : (level < mark_at rows b.path b.choice) ⊎ (mark_at rows b.path b.choice ≤ level) → arc_of rows level b ≡ false → is_excluded lines t [] (a ∷ []) b ≡ true
     excluded (inl above) out =
         let line = lined.each b home (omega (arith, above)) in
-        line_excludes lines line.0 b (mark_at rows b.path b.choice) (level + 1) t (a ∷ []) line.1 line.2 code (omega (arith, above))
+        line_excludes lines line.0 b (mark_at rows b.path b.choice) (level + 1) t (a ∷ []) (lines-plain instance rows lines lined) line.1 line.2 code (omega (arith, above))
     excluded (inr low) out = absurd (both_ways _ out (le-leb _ _ low))
 
 -- ---- the line of a lonely choice
@@ -125,10 +131,11 @@ pub no_fault : (instance : Instance) (level : ℕ) (rows : List (List ℕ)) (lin
     IsLineAt a (level + 1) line → IsLonelyFrom instance level rows a q 0 → line_fault instance lines line ≡ None
 unfolding line_fault
 no_fault instance level rows lines line a q lined inside apart is lonely =
-    either_none (eqb line.tag.code 0) (rule_fault instance lines line.tag line.lits line.rule)
+    plain-line instance lines line (ap is_delete is.rule)
+    (either_none (eqb line.tag.code 0) (rule_fault instance lines line.tag line.lits line.rule)
     (subst (λ (xs : List Literal). rule_fault instance lines line.tag xs line.rule ≡ None) (sym is.lits)
     (subst (λ (r : Rule). rule_fault instance lines line.tag (a ∷ []) r ≡ None) (sym is.rule)
-    (ap (λ t. cond t None (Some NotDead)) (judged instance level rows lines line.tag a q lined inside apart is.code is.triple lonely))))
+    (ap (λ t. cond t None (Some NotDead)) (judged instance level rows lines line.tag a q lined inside apart is.code is.triple lonely)))))
 
 -- ---- one more line
 

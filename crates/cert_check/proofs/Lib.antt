@@ -1,5 +1,7 @@
 pub mod Steps
 pub mod Filters
+pub mod FirstDeleter
+pub mod Notes
 pub mod MarkLemmas
 pub mod Ties
 pub mod Far

@@ -1,5 +1,6 @@
 -- What the parts of a line's judgement rest on.
-use Rattle.std.proofs.Common.{◌≡◌, ℕ, ◌≤◌, Bool, List, length, take, get_or, arith, All, None, eqb, Result, Ok, Err, IfOk}
+use Rattle.std.proofs.Common.{◌≡◌, ℕ, ◌≤◌, Bool, List, length, take, get_or, arith, All, cond, Option, Some, None, eqb, Result, Ok, Err, IfOk, refl, ap, sym, subst, ◌∙◌, inl, inr}
+use Rattle.std.specs.Option.{option_or}
 use Rattle.std.proofs.lemmas.Bool.{cond-true, cond-false, eq-eqb, ne_eqb}
 use Rattle.std.proofs.lemmas.List.{length-take}
 use Rattle.fapp_model.specs.declared.instance.Instance.{Instance}
@@ -10,8 +11,12 @@ use Rattle.fapp_model.specs.search.Partials.{AreLiterals, IsLiteral}
 use Rattle.fapp_model.specs.Tags.{mode_level, triple_from}
 use Rattle.cert_lines.specs.declared.answer.Line.{Line}
 use Rattle.cert_lines.proofs.Ascending.{few_items}
+use Rattle.cert_lines.proofs.Deleting.{plain-deletes, plain-rule}
 use Rattle.fapp_model.proofs.TagParts.{TagShape, limited, plain, shape, mode-limited, mode-plain}
-use Rattle.cert_lines.specs.acceptance.LineFaults.{cite_fault, first_of, line_fault, rule_fault}
+use Rattle.cert_lines.specs.declared.reject.RejectCause.{RejectCause}
+use Rattle.cert_lines.specs.WellFormed.{IsEntry, IsLine}
+use Rattle.cert_lines.specs.acceptance.Deleted.{deletes}
+use Rattle.cert_lines.specs.acceptance.LineFaults.{cite_fault, delete_fault, first_of, line_fault, rule_fault}
 use Rattle.accept_laws.proofs.GoodLines.{good-cite}
 use Rattle.accept_laws.proofs.Options.{first_of-none}
 use Rattle.cert_check.specs.Marked.{AreEarlier}
@@ -39,13 +44,31 @@ pub line-few : (instance : Instance) (literals : List Literal) → AreLiterals i
 line-few instance literals h = few_items (λ (a : Literal). a.path) (length instance.paths) literals (λ k d l. (h.in_range k d l).path) h.ascending
 
 -- a line by its tag
-pub zero-line : (instance : Instance) (earlier : List Line) (line : Line) → line.tag.code ≡ 0 → line_fault instance earlier line ≡ None
+pub zero-line : (instance : Instance) (earlier : List Line) (line : Line) → line.tag.code ≡ 0 → line_fault instance earlier line ≡ first_of (delete_fault earlier) (deletes line.rule)
 unfolding line_fault
-zero-line instance earlier line h = cond-true (eqb line.tag.code 0) None (rule_fault instance earlier line.tag line.lits line.rule) (eq-eqb line.tag.code 0 h)
+zero-line instance earlier line h =
+    ap (option_or (first_of (delete_fault earlier) (deletes line.rule))) (cond-true (eqb line.tag.code 0) None (rule_fault instance earlier line.tag line.lits line.rule) (eq-eqb line.tag.code 0 h))
+    ∙ or-none (first_of (delete_fault earlier) (deletes line.rule))
+  where
+    or-none : (o : Option RejectCause) → option_or o None ≡ o
+    or-none None = refl
+    or-none (Some cause) = refl
 
-pub other-line : (instance : Instance) (earlier : List Line) (line : Line) → (line.tag.code ≡ 0 → ⊥) → line_fault instance earlier line ≡ rule_fault instance earlier line.tag line.lits line.rule
+pub other-line : (instance : Instance) (earlier : List Line) (line : Line) → IsLine instance line → (line.tag.code ≡ 0 → ⊥) → line_fault instance earlier line ≡ rule_fault instance earlier line.tag line.lits line.rule
 unfolding line_fault
-other-line instance earlier line h = cond-false (eqb line.tag.code 0) None (rule_fault instance earlier line.tag line.lits line.rule) (ne_eqb line.tag.code 0 h)
+other-line instance earlier line formed h =
+    ap (λ (numbers : List ℕ). option_or (first_of (delete_fault earlier) numbers) (cond (eqb line.tag.code 0) None (rule_fault instance earlier line.tag line.lits line.rule))) (plain-deletes line.rule (plain-rule instance line.rule formed.rule))
+    ∙ cond-false (eqb line.tag.code 0) None (rule_fault instance earlier line.tag line.lits line.rule) (ne_eqb line.tag.code 0 h)
+
+-- a line that has a tag above (0, 0, 0) is no Delete line
+pub entry-line : (instance : Instance) (line : Line) → IsEntry instance line → (line.tag.code ≡ 0 → ⊥) → IsLine instance line
+entry-line instance line (inl formed) h = formed
+entry-line instance line (inr deleting) h = absurd (h deleting.tag)
+
+-- a Delete line has no literals
+pub entry-literals : (instance : Instance) (line : Line) → IsEntry instance line → AreLiterals instance line.lits
+entry-literals instance line (inl formed) = formed.lits
+entry-literals instance line (inr deleting) = subst (AreLiterals instance) (sym deleting.lits) (record { in_range = λ k d l. absurd (omega arith); ascending = λ i j d l m. absurd (omega arith) })
 
 pub if_ok : {X E : Type 0} (P Q : X → Type 0) (r : Result X E) → ((x : X) → P x → Q x) → IfOk r P → IfOk r Q
 if_ok P Q (Ok x) h p = h x p

@@ -9,11 +9,11 @@ use Rattle.fapp_model.specs.declared.literal.Literal.{Literal}
 use Rattle.fapp_model.specs.Assignments.{count_at}
 use Rattle.fapp_model.specs.search.Partials.{literal}
 use Rattle.cert_lines.specs.declared.answer.Line.{Line}
-use Rattle.cert_lines.specs.WellFormed.{IsLine}
+use Rattle.cert_lines.specs.WellFormed.{IsEntry}
 use Rattle.cert_lines.specs.acceptance.Excluded.{no_line}
 use Rattle.cert_check.specs.Marked.{line_on}
 use Rattle.cert_check.specs.Ones.{is_one_of, first_literal, ones_by_path, AreLow}
-use Rattle.cert_check.proofs.LineParts.{line-literals}
+use Rattle.cert_check.proofs.LineParts.{entry-literals, line-literals}
 
 has-one : (path : ℕ) (literals : List Literal) → is_one_of path literals ≡ true → 0 < length literals
 has-one path [] h = absurd (cc)
@@ -24,7 +24,7 @@ own-path path [] h = absurd (cc)
 own-path path (b ∷ []) h = eqb-true b.path path h
 own-path path (b ∷ c ∷ more) h = absurd (cc)
 
-pub ones-low : (instance : Instance) (lines : List Line) (path : ℕ) → All (IsLine instance) lines → AreLow lines (count_at instance path) (ones_by_path lines path)
+pub ones-low : (instance : Instance) (lines : List Line) (path : ℕ) → All (IsEntry instance) lines → AreLow lines (count_at instance path) (ones_by_path lines path)
 unfolding ones_by_path
 ones-low instance lines path formed = record {
   within = inside;
@@ -32,7 +32,7 @@ ones-low instance lines path formed = record {
   low = λ k d l.
       let own = own-path path (line_on lines (get_or ones k d)).lits (passes k d l) in
       let line = formed (get_or ones k d) no_line (inside k d l) in
-      let at_home = line-literals instance (line_on lines (get_or ones k d)).lits line.lits 0 (literal 0 0) (has-one path (line_on lines (get_or ones k d)).lits (passes k d l)) in
+      let at_home = line-literals instance (line_on lines (get_or ones k d)).lits (entry-literals instance (line_on lines (get_or ones k d)) line) 0 (literal 0 0) (has-one path (line_on lines (get_or ones k d)).lits (passes k d l)) in
       subst (λ (p : ℕ). (first_literal (line_on lines (get_or ones k d)).lits).choice < count_at instance p) own at_home.choice;
 }
   where

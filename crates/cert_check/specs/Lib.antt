@@ -5,5 +5,6 @@ pub mod Scenes
 pub mod Weighed
 pub mod Tables
 pub mod Ones
+pub mod Noted
 pub mod PlanCost
 pub mod Checked

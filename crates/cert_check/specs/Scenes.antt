@@ -1,5 +1,5 @@
 -- What a line is judged by.
-use Rattle.std.specs.Prelude.{ℕ, ◌≤◌, Bool, List, length, take, Option}
+use Rattle.std.specs.Prelude.{ℕ, ◌≤◌, Bool, List, length, take, All, Option}
 use Rattle.std.specs.List.{list_all, range_with_len}
 use Rattle.fapp_model.specs.declared.level.TheConstants.{MAX_LEVELS}
 use Rattle.fapp_model.specs.declared.literal.Literal.{Literal}
@@ -12,6 +12,7 @@ use Rattle.cert_lines.specs.declared.answer.Child.{Child}
 use Rattle.cert_lines.specs.declared.answer.Line.{Line}
 use Rattle.cert_lines.specs.declared.answer.Rule.{Rule}
 use Rattle.cert_lines.specs.declared.reject.RejectCause.{RejectCause}
+use Rattle.cert_lines.specs.WellFormed.{IsEntry}
 use Rattle.cert_lines.specs.acceptance.Judged.{judged_dead, least_pair, remains, with_choice}
 use Rattle.cert_lines.specs.acceptance.LineFaults.{is_settled, rule_fault}
 use Rattle.cert_lines.specs.acceptance.Excluded.{is_excluded}
@@ -21,6 +22,7 @@ use Rattle.cert_check.specs.Marked.{IsMarks, AreEarlier}
 pub record IsScene (scene : Scene) : Type 0 where
   pub instance : IsInstance scene.instance.now
   pub marks : IsMarks scene.instance.now scene.lines.now scene.marks.now
+  pub entries : All (IsEntry scene.instance.now) scene.lines.now
   pub n : scene.n ≤ length scene.lines.now
   pub cites : AreEarlier scene.n scene.cites.now
   pub level : scene.level ≤ MAX_LEVELS

@@ -1,5 +1,5 @@
 -- What the parts of a judgement say.
-use Rattle.std.specs.Prelude.{◌≡◌, ℕ, ◌+◌, ◌<◌, ◌≤◌, ◌*◌, ◌^◌, Bool, true, false, not, ◌&&◌, List, [], length, slice_index_or, All, sum_by, Option, Some, None, if◌then◌else◌}
+use Rattle.std.specs.Prelude.{◌≡◌, ℕ, ◌+◌, ◌<◌, ◌≤◌, ◌*◌, Bool, true, false, not, ◌&&◌, List, [], length, slice_index_or, All, sum_by, Option, Some, None, if◌then◌else◌}
 use Rattle.std.specs.List.{list_any, range_with_len}
 use Rattle.fapp_model.specs.declared.instance.Instance.{Instance}
 use Rattle.fapp_model.specs.declared.literal.Literal.{Literal}
@@ -14,6 +14,7 @@ use Rattle.cert_check.specs.declared.weight.Weight.{Weight}
 use Rattle.cert_check.specs.Places.{record_at, touches, ties_of}
 use Rattle.fapp_model.specs.declared.record.Record.{Record}
 use Rattle.cert_check.specs.Scenes.{excluded_by, pair_by}
+use Rattle.cert_check.specs.Weights.{added_most, row_most, whole_most}
 
 -- a record between a literal and the others is hard-bad, or what those add that name its path first
 abbrev pub IsRow : Instance → ℕ → List Literal → Literal → Option Weight → Type 0
@@ -21,14 +22,14 @@ IsRow instance level literals a None = clashes_with instance level literals a �
 IsRow instance level literals a (Some w) = (clashes_with instance level literals a ≡ false)
     × (w.v ≡ sum_by (λ b. between instance (bad_before level) a b) literals)
     × (w.s ≡ sum_by (λ b. between instance (bad_further level) a b) literals)
-    × (w.v ≤ 2 ^ 38) × (w.s ≤ 2 ^ 38)
+    × (w.v ≤ row_most) × (w.s ≤ row_most)
 
 -- a record between two literals is hard-bad, or the literals' own weight
 abbrev pub IsOwn : Instance → ℕ → List Literal → Option Weight → Type 0
 IsOwn instance level literals None = has_clash instance level literals ≡ true
 IsOwn instance level literals (Some w) = (has_clash instance level literals ≡ false)
     × (w.v ≡ inside instance (bad_before level) literals) × (w.s ≡ inside instance (bad_further level) literals)
-    × (w.v ≤ length literals * 2 ^ 38) × (w.s ≤ length literals * 2 ^ 38)
+    × (w.v ≤ length literals * row_most) × (w.s ≤ length literals * row_most)
 
 abbrev pub near_at : List Bool → ℕ → Bool
 near_at near path = slice_index_or near path false
@@ -55,7 +56,7 @@ IsStep scene literals near path None = (near_at near path && stuck_by scene lite
 IsStep scene literals near path (Some w) = ((near_at near path && stuck_by scene literals path) ≡ false)
     × (w.v ≡ (if names literals path then 0 else (least_by scene literals path).v))
     × (w.s ≡ (if names literals path then 0 else (least_by scene literals path).s))
-    × (w.v ≤ 2 ^ 39) × (w.s ≤ 2 ^ 39)
+    × (w.v ≤ added_most) × (w.s ≤ added_most)
 
 -- some marked path is stuck
 abbrev pub near_stuck : Scene → List Literal → List Bool → Bool
@@ -82,7 +83,7 @@ IsWeighed scene literals near None = near_stuck scene literals near ≡ true
 IsWeighed scene literals near (Some w) = (near_stuck scene literals near ≡ false)
     × (w.v ≡ over_open scene.instance.now literals (λ path. (least_by scene literals path).v))
     × (w.s ≡ over_open scene.instance.now literals (λ path. (least_by scene literals path).s))
-    × (w.v ≤ 2 ^ 52) × (w.s ≤ 2 ^ 52)
+    × (w.v ≤ whole_most) × (w.s ≤ whole_most)
 
 -- a path without a mark had none before, and the record does not name it
 abbrev pub MarksEnds : Record → List Bool → List Bool → Type 0

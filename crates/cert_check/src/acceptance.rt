@@ -13,7 +13,7 @@ use crate::error::CheckError;
 use crate::line::line_fault;
 use crate::marks::Marks;
 use crate::plan::judge_plan;
-use crate::root::judge_root;
+use crate::root::root_fault;
 use cert_lines::{Answer, RejectCause, Rejected};
 use fapp_model::{Instance, MAX_NUMBER, NoMemory};
 use std::alloc::Global;
@@ -107,5 +107,5 @@ fn answer_fault(
     if let Some(fault) = lines_fault(alloc, instance, answer, &marks)? {
         return Ok(Some(fault));
     }
-    Ok(judge_root(instance, answer))
+    Ok(root_fault(instance, answer, &marks))
 }

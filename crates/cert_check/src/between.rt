@@ -6,6 +6,7 @@ ghost use Rattle.fapp_model.specs.Instances.{IsInstance};
 ghost use Rattle.fapp_model.specs.search.Partials.{choice_of, IsLiteral};
 ghost use Rattle.fapp_model.specs.search.Weights.{bad_before, bad_further};
 ghost use Rattle.cert_check.specs.Places.{ArePlaces, blocks_at, between_at, clashes_with_at, added_at, row_at};
+ghost use Rattle.cert_check.specs.Weights.{pair_most};
 
 use crate::weight::Weight;
 use fapp_model::{Choice, Instance, Literal, MAX_LEVELS, MAX_RECORDS, Record, choice_at};
@@ -173,8 +174,8 @@ pub(crate) fn added(
     requires literal { IsLiteral instance.now a }
     ensures v { result.v ≡ added_at instance.now places.now (bad_before level) literals.now a }
     ensures s { result.s ≡ added_at instance.now places.now (bad_further level) literals.now a }
-    ensures small_v { result.v ≤ length literals.now * 2 ^ 25 }
-    ensures small_s { result.s ≤ length literals.now * 2 ^ 25 }
+    ensures small_v { result.v ≤ length literals.now * (2 * pair_most) }
+    ensures small_s { result.s ≤ length literals.now * (2 * pair_most) }
 {
     let mut sum = Weight { v: 0, s: 0 };
     for b in literals {
@@ -203,8 +204,8 @@ pub(crate) fn row(
     requires literal { IsLiteral instance.now a }
     ensures v { result.v ≡ row_at instance.now places.now (bad_before level) literals.now a }
     ensures s { result.s ≡ row_at instance.now places.now (bad_further level) literals.now a }
-    ensures small_v { result.v ≤ length literals.now * 2 ^ 24 }
-    ensures small_s { result.s ≤ length literals.now * 2 ^ 24 }
+    ensures small_v { result.v ≤ length literals.now * pair_most }
+    ensures small_s { result.s ≤ length literals.now * pair_most }
 {
     let mut sum = Weight { v: 0, s: 0 };
     for b in literals {

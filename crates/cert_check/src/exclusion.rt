@@ -3,9 +3,10 @@
 ghost use Rattle.std.specs.Prelude.{◌≡◌, ◌<◌, ◌≤◌, ◌∷◌, length, take, All};
 ghost use Rattle.fapp_model.specs.search.Partials.{IsLiteral};
 ghost use Rattle.cert_lines.specs.acceptance.Contained.{is_same, has, has_all};
+ghost use Rattle.cert_lines.specs.acceptance.Deleted.{is_deleted, kept};
 ghost use Rattle.cert_lines.specs.acceptance.Excluded.{is_marked, is_cited, is_excluded};
 ghost use Rattle.cert_check.specs.Scenes.{IsScene, excluded_by};
-ghost use Rattle.cert_check.specs.Marked.{IsMarks, AreEarlier, has_mark, row_of, ones_of};
+ghost use Rattle.cert_check.specs.Marked.{IsMarks, AreEarlier, has_mark, is_mark, row_of, ones_of};
 
 use crate::marks::Marks;
 use cert_lines::Line;
@@ -41,13 +42,34 @@ pub(crate) fn has_all_with(first: Literal, literals: &[Literal], cited: &[Litera
     true
 }
 
-fn has_mark(lines: &[Line], n: usize, t: Tag, ones: &[u32]) -> bool
-    requires { All (λ k. k < length lines.now) ones.now }
-    ensures { result ≡ has_mark lines.now n t ones.now }
+/// Whether one of the first n lines deletes the line of a number.
+pub(crate) fn is_deleted(scene: Scene, number: usize) -> bool
+    requires scene { IsScene scene }
+    requires low { 0 < number }
+    requires high { number ≤ length scene.lines.now }
+    ensures { result ≡ is_deleted (take scene.entry.n scene.entry.lines.now) number }
+{
+    (scene.marks.deleters.as_slice()[number - 1] as usize) < scene.n
+}
+
+/// Whether a line stands before the judged one, has at least its tag, and is not deleted.
+fn is_mark(scene: Scene, place: usize) -> bool
+    requires scene { IsScene scene }
+    requires place { place < length scene.lines.now }
+    ensures { result ≡ is_mark scene.entry.lines.now scene.entry.n scene.entry.tag place }
+{
+    place < scene.n
+        && scene.tag.code <= scene.lines[place].tag.code
+        && !is_deleted(scene, place + 1)
+}
+
+fn has_mark(scene: Scene, ones: &[u32]) -> bool
+    requires scene { IsScene scene }
+    requires ones { All (λ k. k < length scene.lines.now) ones.now }
+    ensures { result ≡ has_mark scene.entry.lines.now scene.entry.n scene.entry.tag ones.now }
 {
     for k in ones {
-        let place = *k as usize;
-        if place < n && t.code <= lines[place].tag.code {
+        if is_mark(scene, *k as usize) {
             return true;
         }
     }
@@ -64,14 +86,14 @@ fn ones_at<'a>(_instance: &Instance, marks: &'a Marks, _lines: &[Line], a: Liter
     rows[a.choice as usize].as_slice()
 }
 
-/// Whether one of the first n lines has this literal alone, and at least the tag.
+/// Whether one of the first n lines that none of them deletes has this literal alone, and at least the tag.
 pub(crate) fn is_marked(scene: Scene, a: Literal) -> bool
     requires scene { IsScene scene }
     requires literal { IsLiteral scene.instance.now a }
-    ensures { result ≡ is_marked (take scene.entry.n scene.entry.lines.now) scene.entry.tag a }
+    ensures { result ≡ is_marked (kept (take scene.entry.n scene.entry.lines.now)) scene.entry.tag a }
 {
     let ones = ones_at(scene.instance, scene.marks, scene.lines, a);
-    has_mark(scene.lines, scene.n, scene.tag, ones)
+    has_mark(scene, ones)
 }
 
 /// Whether the literals of a cited line are all among the literals and this one.
@@ -100,7 +122,7 @@ pub(crate) struct Scene<'a> {
     pub(crate) level: u32,
 }
 
-/// Whether an earlier line of one literal, or a cited one, excludes a choice.
+/// Whether an earlier line of one literal that is not deleted, or a cited one, excludes a choice.
 pub(crate) fn is_excluded(scene: Scene, literals: &[Literal], a: Literal) -> bool
     requires scene { IsScene scene }
     requires literal { IsLiteral scene.instance.now a }

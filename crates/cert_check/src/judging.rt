@@ -9,6 +9,7 @@ ghost use Rattle.fapp_model.specs.Instances.{IsInstance};
 ghost use Rattle.fapp_model.specs.Tags.{mode_level, triple_from};
 ghost use Rattle.cert_check.specs.Scenes.{IsScene, all_excluded, dead_by, excluded_by};
 ghost use Rattle.cert_check.specs.Weighed.{IsRow, IsOwn, IsNear, IsStep, IsWeighed, near_at, far_stuck, over_by, stuck_by};
+ghost use Rattle.cert_check.specs.Weights.{whole_most};
 
 use crate::between::{clashes_with, row};
 use crate::exclusion::{Scene, is_excluded};
@@ -182,8 +183,8 @@ pub(crate) fn far_stuck(scene: Scene, literals: &[Literal], near: &[bool]) -> bo
 
 /// Whether the literals' own weight and what the further paths add come to the tag's limit.
 fn is_over(scene: Scene, own: Weight, more: Weight) -> bool
-    requires own { (own.v ≤ 2 ^ 52) × (own.s ≤ 2 ^ 52) }
-    requires more { (more.v ≤ 2 ^ 52) × (more.s ≤ 2 ^ 52) }
+    requires own { (own.v ≤ whole_most) × (own.s ≤ whole_most) }
+    requires more { (more.v ≤ whole_most) × (more.s ≤ whole_most) }
     ensures { result ≡ over_by scene.entry own more }
 {
     let limit = triple_of(scene.tag);

@@ -8,7 +8,7 @@ ghost use Rattle.cert_lines.specs.acceptance.Excluded.{is_excluded};
 ghost use Rattle.cert_lines.specs.acceptance.Judged.{lesser};
 ghost use Rattle.cert_check.specs.Places.{reaches, places_of, ties_of, record_at};
 ghost use Rattle.cert_check.specs.Scenes.{IsScene, choice_by, pair_by, remains_by};
-ghost use Rattle.cert_check.specs.Weights.{pair_of};
+ghost use Rattle.cert_check.specs.Weights.{added_most, pair_of};
 
 use crate::between::{added, clashes_with};
 use crate::exclusion::{Scene, is_excluded};
@@ -66,10 +66,10 @@ pub(crate) fn ties_of(
 }
 
 fn lesser(found: Option<Weight>, other: Weight) -> Weight
-    requires small { IfSome found (λ w. (w.v ≤ 2 ^ 39) × (w.s ≤ 2 ^ 39)) }
-    requires small_other { (other.v ≤ 2 ^ 39) × (other.s ≤ 2 ^ 39) }
+    requires small { IfSome found (λ w. (w.v ≤ added_most) × (w.s ≤ added_most)) }
+    requires small_other { (other.v ≤ added_most) × (other.s ≤ added_most) }
     ensures pair { pair_of result ≡ lesser (option_map pair_of found) (pair_of other) }
-    ensures small_result { (result.v ≤ 2 ^ 39) × (result.s ≤ 2 ^ 39) }
+    ensures small_result { (result.v ≤ added_most) × (result.s ≤ added_most) }
 {
     match found {
         Some(least) => {
@@ -102,8 +102,8 @@ fn added_to(scene: Scene, ties: &[u32], literals: &[Literal], a: Literal) -> Wei
     requires literal { IsLiteral scene.instance.now a }
     requires ties { ties.now ≡ ties_of scene.instance.now literals.now a.path }
     ensures pair { pair_of result ≡ added_pair scene.entry.instance.now scene.entry.level literals.now a }
-    ensures small_v { result.v ≤ 2 ^ 39 }
-    ensures small_s { result.s ≤ 2 ^ 39 }
+    ensures small_v { result.v ≤ added_most }
+    ensures small_s { result.s ≤ added_most }
 {
     added(scene.instance, ties, scene.level, literals, a)
 }
@@ -120,8 +120,8 @@ fn with_choice(
     requires few { length literals.now ≤ 2 ^ 14 }
     requires literal { IsLiteral scene.instance.now a }
     requires ties { ties.now ≡ ties_of scene.instance.now literals.now a.path }
-    requires small { IfSome found (λ w. (w.v ≤ 2 ^ 39) × (w.s ≤ 2 ^ 39)) }
-    ensures small { IfSome result (λ w. (w.v ≤ 2 ^ 39) × (w.s ≤ 2 ^ 39)) }
+    requires small { IfSome found (λ w. (w.v ≤ added_most) × (w.s ≤ added_most)) }
+    ensures small { IfSome result (λ w. (w.v ≤ added_most) × (w.s ≤ added_most)) }
     ensures pair { option_map pair_of result ≡ choice_by scene.entry literals.now a.path (option_map pair_of found) a.choice }
 {
     if remains(scene, ties, literals, a) {
@@ -143,7 +143,7 @@ pub(crate) fn least(
     requires few { length literals.now ≤ 2 ^ 14 }
     requires path { path < length scene.instance.now.paths }
     ensures pair { IfOk result (λ found. option_map pair_of found ≡ pair_by scene.entry literals.now path) }
-    ensures small { IfOk result (λ found. IfSome found (λ w. (w.v ≤ 2 ^ 39) × (w.s ≤ 2 ^ 39))) }
+    ensures small { IfOk result (λ found. IfSome found (λ w. (w.v ≤ added_most) × (w.s ≤ added_most))) }
 {
     let ties = ties_of(alloc, scene, literals, path)?;
     let count = choice_count(&scene.instance.paths.as_slice()[path as usize]);

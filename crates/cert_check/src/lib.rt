@@ -4,6 +4,7 @@
 mod acceptance;
 mod between;
 mod cites;
+mod deleters;
 mod error;
 mod exclusion;
 mod judging;

@@ -6,18 +6,19 @@ ghost use Rattle.fapp_model.specs.Assignments.{count_at};
 ghost use Rattle.fapp_model.specs.Instances.{IsInstance};
 ghost use Rattle.fapp_model.specs.search.Partials.{IsLiteral};
 ghost use Rattle.fapp_model.specs.Tags.{mode_level, triple_from};
-ghost use Rattle.cert_lines.specs.WellFormed.{IsLine};
-ghost use Rattle.cert_lines.specs.acceptance.LineFaults.{cause_unless, line_fault};
+ghost use Rattle.cert_lines.specs.WellFormed.{IsEntry, IsLine};
+ghost use Rattle.cert_lines.specs.acceptance.LineFaults.{cause_unless, delete_fault, first_of, line_fault};
+ghost use Rattle.cert_lines.specs.acceptance.Deleted.{deletes};
 ghost use Rattle.cert_lines.specs.declared.reject.RejectCause.TheVariants.{NotDead};
 ghost use Rattle.cert_check.specs.Marked.{IsMarks, AreEarlier, line_on};
 ghost use Rattle.cert_check.specs.Scenes.{IsScene, all_settled, fault_by, settled_by};
 
-use crate::cites::{children_fault, cites_fault};
+use crate::cites::{children_fault, cites_fault, deletes_fault};
 use crate::exclusion::Scene;
 use crate::judging::{count_of, is_dead};
 use crate::least::names;
 use crate::marks::Marks;
-use cert_lines::{Child, Line, RejectCause, Rule};
+use cert_lines::{Child, Line, RejectCause, Rule, deletes};
 use fapp_model::{Instance, Literal, NoMemory, level_of};
 use std::alloc::Global;
 
@@ -109,7 +110,7 @@ fn count_fault(
     requires few { length literals.now < 2 ^ 14 }
     ensures { IfOk result (λ fault. fault ≡ fault_by scene.entry literals.now (Rule.Count cites.now)) }
 {
-    if let Some(cause) = cites_fault(&scene.lines[..scene.n], scene.tag, literals, cites) {
+    if let Some(cause) = cites_fault(scene, literals, cites) {
         return Ok(Some(cause));
     }
     let citing = Scene {
@@ -154,8 +155,7 @@ fn branch_fault(
     if names(literals, path) {
         return Ok(Some(RejectCause::WrongPath));
     }
-    let earlier = &scene.lines[..scene.n];
-    if let Some(cause) = children_fault(earlier, scene.tag, literals, path, children) {
+    if let Some(cause) = children_fault(scene, literals, path, children) {
         return Ok(Some(cause));
     }
     let settled = all_settled(alloc, scene, literals, path, children)?;
@@ -176,10 +176,37 @@ fn rule_fault(alloc: Global, scene: Scene, line: &Line) -> Result<Option<RejectC
         Rule::Branch { path, children } => {
             branch_fault(alloc, scene, literals, *path, children.as_slice())
         }
+        Rule::Delete { .. } => Ok(None),
     }
 }
 
-/// The first fault of the line at a position, from 0.
+/// The first fault of what the line at a position deletes, from 0.
+fn deleting_fault(
+    instance: &Instance,
+    marks: &Marks,
+    lines: &[Line],
+    n: usize,
+) -> Option<RejectCause>
+    requires instance { IsInstance instance.now }
+    requires marks { IsMarks instance.now lines.now marks.now }
+    requires n { n < length lines.now }
+    requires lines { All (IsEntry instance.now) lines.now }
+    ensures { result ≡ first_of (delete_fault (take n lines.now)) (deletes (line_on lines.now n).rule) }
+{
+    let line = &lines[n];
+    let scene = Scene {
+        instance,
+        marks,
+        lines,
+        n,
+        tag: line.tag,
+        cites: &[],
+        level: 0,
+    };
+    deletes_fault(scene, deletes(&line.rule))
+}
+
+/// The first fault of the line at a position, from 0. A line that deletes others has the tag (0, 0, 0).
 pub(crate) fn line_fault(
     alloc: Global,
     instance: &Instance,
@@ -190,12 +217,12 @@ pub(crate) fn line_fault(
     requires instance { IsInstance instance.now }
     requires marks { IsMarks instance.now lines.now marks.now }
     requires n { n < length lines.now }
-    requires lines { All (IsLine instance.now) lines.now }
+    requires lines { All (IsEntry instance.now) lines.now }
     ensures { IfOk result (λ fault. fault ≡ line_fault instance.now (take n lines.now) (line_on lines.now n)) }
 {
     let line = &lines[n];
     if line.tag.code == 0 {
-        return Ok(None);
+        return Ok(deleting_fault(instance, marks, lines, n));
     }
     let scene = Scene {
         instance,

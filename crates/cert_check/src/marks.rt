@@ -5,6 +5,7 @@ ghost use Rattle.fapp_model.specs.Instances.{IsInstance};
 ghost use Rattle.cert_lines.specs.WellFormed.{IsWellFormed};
 ghost use Rattle.cert_check.specs.Marked.{IsMarks};
 
+use crate::deleters::deleters_of;
 use crate::ones::ones_table;
 use crate::tables::places_table;
 use cert_lines::Answer;
@@ -17,6 +18,8 @@ use std::alloc::Global;
 pub struct Marks {
     /// By path and choice, the positions of the lines that have this literal alone.
     pub ones: Items<Items<Items<u32>>>,
+    /// By line, the position of the first line that deletes it, or the number of the lines.
+    pub deleters: Items<u32>,
     /// By path, the positions of the records that name it.
     pub places: Items<Items<u32>>,
 }
@@ -30,7 +33,12 @@ impl Marks {
         ensures { IfOk result (IsMarks instance.now answer.now.lines) }
     {
         let ones = ones_table(alloc, instance, answer.lines.as_slice())?;
+        let deleters = deleters_of(alloc, answer.lines.as_slice())?;
         let places = places_table(alloc, instance)?;
-        Ok(Marks { ones, places })
+        Ok(Marks {
+            ones,
+            deleters,
+            places,
+        })
     }
 }

@@ -14,7 +14,12 @@ pub mod ListLaws
 pub mod LineLaws
 pub mod PlanLaws
 pub mod VerdictLaws
+pub mod VersionLaws
 pub mod Plain
 pub mod TextLaws
 pub mod AgainLaws
 pub mod TextAnswers
+pub mod Deleting
+pub mod SameLines
+pub mod StripSteps
+pub mod StripExample

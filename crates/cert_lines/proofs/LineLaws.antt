@@ -1,10 +1,12 @@
 -- Certificate lines, both ways.
-use Rattle.std.proofs.Common.{◌≡◌, ℕ, ◌<◌, cond, List, [], ◌∷◌, ◌++◌, length, map, decimal, codes, Option, Some, None, Result, Ok, Err, refl, sym, ap, subst, ◌∙◌, inl, inr, arith}
+use Rattle.std.proofs.Common.{◌≡◌, ℕ, ◌<◌, true, cond, ◌&&◌, eqb, List, [], ◌∷◌, ◌++◌, length, map, decimal, codes, Option, Some, None, Result, Ok, Err, refl, sym, ap, subst, ◌∙◌, inl, inr, arith}
 use Rattle.std.specs.List.{flat_map}
 use Rattle.std.specs.Str.{bytes_eq}
+use Rattle.std.proofs.lemmas.Bool.{and_parts, eqb-true}
 use Rattle.std.proofs.lemmas.List.{append-nil}
 use Rattle.fapp_model.specs.declared.instance.Instance.{Instance}
 use Rattle.fapp_model.specs.declared.literal.Literal.{Literal}
+use Rattle.fapp_model.specs.declared.tag.Tag.{Tag}
 use Rattle.fapp_model.specs.Assignments.{count_at}
 use Rattle.fapp_model.specs.Instances.{IsNumber, IsInstance}
 use Rattle.fapp_model.specs.InstanceTags.{IsTagFor}
@@ -13,20 +15,21 @@ use Rattle.fapp_text.proofs.SignLemmas.{is_word}
 use Rattle.cert_lines.specs.declared.answer.Child.{Child}
 use Rattle.cert_lines.specs.declared.answer.Line.{Line}
 use Rattle.cert_lines.specs.declared.answer.Rule.{Rule}
-use Rattle.cert_lines.specs.declared.answer.Rule.TheVariants.{Count, Branch}
+use Rattle.cert_lines.specs.declared.answer.Rule.TheVariants.{Count, Branch, Delete}
 use Rattle.cert_lines.specs.declared.fault.CertCause.{CertCause}
 use Rattle.cert_lines.specs.declared.fault.CertCause.TheVariants.{BadKind}
 use Rattle.fapp_text.specs.Reading.{◌>>=◌}
-use Rattle.cert_lines.specs.Spelling.{literal_numbers, child_numbers, list_numbers, tag_numbers, rule_word, rule_numbers, certificate_fields}
-use Rattle.cert_lines.specs.WellFormed.{IsChild, AreCites, AreChildren, IsRule, IsLine}
+use Rattle.cert_lines.specs.Spelling.{literal_numbers, child_numbers, list_numbers, tag_numbers, front_numbers, rule_word, rule_numbers, certificate_fields}
+use Rattle.cert_lines.specs.WellFormed.{IsChild, AreCites, AreChildren, IsRule, IsLine, IsDelete, IsLineIn}
 use Rattle.cert_lines.specs.FieldReading.{field_at, ended, tag_at}
 use Rattle.cert_lines.specs.ListReading.{position_at, literal_at, cite_at, child_at, list_at}
-use Rattle.cert_lines.specs.CertificateReading.{count_line, branch_line, certificate_line}
+use Rattle.cert_lines.specs.CertificateReading.{count_line, branch_line, delete_line, certificate_line}
 use Rattle.cert_lines.proofs.Ascending.{few_items}
 use Rattle.fapp_text.proofs.Steps.{bind_ok, chosen, ok_is}
 use Rattle.cert_lines.proofs.FieldLaws.{Takes, split_numbers, takes_both, field_takes, ended_takes, tag_takes, tag_again}
 use Rattle.cert_lines.proofs.ListLaws.{path_of, one_number, itself, choice_of, literal_step, cite_step, child_step, few_choices, position_takes, position_again}
 use Rattle.cert_lines.proofs.StepLaws.{list_takes, list_again}
+use Rattle.cert_lines.proofs.TagLemmas.{same_tag}
 
 ones : (cites : List ℕ) → flat_map one_number cites ≡ cites
 ones [] = refl
@@ -112,48 +115,81 @@ branch_takes instance valid fields line e =
     let text : fields ≡ map decimal numbers = whole ∙ ap (λ (t : List (List ℕ)). map decimal numbers ++ t) end ∙ append-nil (map decimal numbers) in
     subst (IsLineOf instance (codes "B" ∷ fields)) (ok_is {E = CertCause} made line d.2) (ap (λ (t : List (List ℕ)). codes "B" ∷ t) text, record { tag = tag.1; lits = lits.1; rule = (path.1, children.1) })
 
--- what a line of a certificate says
-abbrev pub IsFound : Instance → List (List ℕ) → Option Line → Type 0
-IsFound instance fields None = fields ≡ codes "END" ∷ []
-IsFound instance fields (Some line) = IsLineOf instance fields line
+-- fields that are a Delete line's
+abbrev IsDeleteOf : List (List ℕ) → Line → Type 0
+IsDeleteOf fields line = (fields ≡ certificate_fields line) × IsDelete line
 
-last_kind : (instance : Instance) → IsInstance instance → (word : List ℕ) (rest : List (List ℕ)) (found : Option Line)
-    → cond (bytes_eq word (codes "B")) (branch_line instance rest >>= λ line. Ok (Some line)) (Err BadKind) ≡ Ok found → IsFound instance (word ∷ rest) found
-last_kind instance valid word rest found e =
-    elim (chosen (bytes_eq word (codes "B")) (branch_line instance rest >>= λ line. Ok (Some line)) (Err BadKind) (Ok found) e) [
+delete_takes : (fields : List (List ℕ)) (line : Line) → delete_line fields ≡ Ok line → IsDeleteOf (codes "D" ∷ fields) line
+unfolding delete_line
+delete_takes fields line e =
+    let a = bind_ok (list_at cite_at fields) (λ cites. ended cites.1 >>= λ end. Ok (record { tag = record { code = 0; of_tag = refl }; lits = []; rule = Delete cites.0 })) line e in
+    let b = bind_ok (ended a.0.1) (λ end. Ok (record { tag = record { code = 0; of_tag = refl }; lits = []; rule = Delete a.0.0 })) line a.2 in
+    let cites = cites_take fields a.0 a.1 in
+    let end = ended_takes a.0.1 b.0 b.1 in
+    let made : Line = record { tag = record { code = 0; of_tag = refl }; lits = []; rule = Delete a.0.0 } in
+    let numbers : List ℕ = length a.0.0 ∷ a.0.0 in
+    let text : fields ≡ map decimal numbers = cites.0 ∙ ap (λ (t : List (List ℕ)). map decimal numbers ++ t) end ∙ append-nil (map decimal numbers) in
+    subst (IsDeleteOf (codes "D" ∷ fields)) (ok_is {E = CertCause} made line b.2) (ap (λ (t : List (List ℕ)). codes "D" ∷ t) text, record { tag = refl; lits = refl; cites = a.0.0; rule = refl; cites_are = cites.1 })
+
+-- what a line of a certificate says
+abbrev pub IsFound : ℕ → Instance → List (List ℕ) → Option Line → Type 0
+IsFound version instance fields None = fields ≡ codes "END" ∷ []
+IsFound version instance fields (Some line) = (fields ≡ certificate_fields line) × IsLineIn version instance line
+
+-- a line that was taken by its kind
+by_kind : (version : ℕ) (instance : Instance) (word kind : List ℕ) (rest : List (List ℕ)) (read : Result Line CertCause) (found : Option Line) → bytes_eq word kind ≡ true → read >>= (λ line. Ok (Some line)) ≡ Ok found
+    → ((line : Line) → read ≡ Ok line → IsFound version instance (kind ∷ rest) (Some line)) → IsFound version instance (word ∷ rest) found
+by_kind version instance word kind rest read found same e takes =
+    let a = bind_ok read (λ line. Ok (Some line)) found e in
+    rw (is_word word kind same) (subst (IsFound version instance (kind ∷ rest)) (ok_is {E = CertCause} (Some a.0) found a.2) (takes a.0 a.1))
+
+-- the kinds, from the last one on
+abbrev delete_kind : ℕ → List ℕ → List (List ℕ) → Result (Option Line) CertCause
+delete_kind version word rest = cond (eqb version 2 && bytes_eq word (codes "D")) (delete_line rest >>= λ line. Ok (Some line)) (Err BadKind)
+
+abbrev branch_kind : ℕ → Instance → List ℕ → List (List ℕ) → Result (Option Line) CertCause
+branch_kind version instance word rest = cond (bytes_eq word (codes "B")) (branch_line instance rest >>= λ line. Ok (Some line)) (delete_kind version word rest)
+
+abbrev count_kind : ℕ → Instance → List ℕ → List (List ℕ) → Result (Option Line) CertCause
+count_kind version instance word rest = cond (bytes_eq word (codes "C")) (count_line instance rest >>= λ line. Ok (Some line)) (branch_kind version instance word rest)
+
+delete_kind_takes : (version : ℕ) (instance : Instance) (word : List ℕ) (rest : List (List ℕ)) (found : Option Line) → delete_kind version word rest ≡ Ok found → IsFound version instance (word ∷ rest) found
+delete_kind_takes version instance word rest found e =
+    elim (chosen (eqb version 2 && bytes_eq word (codes "D")) (delete_line rest >>= λ line. Ok (Some line)) (Err BadKind) (Ok found) e) [
       | inl h ↦
-          let a = bind_ok (branch_line instance rest) (λ line. Ok (Some line)) found h.1 in
-          let taken : IsFound instance (codes "B" ∷ rest) (Some a.0) = branch_takes instance valid rest a.0 a.1 in
-          rw (is_word word (codes "B") h.0) (subst (IsFound instance (codes "B" ∷ rest)) (ok_is {E = CertCause} (Some a.0) found a.2) taken)
+          let both = and_parts (eqb version 2) (bytes_eq word (codes "D")) h.0 in
+          by_kind version instance word (codes "D") rest (delete_line rest) found both.1 h.1 (λ line e. let taken = delete_takes rest line e in (taken.0, inr (eqb-true version 2 both.0, taken.1)))
       | inr h ↦ absurd (refused found h.1)
     ]
   where
     refused : (found : Option Line) → ◌≡◌ {A = Result (Option Line) CertCause} (Err BadKind) (Ok found) → ⊥
     refused found e = cc
 
-second_kind : (instance : Instance) → IsInstance instance → (word : List ℕ) (rest : List (List ℕ)) (found : Option Line)
-    → cond (bytes_eq word (codes "C")) (count_line instance rest >>= λ line. Ok (Some line)) (cond (bytes_eq word (codes "B")) (branch_line instance rest >>= λ line. Ok (Some line)) (Err BadKind)) ≡ Ok found → IsFound instance (word ∷ rest) found
-second_kind instance valid word rest found e =
-    elim (chosen (bytes_eq word (codes "C")) (count_line instance rest >>= λ line. Ok (Some line)) (cond (bytes_eq word (codes "B")) (branch_line instance rest >>= λ line. Ok (Some line)) (Err BadKind)) (Ok found) e) [
-      | inl h ↦
-          let a = bind_ok (count_line instance rest) (λ line. Ok (Some line)) found h.1 in
-          let taken : IsFound instance (codes "C" ∷ rest) (Some a.0) = count_takes instance valid rest a.0 a.1 in
-          rw (is_word word (codes "C") h.0) (subst (IsFound instance (codes "C" ∷ rest)) (ok_is {E = CertCause} (Some a.0) found a.2) taken)
-      | inr h ↦ last_kind instance valid word rest found h.1
+branch_kind_takes : (version : ℕ) (instance : Instance) → IsInstance instance → (word : List ℕ) (rest : List (List ℕ)) (found : Option Line) → branch_kind version instance word rest ≡ Ok found → IsFound version instance (word ∷ rest) found
+branch_kind_takes version instance valid word rest found e =
+    elim (chosen (bytes_eq word (codes "B")) (branch_line instance rest >>= λ line. Ok (Some line)) (delete_kind version word rest) (Ok found) e) [
+      | inl h ↦ by_kind version instance word (codes "B") rest (branch_line instance rest) found h.0 h.1 (λ line e. let taken = branch_takes instance valid rest line e in (taken.0, inl taken.1))
+      | inr h ↦ delete_kind_takes version instance word rest found h.1
     ]
 
-pub certificate_takes : (instance : Instance) → IsInstance instance → (fields : List (List ℕ)) (found : Option Line) → certificate_line instance fields ≡ Ok found → IsFound instance fields found
+count_kind_takes : (version : ℕ) (instance : Instance) → IsInstance instance → (word : List ℕ) (rest : List (List ℕ)) (found : Option Line) → count_kind version instance word rest ≡ Ok found → IsFound version instance (word ∷ rest) found
+count_kind_takes version instance valid word rest found e =
+    elim (chosen (bytes_eq word (codes "C")) (count_line instance rest >>= λ line. Ok (Some line)) (branch_kind version instance word rest) (Ok found) e) [
+      | inl h ↦ by_kind version instance word (codes "C") rest (count_line instance rest) found h.0 h.1 (λ line e. let taken = count_takes instance valid rest line e in (taken.0, inl taken.1))
+      | inr h ↦ branch_kind_takes version instance valid word rest found h.1
+    ]
+
+pub certificate_takes : (version : ℕ) (instance : Instance) → IsInstance instance → (fields : List (List ℕ)) (found : Option Line) → certificate_line version instance fields ≡ Ok found → IsFound version instance fields found
 unfolding certificate_line
-certificate_takes instance valid fields found e =
-    let kinds : List ℕ → List (List ℕ) → Result (Option Line) CertCause = λ word rest. cond (bytes_eq word (codes "C")) (count_line instance rest >>= λ line. Ok (Some line)) (cond (bytes_eq word (codes "B")) (branch_line instance rest >>= λ line. Ok (Some line)) (Err BadKind)) in
-    let a = bind_ok (field_at fields) (λ word. cond (bytes_eq word.0 (codes "END")) (ended word.1 >>= λ end. Ok None) (kinds word.0 word.1)) found e in
-    rw (field_takes fields a.0 a.1) (elim (chosen (bytes_eq a.0.0 (codes "END")) (ended a.0.1 >>= λ end. Ok None) (kinds a.0.0 a.0.1) (Ok found) a.2) [
+certificate_takes version instance valid fields found e =
+    let a = bind_ok (field_at fields) (λ word. cond (bytes_eq word.0 (codes "END")) (ended word.1 >>= λ end. Ok None) (count_kind version instance word.0 word.1)) found e in
+    rw (field_takes fields a.0 a.1) (elim (chosen (bytes_eq a.0.0 (codes "END")) (ended a.0.1 >>= λ end. Ok None) (count_kind version instance a.0.0 a.0.1) (Ok found) a.2) [
       | inl h ↦
           let b = bind_ok (ended a.0.1) (λ end. Ok None) found h.1 in
           let none : Option Line = None in
-          let taken : IsFound instance (a.0.0 ∷ a.0.1) none = rw (is_word a.0.0 (codes "END") h.0, ended_takes a.0.1 b.0 b.1) refl in
-          subst (IsFound instance (a.0.0 ∷ a.0.1)) (ok_is {E = CertCause} none found b.2) taken
-      | inr h ↦ second_kind instance valid a.0.0 a.0.1 found h.1
+          let taken : IsFound version instance (a.0.0 ∷ a.0.1) none = rw (is_word a.0.0 (codes "END") h.0, ended_takes a.0.1 b.0 b.1) refl in
+          subst (IsFound version instance (a.0.0 ∷ a.0.1)) (ok_is {E = CertCause} none found b.2) taken
+      | inr h ↦ count_kind_takes version instance valid a.0.0 a.0.1 found h.1
     ])
 
 count_again : (instance : Instance) → IsInstance instance → (line : Line) (cites : List ℕ) → IsTagFor instance line.tag → AreLiterals instance line.lits → AreCites cites → line.rule ≡ Count cites
@@ -175,15 +211,38 @@ branch_again instance valid line path children tag lits lt all rule =
     ap (branch_line instance) (three_numbers (tag_numbers line.tag) (list_numbers line.lits) (path ∷ length children ∷ flat_map child_numbers children))
     ∙ rw (tag_again instance line.tag middle tag, literals_again instance valid line.lits last lits, position_again instance valid path behind lt, children_again instance valid path lt children [] all) (ap (λ (r : Rule). Ok (record { tag = line.tag; lits = line.lits; rule = r })) (sym rule))
 
-rule_again : (instance : Instance) → IsInstance instance → (line : Line) (rule : Rule) → IsTagFor instance line.tag → AreLiterals instance line.lits → IsRule instance rule → line.rule ≡ rule
-    → certificate_line instance (rule_word rule ∷ map decimal ((tag_numbers line.tag ++ list_numbers line.lits) ++ rule_numbers rule)) ≡ Ok (Some line)
-unfolding certificate_line
-rule_again instance valid line (Count cites) tag lits h e = ap (λ (r : Result Line CertCause). r >>= λ l. Ok (Some l)) (count_again instance valid line cites tag lits h e)
-rule_again instance valid line (Branch path children) tag lits h e = ap (λ (r : Result Line CertCause). r >>= λ l. Ok (Some l)) (branch_again instance valid line path children tag lits h.0 h.1 e)
+-- a Delete line is its numbers
+delete_made : (line : Line) (cites : List ℕ) → line.tag.code ≡ 0 → line.lits ≡ [] → line.rule ≡ Delete cites → record { tag = record { code = 0; of_tag = refl }; lits = []; rule = Delete cites } ≡ line
+delete_made line cites tag lits rule =
+    ap (λ (t : Tag). record { tag = t; lits = []; rule = Delete cites }) (same_tag (record { code = 0; of_tag = refl }) line.tag (sym tag))
+    ∙ ap (λ (ls : List Literal). record { tag = line.tag; lits = ls; rule = Delete cites }) (sym lits)
+    ∙ ap (λ (r : Rule). record { tag = line.tag; lits = line.lits; rule = r }) (sym rule)
 
-pub certificate_again : (instance : Instance) → IsInstance instance → (line : Line) → IsLine instance line → certificate_line instance (certificate_fields line) ≡ Ok (Some line)
-certificate_again instance valid line h = rule_again instance valid line line.rule h.tag h.lits h.rule refl
+pub delete_read : (fields rest : List (List ℕ)) (line : Line) (cites : List ℕ) → list_at cite_at fields ≡ Ok (cites, rest) → ended rest ≡ Ok tt → line.tag.code ≡ 0 → line.lits ≡ [] → line.rule ≡ Delete cites → delete_line fields ≡ Ok line
+unfolding delete_line
+delete_read fields rest line cites listed end tag lits rule = rw (listed, end) (ap (λ (l : Line). Ok l) (delete_made line cites tag lits rule))
 
-pub certificate_ends : (instance : Instance) → certificate_line instance (codes "END" ∷ []) ≡ Ok None
+delete_again : (line : Line) → (h : IsDelete line) → delete_line (map decimal (length h.cites ∷ h.cites)) ≡ Ok line
+delete_again line h =
+    let numbers : List (List ℕ) = map decimal (length h.cites ∷ h.cites) in
+    ap delete_line (sym (append-nil numbers)) ∙ delete_read (numbers ++ []) [] line h.cites (cites_again h.cites [] h.cites_are) refl h.tag h.lits h.rule
+
+rule_again : (version : ℕ) (instance : Instance) → IsInstance instance → (line : Line) (rule : Rule) → IsTagFor instance line.tag → AreLiterals instance line.lits → IsRule instance rule → line.rule ≡ rule
+    → certificate_line version instance (rule_word rule ∷ map decimal (front_numbers line rule ++ rule_numbers rule)) ≡ Ok (Some line)
 unfolding certificate_line
-certificate_ends instance = refl
+rule_again version instance valid line (Count cites) tag lits h e = ap (λ (r : Result Line CertCause). r >>= λ l. Ok (Some l)) (count_again instance valid line cites tag lits h e)
+rule_again version instance valid line (Branch path children) tag lits h e = ap (λ (r : Result Line CertCause). r >>= λ l. Ok (Some l)) (branch_again instance valid line path children tag lits h.0 h.1 e)
+rule_again version instance valid line (Delete cites) tag lits h e = absurd h
+
+-- a Delete line of version 2
+entry_again : (instance : Instance) (line : Line) (h : IsDelete line) (rule : Rule) → rule ≡ Delete h.cites → certificate_line 2 instance (rule_word rule ∷ map decimal (front_numbers line rule ++ rule_numbers rule)) ≡ Ok (Some line)
+unfolding certificate_line
+entry_again instance line h rule e = rw e (ap (λ (r : Result Line CertCause). r >>= λ l. Ok (Some l)) (delete_again line h))
+
+pub certificate_again : (version : ℕ) (instance : Instance) → IsInstance instance → (line : Line) → IsLineIn version instance line → certificate_line version instance (certificate_fields line) ≡ Ok (Some line)
+certificate_again version instance valid line (inl h) = rule_again version instance valid line line.rule h.tag h.lits h.rule refl
+certificate_again version instance valid line (inr h) = rw h.0 (entry_again instance line h.1 line.rule h.1.rule)
+
+pub certificate_ends : (version : ℕ) (instance : Instance) → certificate_line version instance (codes "END" ∷ []) ≡ Ok None
+unfolding certificate_line
+certificate_ends version instance = refl

@@ -10,10 +10,10 @@ use Rattle.fapp_model.specs.declared.choice.Choice.{Choice}
 use Rattle.fapp_model.specs.declared.instance.Path.{Path}
 use Rattle.cert_lines.specs.declared.answer.Line.{Line}
 use Rattle.cert_lines.specs.declared.answer.Rule.{Rule}
-use Rattle.cert_lines.specs.declared.answer.Rule.TheVariants.{Count, Branch}
+use Rattle.cert_lines.specs.declared.answer.Rule.TheVariants.{Count, Branch, Delete}
 use Rattle.cert_lines.specs.declared.answer.Verdict.{Verdict}
 use Rattle.cert_lines.specs.declared.answer.Verdict.TheVariants.{Best, NoneFeasible, Open}
-use Rattle.cert_lines.specs.Spelling.{line_text, triple_numbers, tag_numbers, list_numbers, rule_word, rule_numbers, certificate_fields, verdict_fields, choice_fields, plan_lines}
+use Rattle.cert_lines.specs.Spelling.{line_text, triple_numbers, tag_numbers, list_numbers, front_numbers, rule_word, rule_numbers, certificate_fields, verdict_fields, version_lines, choice_fields, plan_lines}
 use Rattle.cert_lines.specs.FieldReading.{is_space, fields_of}
 use Rattle.fapp_text.specs.Lines.{is_line_feed}
 use Rattle.cert_lines.specs.Reading.{parts_of}
@@ -59,9 +59,10 @@ numbers_plain (n ∷ numbers) = (decimal_plain n, numbers_plain numbers)
 rule_plain : (rule : Rule) → IsPlain (rule_word rule)
 rule_plain (Count cites) = (omega arith, tt)
 rule_plain (Branch path children) = (omega arith, tt)
+rule_plain (Delete cites) = (omega arith, tt)
 
 pub certificate_plain : (line : Line) → ArePlain (certificate_fields line)
-certificate_plain line = (rule_plain line.rule, numbers_plain ((tag_numbers line.tag ++ list_numbers line.lits) ++ rule_numbers line.rule))
+certificate_plain line = (rule_plain line.rule, numbers_plain (front_numbers line line.rule ++ rule_numbers line.rule))
 
 pub verdict_plain : (verdict : Verdict) → ArePlain (verdict_fields verdict)
 verdict_plain (Best t) = ((omega arith, (omega arith, (omega arith, (omega arith, tt)))), numbers_plain (triple_numbers t))
@@ -71,6 +72,13 @@ verdict_plain (Open best lower level prefix) =
     let bound : ArePlain (codes "LOWER" ∷ map decimal (tag_numbers lower)) = ((omega arith, (omega arith, (omega arith, (omega arith, (omega arith, tt))))), numbers_plain (tag_numbers lower)) in
     let first : ArePlain (codes "OPEN" ∷ map decimal (triple_numbers best)) = ((omega arith, (omega arith, (omega arith, (omega arith, tt)))), numbers_plain (triple_numbers best)) in
     all_append IsPlain ((codes "OPEN" ∷ map decimal (triple_numbers best)) ++ (codes "LOWER" ∷ map decimal (tag_numbers lower))) (codes "AT" ∷ map decimal (level ∷ list_numbers prefix)) (all_append IsPlain (codes "OPEN" ∷ map decimal (triple_numbers best)) (codes "LOWER" ∷ map decimal (tag_numbers lower)) first bound) last
+
+pub version_plain : (version : ℕ) → AllByRecursion ArePlain (version_lines version)
+version_plain version = by_test (eqb version 2)
+  where
+    by_test : (test : Bool) → AllByRecursion ArePlain (cond test ((codes "V" ∷ codes "2" ∷ []) ∷ []) [])
+    by_test true = (((omega arith, tt), ((omega arith, tt), tt)), tt)
+    by_test false = tt
 
 choice_plain : (path : Path) (choice : Choice) → ArePlain (choice_fields path choice)
 choice_plain path choice = ((omega arith, (omega arith, tt)), (decimal_plain path.number, (decimal_plain choice.freq, (signed_plain choice.pol, tt))))

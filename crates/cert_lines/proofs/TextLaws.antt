@@ -1,5 +1,5 @@
 -- A text that was read is that of its answer.
-use Rattle.std.proofs.Common.{◌≡◌, ℕ, ◌+◌, ◌≤◌, List, [], ◌∷◌, ◌++◌, length, map, drop, codes, Option, Some, None, Result, Ok, refl, sym, ap, subst, ◌∙◌, append_assoc, arith}
+use Rattle.std.proofs.Common.{◌≡◌, ℕ, ◌+◌, ◌≤◌, List, [], ◌∷◌, ◌++◌, length, map, drop, codes, Option, Some, None, Result, Ok, refl, sym, ap, subst, ◌∙◌, append_assoc, inl, inr, arith}
 use Rattle.std.specs.List.{flat_map, join_with_byte, AllByRecursion}
 use Rattle.std.proofs.lemmas.List.{append-nil}
 use Rattle.std.proofs.lemmas.List.Elements.{All-from_recursion}
@@ -13,16 +13,18 @@ use Rattle.cert_lines.specs.declared.answer.Answer.{Answer}
 use Rattle.cert_lines.specs.declared.answer.Line.{Line}
 use Rattle.cert_lines.specs.declared.fault.CertCause.{CertCause}
 use Rattle.fapp_text.specs.Reading.{◌>>=◌, at_line}
-use Rattle.cert_lines.specs.Spelling.{line_text, choice_fields, certificate_fields, verdict_fields, plan_lines, lines_text, answer_text}
-use Rattle.cert_lines.specs.WellFormed.{IsShown, IsLine, IsWellFormed}
+use Rattle.cert_lines.specs.Spelling.{line_text, choice_fields, certificate_fields, verdict_fields, version_lines, plan_lines, head_text, lines_text, answer_text}
+use Rattle.cert_lines.specs.WellFormed.{IsShown, IsLineIn, IsVersion, IsWellFormed}
 use Rattle.cert_lines.specs.FieldReading.{fields_of}
 use Rattle.cert_lines.specs.PlanReading.{plan_line}
 use Rattle.cert_lines.specs.VerdictReading.{verdict_line}
+use Rattle.cert_lines.specs.VersionReading.{version_line}
 use Rattle.cert_lines.specs.CertificateReading.{certificate_line}
-use Rattle.cert_lines.specs.Reading.{TextFault, Rest, parts_of, next_line, line_by, and_then, until, finished, reading}
+use Rattle.cert_lines.specs.Reading.{TextFault, Rest, parts_of, next_line, line_by, and_then, until, version_or, version_at, finished, reading}
 use Rattle.fapp_text.proofs.Steps.{bind_ok, at_line_ok, ok_is}
 use Rattle.cert_lines.proofs.PlanLaws.{plan_takes}
 use Rattle.cert_lines.proofs.VerdictLaws.{verdict_takes}
+use Rattle.cert_lines.proofs.VersionLaws.{version_takes}
 use Rattle.cert_lines.proofs.LineLaws.{certificate_takes}
 
 abbrev pub joined : List (List ℕ) → List ℕ
@@ -121,16 +123,32 @@ plan_more instance place fields x items lines e said =
 plan_said : (instance : Instance) → IsSaid (plan_line instance) (SaysPlan instance)
 plan_said instance = record { end = plan_end instance; more = plan_more instance }
 
-abbrev SaysLines : Instance → ℕ → List Line → List (List (List ℕ)) → Type 0
-SaysLines instance place items lines = (lines ≡ map certificate_fields items ++ (codes "END" ∷ []) ∷ []) × AllByRecursion (IsLine instance) items
+abbrev SaysLines : ℕ → Instance → ℕ → List Line → List (List (List ℕ)) → Type 0
+SaysLines version instance place items lines = (lines ≡ map certificate_fields items ++ (codes "END" ∷ []) ∷ []) × AllByRecursion (IsLineIn version instance) items
 
-lines_said : (instance : Instance) → IsInstance instance → IsSaid (λ place. certificate_line instance) (SaysLines instance)
-lines_said instance valid = record {
-  end = λ place fields e. (ap (λ (f : List (List ℕ)). f ∷ []) (certificate_takes instance valid fields None e), tt);
+lines_said : (version : ℕ) (instance : Instance) → IsInstance instance → IsSaid (λ place. certificate_line version instance) (SaysLines version instance)
+lines_said version instance valid = record {
+  end = λ place fields e. (ap (λ (f : List (List ℕ)). f ∷ []) (certificate_takes version instance valid fields None e), tt);
   more = λ place fields x items lines e said.
-      let h = certificate_takes instance valid fields (Some x) e in
+      let h = certificate_takes version instance valid fields (Some x) e in
       (ap (λ (f : List (List ℕ)). f ∷ lines) h.0 ∙ ap (λ (ls : List (List (List ℕ))). certificate_fields x ∷ ls) said.0, (h.1, said.1));
 }
+
+-- the version that was read, and the lines that say it
+abbrev IsVersioned : Rest → ℕ × Rest → Type 0
+IsVersioned rest x = IsVersion x.0 × (rest.1 ≡ map joined (version_lines x.0) ++ x.1.1)
+
+version_said : (rest : Rest) (x : ℕ × Rest) → version_at rest ≡ Ok x → IsVersioned rest x
+unfolding version_at
+version_said rest x e =
+    let a = bind_ok (line_by version_line rest) (λ found. Ok (version_or rest found)) x e in
+    subst (IsVersioned rest) (ok_is {E = TextFault} (version_or rest a.0) x a.2) (by_line a.0.0 a.0.1 (line_takes version_line rest a.0 a.1))
+  where
+    by_line : (found : Option ℕ) (after : Rest) → IsReadBy version_line rest (found, after) → IsVersioned rest (version_or rest (found, after))
+    by_line None after line = (inl refl, refl)
+    by_line (Some version) after line =
+        let said = version_takes (fields_of line.0) (Some version) line.2 in
+        (inr said.1, rw said.1 (line.1 ∙ ap (λ (l : List ℕ). l ∷ after.1) (line_is line.0 (codes "V" ∷ codes "2" ∷ []) said.0)))
 
 finished_ok : (rest : Rest) (x : Unit {0}) → finished rest ≡ Ok x → rest.1 ≡ [] ∷ []
 finished_ok (number, []) x e = absurd cc
@@ -153,11 +171,12 @@ pub map_both : (xs ys : List (List (List ℕ))) (rest : List (List ℕ)) → map
 map_both [] ys rest = refl
 map_both (x ∷ xs) ys rest = ap (λ (t : List (List ℕ)). joined x ∷ t) (map_both xs ys rest)
 
-whole : {F : Type 0} (t : F → List ℕ) (p l : List F) (d v e : F) → flat_map t ((p ++ d ∷ []) ++ (v ∷ (l ++ e ∷ []))) ≡ (((flat_map t p ++ (t d ++ t v)) ++ flat_map t l) ++ t e)
-whole t p l d v e =
-    flat_map-append t (p ++ d ∷ []) (v ∷ (l ++ e ∷ []))
-    ∙ ap (λ x. x ++ (t v ++ flat_map t (l ++ e ∷ []))) (flat_map-append t p (d ∷ []))
-    ∙ ap (λ x. (flat_map t p ++ (t d ++ [])) ++ (t v ++ x)) (flat_map-append t l (e ∷ []))
+whole : {F : Type 0} (t : F → List ℕ) (p w l : List F) (d v e : F) → flat_map t ((p ++ d ∷ []) ++ (v ∷ (w ++ (l ++ e ∷ [])))) ≡ ((((flat_map t p ++ t d) ++ t v) ++ flat_map t w) ++ flat_map t l) ++ t e
+whole t p w l d v e =
+    flat_map-append t (p ++ d ∷ []) (v ∷ (w ++ (l ++ e ∷ [])))
+    ∙ ap (λ x. x ++ (t v ++ flat_map t (w ++ (l ++ e ∷ [])))) (flat_map-append t p (d ∷ []))
+    ∙ ap (λ x. (flat_map t p ++ (t d ++ [])) ++ (t v ++ x)) (flat_map-append t w (l ++ e ∷ []))
+    ∙ ap (λ x. (flat_map t p ++ (t d ++ [])) ++ (t v ++ (flat_map t w ++ x))) (flat_map-append t l (e ∷ []))
     ∙ simp (append_assoc, append-nil)
 
 lines_flat : (lines : List Line) → flat_map line_text (map certificate_fields lines) ≡ lines_text lines
@@ -166,36 +185,38 @@ lines_flat (line ∷ lines) = ap (λ (t : List ℕ). line_text (certificate_fiel
 
 -- the fields of an answer's lines
 unfoldable pub lines_of : List Path → Answer → List (List (List ℕ))
-lines_of paths answer = (plan_lines paths answer.plan ++ (codes "--" ∷ []) ∷ []) ++ (verdict_fields answer.verdict ∷ (map certificate_fields answer.lines ++ (codes "END" ∷ []) ∷ []))
+lines_of paths answer = (plan_lines paths answer.plan ++ (codes "--" ∷ []) ∷ []) ++ (verdict_fields answer.verdict ∷ (version_lines answer.version ++ (map certificate_fields answer.lines ++ (codes "END" ∷ []) ∷ [])))
 
 pub text_is : (instance : Instance) (answer : Answer) → flat_map line_text (lines_of instance.paths answer) ≡ answer_text instance answer
 unfolding lines_of
 text_is instance answer =
-    let p = flat_map line_text (plan_lines instance.paths answer.plan) in
-    let d = line_text (codes "--" ∷ []) in
-    let v = line_text (verdict_fields answer.verdict) in
+    let head = head_text instance answer in
     let e = line_text (codes "END" ∷ []) in
-    whole line_text (plan_lines instance.paths answer.plan) (map certificate_fields answer.lines) (codes "--" ∷ []) (verdict_fields answer.verdict) (codes "END" ∷ [])
-    ∙ ap (λ (t : List ℕ). ((p ++ (d ++ v)) ++ t) ++ e) (lines_flat answer.lines)
-    ∙ ap (λ (t : List ℕ). (t ++ lines_text answer.lines) ++ e) (sym (append_assoc p d v))
+    whole line_text (plan_lines instance.paths answer.plan) (version_lines answer.version) (map certificate_fields answer.lines) (codes "--" ∷ []) (verdict_fields answer.verdict) (codes "END" ∷ [])
+    ∙ ap (λ (t : List ℕ). (head ++ t) ++ e) (lines_flat answer.lines)
 
 -- what was read is well formed, and the bytes are its text
 pub reading_takes : (instance : Instance) → IsInstance instance → (bytes : List ℕ) (answer : Answer) → reading instance bytes ≡ Ok answer → IsWellFormed instance answer × (bytes ≡ answer_text instance answer)
 unfolding reading lines_of
 reading_takes instance valid bytes answer e =
-    let a = bind_ok (until (plan_line instance) 0 1 (parts_of bytes)) (λ plan. line_by (verdict_line instance) plan.1 >>= λ verdict. until (λ place. certificate_line instance) 0 verdict.1.0 verdict.1.1 >>= λ lines. finished lines.1 >>= λ end. Ok (record { plan = plan.0; verdict = verdict.0; lines = lines.0 })) answer e in
-    let b = bind_ok (line_by (verdict_line instance) a.0.1) (λ verdict. until (λ place. certificate_line instance) 0 verdict.1.0 verdict.1.1 >>= λ lines. finished lines.1 >>= λ end. Ok (record { plan = a.0.0; verdict = verdict.0; lines = lines.0 })) answer a.2 in
-    let c = bind_ok (until (λ place. certificate_line instance) 0 b.0.1.0 b.0.1.1) (λ lines. finished lines.1 >>= λ end. Ok (record { plan = a.0.0; verdict = b.0.0; lines = lines.0 })) answer b.2 in
-    let d = bind_ok (finished c.0.1) (λ end. Ok (record { plan = a.0.0; verdict = b.0.0; lines = c.0.0 })) answer c.2 in
+    let a = bind_ok (until (plan_line instance) 0 1 (parts_of bytes)) (λ plan. line_by (verdict_line instance) plan.1 >>= λ verdict. version_at verdict.1 >>= λ version. until (λ place. certificate_line version.0 instance) 0 version.1.0 version.1.1 >>= λ lines. finished lines.1 >>= λ end. Ok (record { plan = plan.0; verdict = verdict.0; version = version.0; lines = lines.0 })) answer e in
+    let b = bind_ok (line_by (verdict_line instance) a.0.1) (λ verdict. version_at verdict.1 >>= λ version. until (λ place. certificate_line version.0 instance) 0 version.1.0 version.1.1 >>= λ lines. finished lines.1 >>= λ end. Ok (record { plan = a.0.0; verdict = verdict.0; version = version.0; lines = lines.0 })) answer a.2 in
+    let w = bind_ok (version_at b.0.1) (λ version. until (λ place. certificate_line version.0 instance) 0 version.1.0 version.1.1 >>= λ lines. finished lines.1 >>= λ end. Ok (record { plan = a.0.0; verdict = b.0.0; version = version.0; lines = lines.0 })) answer b.2 in
+    let c = bind_ok (until (λ place. certificate_line w.0.0 instance) 0 w.0.1.0 w.0.1.1) (λ lines. finished lines.1 >>= λ end. Ok (record { plan = a.0.0; verdict = b.0.0; version = w.0.0; lines = lines.0 })) answer w.2 in
+    let d = bind_ok (finished c.0.1) (λ end. Ok (record { plan = a.0.0; verdict = b.0.0; version = w.0.0; lines = c.0.0 })) answer c.2 in
     let plan = until_takes (plan_line instance) (SaysPlan instance) (plan_said instance) 0 1 (parts_of bytes) a.0 a.1 in
     let line = line_takes (verdict_line instance) a.0.1 b.0 b.1 in
     let verdict = verdict_takes instance valid (fields_of line.0) b.0.0 line.2 in
-    let lines = until_takes (λ place. certificate_line instance) (SaysLines instance) (lines_said instance valid) 0 b.0.1.0 b.0.1.1 c.0 c.1 in
-    let made : Answer = record { plan = a.0.0; verdict = b.0.0; lines = c.0.0 } in
-    let last : b.0.1.1 ≡ map joined lines.0 ++ [] ∷ [] = lines.2 ∙ ap (λ (r : List (List ℕ)). map joined lines.0 ++ r) (finished_ok c.0.1 d.0 d.1) in
-    let middle : a.0.1.1 ≡ joined (verdict_fields b.0.0) ∷ (map joined lines.0 ++ [] ∷ []) = line.1 ∙ ap (λ (l : List ℕ). l ∷ b.0.1.1) (line_is line.0 (verdict_fields b.0.0) verdict.0) ∙ ap (λ (r : List (List ℕ)). joined (verdict_fields b.0.0) ∷ r) last in
-    let all : List (List (List ℕ)) = plan.0 ++ (verdict_fields b.0.0 ∷ lines.0) in
-    let parts : parts_of bytes ≡ map joined all ++ [] ∷ [] = plan.2 ∙ ap (λ (r : List (List ℕ)). map joined plan.0 ++ r) middle ∙ sym (map_both plan.0 (verdict_fields b.0.0 ∷ lines.0) ([] ∷ [])) in
-    let same : all ≡ lines_of instance.paths made = ap (λ (ls : List (List (List ℕ))). ls ++ (verdict_fields b.0.0 ∷ lines.0)) plan.1.0 ∙ ap (λ (ls : List (List (List ℕ))). (plan_lines instance.paths a.0.0 ++ (codes "--" ∷ []) ∷ []) ++ (verdict_fields b.0.0 ∷ ls)) lines.1.0 in
+    let version = version_said b.0.1 w.0 w.1 in
+    let lines = until_takes (λ place. certificate_line w.0.0 instance) (SaysLines w.0.0 instance) (lines_said w.0.0 instance valid) 0 w.0.1.0 w.0.1.1 c.0 c.1 in
+    let made : Answer = record { plan = a.0.0; verdict = b.0.0; version = w.0.0; lines = c.0.0 } in
+    let said : List (List (List ℕ)) = version_lines w.0.0 in
+    let nothing : List (List ℕ) = [] ∷ [] in
+    let last : w.0.1.1 ≡ map joined lines.0 ++ nothing = lines.2 ∙ ap (λ (r : List (List ℕ)). map joined lines.0 ++ r) (finished_ok c.0.1 d.0 d.1) in
+    let behind : b.0.1.1 ≡ map joined (said ++ lines.0) ++ nothing = version.1 ∙ ap (λ (r : List (List ℕ)). map joined said ++ r) last ∙ sym (map_both said lines.0 nothing) in
+    let middle : a.0.1.1 ≡ joined (verdict_fields b.0.0) ∷ (map joined (said ++ lines.0) ++ nothing) = line.1 ∙ ap (λ (l : List ℕ). l ∷ b.0.1.1) (line_is line.0 (verdict_fields b.0.0) verdict.0) ∙ ap (λ (r : List (List ℕ)). joined (verdict_fields b.0.0) ∷ r) behind in
+    let all : List (List (List ℕ)) = plan.0 ++ (verdict_fields b.0.0 ∷ (said ++ lines.0)) in
+    let parts : parts_of bytes ≡ map joined all ++ nothing = plan.2 ∙ ap (λ (r : List (List ℕ)). map joined plan.0 ++ r) middle ∙ sym (map_both plan.0 (verdict_fields b.0.0 ∷ (said ++ lines.0)) nothing) in
+    let same : all ≡ lines_of instance.paths made = ap (λ (ls : List (List (List ℕ))). ls ++ (verdict_fields b.0.0 ∷ (said ++ lines.0))) plan.1.0 ∙ ap (λ (ls : List (List (List ℕ))). (plan_lines instance.paths a.0.0 ++ (codes "--" ∷ []) ∷ []) ++ (verdict_fields b.0.0 ∷ (said ++ ls))) lines.1.0 in
     let text : bytes ≡ answer_text instance made = sym (join_with_byte-slice_split 10 bytes) ∙ ap (join_with_byte 10) parts ∙ joined_text all ∙ ap (flat_map line_text) same ∙ text_is instance made in
-    subst (λ (x : Answer). IsWellFormed instance x × (bytes ≡ answer_text instance x)) (ok_is {E = TextFault} made answer d.2) (record { plan = plan.1.1; choices = All-from_recursion IsShown a.0.0 plan.1.2; verdict = verdict.1; lines = All-from_recursion (IsLine instance) c.0.0 lines.1.1 }, text)
+    subst (λ (x : Answer). IsWellFormed instance x × (bytes ≡ answer_text instance x)) (ok_is {E = TextFault} made answer d.2) (record { plan = plan.1.1; choices = All-from_recursion IsShown a.0.0 plan.1.2; verdict = verdict.1; version = version.0; lines = All-from_recursion (IsLineIn w.0.0 instance) c.0.0 lines.1.1 }, text)

@@ -12,7 +12,7 @@ use Rattle.fapp_model.specs.Tags.{triple_from}
 use Rattle.cert_lines.specs.declared.answer.Line.{Line}
 use Rattle.cert_lines.specs.declared.answer.Verdict.TheVariants.{Open}
 use Rattle.cert_lines.specs.Spaced.{spaced}
-use Rattle.cert_lines.specs.Spelling.{line_text, choice_fields, plan_lines, triple_numbers, tag_numbers, list_numbers, rule_word, rule_numbers, certificate_fields, verdict_text}
+use Rattle.cert_lines.specs.Spelling.{line_text, choice_fields, plan_lines, triple_numbers, tag_numbers, list_numbers, front_numbers, rule_word, rule_numbers, certificate_fields, verdict_text}
 
 abbrev pub behind_spaces : List (List ℕ) → List ℕ
 behind_spaces fields = flat_map (λ (field : List ℕ). 32 ∷ field) fields
@@ -32,10 +32,15 @@ numbers_line word numbers = joined word (map decimal numbers) ∙ ap (λ (text :
 spaced-append : (xs ys : List ℕ) → spaced (xs ++ ys) ≡ spaced xs ++ spaced ys
 spaced-append xs ys = flat_map-append (λ (n : ℕ). 32 ∷ decimal n) xs ys
 
--- numbers that are written in three parts
-pub three_parts : (old word a b c : List ℕ) → ((((old ++ word) ++ spaced a) ++ spaced b) ++ spaced c) ++ 10 ∷ [] ≡ old ++ line_text (word ∷ map decimal ((a ++ b) ++ c))
-three_parts old word a b c =
-    rw (numbers_line word ((a ++ b) ++ c), spaced-append (a ++ b) c, spaced-append a b) (simp append_assoc)
+-- numbers that are written in two parts
+pub two_parts : (old word a b : List ℕ) → (((old ++ word) ++ spaced a) ++ spaced b) ++ 10 ∷ [] ≡ old ++ line_text (word ∷ map decimal (a ++ b))
+two_parts old word a b = rw (numbers_line word (a ++ b), spaced-append a b) (simp append_assoc)
+
+-- what a line begins with, as it is written: nothing, or its tag and its literals
+pub front_pushed : (line : Line) (t : Triple) (old s1 s2 : List ℕ) → t ≡ triple_from line.tag.code → s1 ≡ old ++ spaced (triple_numbers t) → s2 ≡ s1 ++ spaced (list_numbers line.lits)
+    → s2 ≡ old ++ spaced (tag_numbers line.tag ++ list_numbers line.lits)
+front_pushed line t old s1 s2 et e1 e2 =
+    rw (e2, e1, et, spaced-append (tag_numbers line.tag) (list_numbers line.lits)) (append_assoc old (spaced (tag_numbers line.tag)) (spaced (list_numbers line.lits)))
 
 behind-append : (xs ys : List (List ℕ)) → behind_spaces (xs ++ ys) ≡ behind_spaces xs ++ behind_spaces ys
 behind-append xs ys = flat_map-append (λ (field : List ℕ). 32 ∷ field) xs ys
@@ -63,9 +68,9 @@ plan_pushed paths plan i path d old s1 s2 lt short e e1 e2 =
     rw (add-one, plan_lines_suc paths plan i path d lt short e, flat_map-append, e2, e1) (rw last (append_assoc old (flat_map line_text (plan_lines paths (take i plan))) (line_text (choice_fields path (get_or plan i d)))))
 
 -- a certificate line, as it is written part by part
-pub line_pushed : (line : Line) (word : List ℕ) (t : Triple) (old s1 s2 s3 s4 s5 : List ℕ) → word ≡ rule_word line.rule → t ≡ triple_from line.tag.code → s1 ≡ old ++ word → s2 ≡ s1 ++ spaced (triple_numbers t) → s3 ≡ s2 ++ spaced (list_numbers line.lits) → s4 ≡ s3 ++ spaced (rule_numbers line.rule) → s5 ≡ s4 ++ 10 ∷ [] → s5 ≡ old ++ line_text (certificate_fields line)
-line_pushed line word t old s1 s2 s3 s4 s5 ew et e1 e2 e3 e4 e5 =
-    rw (e5, e4, e3, e2, e1, ew, et) (three_parts old (rule_word line.rule) (tag_numbers line.tag) (list_numbers line.lits) (rule_numbers line.rule))
+pub line_pushed : (line : Line) (word old s1 s2 s3 s4 : List ℕ) → word ≡ rule_word line.rule → s1 ≡ old ++ word → s2 ≡ s1 ++ spaced (front_numbers line line.rule) → s3 ≡ s2 ++ spaced (rule_numbers line.rule) → s4 ≡ s3 ++ 10 ∷ [] → s4 ≡ old ++ line_text (certificate_fields line)
+line_pushed line word old s1 s2 s3 s4 ew e1 e2 e3 e4 =
+    rw (e4, e3, e2, e1, ew) (two_parts old (rule_word line.rule) (front_numbers line line.rule) (rule_numbers line.rule))
 
 -- a verdict of an early end, as it is written part by part
 pub open_pushed : (best : Triple) (lower : Tag) (level : ℕ) (prefix : List Literal) (t : Triple) (old s1 s2 s3 s4 s5 s6 s7 s8 : List ℕ) → t ≡ triple_from lower.code → s1 ≡ old ++ codes "OPEN" → s2 ≡ s1 ++ spaced (triple_numbers best) → s3 ≡ s2 ++ 32 ∷ codes "LOWER" → s4 ≡ s3 ++ spaced (triple_numbers t) → s5 ≡ s4 ++ 32 ∷ codes "AT" → s6 ≡ s5 ++ spaced (level ∷ []) → s7 ≡ s6 ++ spaced (list_numbers prefix) → s8 ≡ s7 ++ 10 ∷ [] → s8 ≡ old ++ verdict_text (Open best lower level prefix)

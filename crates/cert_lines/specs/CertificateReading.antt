@@ -1,10 +1,10 @@
 -- The lines of a certificate, by their fields.
-use Rattle.std.specs.Prelude.{ℕ, List, codes, Option, Some, None, Result, Ok, Err, if◌then◌else◌}
+use Rattle.std.specs.Prelude.{ℕ, ◌==◌, ◌&&◌, refl, List, [], codes, Option, Some, None, Result, Ok, Err, if◌then◌else◌}
 use Rattle.std.specs.Str.{bytes_eq}
 use Rattle.fapp_text.specs.Reading.{◌>>=◌}
 use Rattle.fapp_model.specs.declared.instance.Instance.{Instance}
 use Rattle.cert_lines.specs.declared.answer.Line.{Line}
-use Rattle.cert_lines.specs.declared.answer.Rule.TheVariants.{Count, Branch}
+use Rattle.cert_lines.specs.declared.answer.Rule.TheVariants.{Count, Branch, Delete}
 use Rattle.cert_lines.specs.declared.fault.CertCause.{CertCause}
 use Rattle.cert_lines.specs.declared.fault.CertCause.TheVariants.{BadKind}
 use Rattle.cert_lines.specs.FieldReading.{field_at, ended, tag_at}
@@ -27,10 +27,18 @@ branch_line instance fields = do
   end ← ended children.1
   Ok (record { tag = tag.0; lits = lits.0; rule = Branch path.0 children.0 })
 
--- a line of a certificate, or the line that ends it
-unfoldable pub certificate_line : Instance → List (List ℕ) → Result (Option Line) CertCause
-certificate_line instance fields = do
+unfoldable pub delete_line : List (List ℕ) → Result Line CertCause
+delete_line fields = do
+  cites ← list_at cite_at fields
+  end ← ended cites.1
+  Ok (record { tag = record { code = 0; of_tag = refl }; lits = []; rule = Delete cites.0 })
+
+-- a line of a certificate of a version, or the line that ends it
+unfoldable pub certificate_line : ℕ → Instance → List (List ℕ) → Result (Option Line) CertCause
+certificate_line version instance fields = do
   word ← field_at fields
   if bytes_eq word.0 (codes "END") then (ended word.1 >>= λ end. Ok None)
       else if bytes_eq word.0 (codes "C") then (count_line instance word.1 >>= λ line. Ok (Some line))
-      else if bytes_eq word.0 (codes "B") then (branch_line instance word.1 >>= λ line. Ok (Some line)) else Err BadKind
+      else if bytes_eq word.0 (codes "B") then (branch_line instance word.1 >>= λ line. Ok (Some line))
+      else if (version == 2) && bytes_eq word.0 (codes "D") then (delete_line word.1 >>= λ line. Ok (Some line))
+      else Err BadKind

@@ -7,14 +7,14 @@ use Rattle.fapp_model.specs.declared.instance.Instance.{Instance}
 use Rattle.fapp_model.specs.Instances.{IsInstance}
 use Rattle.cert_lines.specs.declared.answer.Answer.{Answer}
 use Rattle.cert_lines.specs.declared.fault.CertCause.TheVariants.{AfterEnd}
-use Rattle.cert_lines.specs.Spelling.{head_text, lines_text, answer_text}
+use Rattle.cert_lines.specs.Spelling.{version_lines, head_text, lines_text, answer_text}
 use Rattle.cert_lines.specs.WellFormed.{IsWellFormed}
 use Rattle.cert_lines.specs.Reading.{TextFault, first_fault, IsReading}
 
--- the number of the line after END: before it stand a line for each choice, `--`, the verdict, the certificate's lines
--- and END
+-- the number of the line after END: before it stand a line for each choice, `--`, the verdict, the version where a line
+-- says it, the certificate's lines and END
 abbrev pub line_after : Answer → ℕ
-line_after answer = length answer.plan + length answer.lines + 4
+line_after answer = length answer.plan + length (version_lines answer.version) + length answer.lines + 4
 
 -- no two answers have one text
 abbrev pub OneText : Type 0

@@ -7,9 +7,12 @@ pub mod FieldsLeft
 pub mod ListReading
 pub mod PlanReading
 pub mod VerdictReading
+pub mod VersionReading
 pub mod CertificateReading
 pub mod Reading
 pub mod TextLeft
 pub mod Laws
 pub mod Rejects
 pub mod acceptance
+pub mod Renumbering
+pub mod Stripping

@@ -15,6 +15,7 @@ use Rattle.cert_lines.specs.WellFormed.{IsWellFormed}
 use Rattle.cert_lines.specs.FieldReading.{fields_of}
 use Rattle.cert_lines.specs.PlanReading.{plan_line}
 use Rattle.cert_lines.specs.VerdictReading.{verdict_line}
+use Rattle.cert_lines.specs.VersionReading.{version_line}
 use Rattle.cert_lines.specs.CertificateReading.{certificate_line}
 
 -- the first fault of a text: its line and what is wrong there
@@ -55,6 +56,15 @@ until read place number [] = Err (fault number NoEnd)
 until read place number (line ∷ parts) = line_by (read place) (number, line ∷ parts) >>=
     λ x. and_then x.0 (until read (place + 1) (number + 1) parts) x.1
 
+-- the version that a line said, or 1, and the lines that are left
+abbrev pub version_or : Rest → Option ℕ × Rest → ℕ × Rest
+version_or rest (Some version, after) = (version, after)
+version_or rest (None, after) = (1, rest)
+
+-- the version, which the next line may say
+unfoldable pub version_at : Rest → Result (ℕ × Rest) TextFault
+version_at rest = line_by version_line rest >>= λ found. Ok (version_or rest found)
+
 -- no byte follows
 abbrev pub finished : Rest → Result (Unit {0}) TextFault
 finished (number, []) = Err (fault number AfterEnd)
@@ -67,9 +77,10 @@ unfoldable pub reading : Instance → List ℕ → Result Answer TextFault
 reading instance bytes = do
   plan ← until (plan_line instance) 0 1 (parts_of bytes)
   verdict ← line_by (verdict_line instance) plan.1
-  lines ← until (λ place. certificate_line instance) 0 verdict.1.0 verdict.1.1
+  version ← version_at verdict.1
+  lines ← until (λ place. certificate_line version.0 instance) 0 version.1.0 version.1.1
   end ← finished lines.1
-  Ok (record { plan = plan.0; verdict = verdict.0; lines = lines.0 })
+  Ok (record { plan = plan.0; verdict = verdict.0; version = version.0; lines = lines.0 })
 
 abbrev pub fault_in : {A : Type 0} → Result A TextFault → Option TextFault
 fault_in (Ok x) = None

@@ -1,5 +1,5 @@
 -- The text of an answer: its lines, each a list of fields.
-use Rattle.std.specs.Prelude.{ℕ, List, [], ◌∷◌, ◌++◌, length, map, codes, decimal}
+use Rattle.std.specs.Prelude.{ℕ, ◌==◌, List, [], ◌∷◌, ◌++◌, length, map, codes, decimal, if◌then◌else◌}
 use Rattle.std.specs.Fmt.{signed_decimal}
 use Rattle.std.specs.List.{flat_map, join_with_byte}
 use Rattle.fapp_model.specs.declared.choice.Choice.{Choice}
@@ -13,7 +13,7 @@ use Rattle.cert_lines.specs.declared.answer.Answer.{Answer}
 use Rattle.cert_lines.specs.declared.answer.Child.{Child}
 use Rattle.cert_lines.specs.declared.answer.Line.{Line}
 use Rattle.cert_lines.specs.declared.answer.Rule.{Rule}
-use Rattle.cert_lines.specs.declared.answer.Rule.TheVariants.{Count, Branch}
+use Rattle.cert_lines.specs.declared.answer.Rule.TheVariants.{Count, Branch, Delete}
 use Rattle.cert_lines.specs.declared.answer.Verdict.{Verdict}
 use Rattle.cert_lines.specs.declared.answer.Verdict.TheVariants.{Best, NoneFeasible, Open}
 
@@ -40,15 +40,22 @@ child_numbers child = child.choice ∷ child.cite ∷ []
 abbrev pub rule_word : Rule → List ℕ
 rule_word (Count cites) = codes "C"
 rule_word (Branch path children) = codes "B"
+rule_word (Delete cites) = codes "D"
 
 abbrev pub rule_numbers : Rule → List ℕ
 rule_numbers (Count cites) = length cites ∷ cites
 rule_numbers (Branch path children) = path ∷ length children ∷ flat_map child_numbers children
+rule_numbers (Delete cites) = length cites ∷ cites
+
+-- the numbers before a rule's own: the tag and the literals, which a Delete line leaves out
+abbrev pub front_numbers : Line → Rule → List ℕ
+front_numbers line (Count cites) = tag_numbers line.tag ++ list_numbers line.lits
+front_numbers line (Branch path children) = tag_numbers line.tag ++ list_numbers line.lits
+front_numbers line (Delete cites) = []
 
 -- the fields of a certificate line
 abbrev pub certificate_fields : Line → List (List ℕ)
-certificate_fields line =
-    rule_word line.rule ∷ map decimal (tag_numbers line.tag ++ list_numbers line.lits ++ rule_numbers line.rule)
+certificate_fields line = rule_word line.rule ∷ map decimal (front_numbers line line.rule ++ rule_numbers line.rule)
 
 -- the fields of a verdict
 abbrev pub verdict_fields : Verdict → List (List ℕ)
@@ -71,10 +78,17 @@ plan_lines (path ∷ paths) (choice ∷ choices) = choice_fields path choice ∷
 abbrev pub verdict_text : Verdict → List ℕ
 verdict_text verdict = line_text (verdict_fields verdict)
 
+-- the line that says the version, which version 1 has not
+abbrev pub version_lines : ℕ → List (List (List ℕ))
+version_lines version = if version == 2 then (codes "V" ∷ codes "2" ∷ []) ∷ [] else []
+
+abbrev pub version_text : ℕ → List ℕ
+version_text version = flat_map line_text (version_lines version)
+
 -- the text before the certificate lines
 abbrev pub head_text : Instance → Answer → List ℕ
 head_text instance answer = flat_map line_text (plan_lines instance.paths answer.plan)
-    ++ line_text (codes "--" ∷ []) ++ verdict_text answer.verdict
+    ++ line_text (codes "--" ∷ []) ++ verdict_text answer.verdict ++ version_text answer.version
 
 abbrev pub lines_text : List Line → List ℕ
 lines_text lines = flat_map (λ line. line_text (certificate_fields line)) lines

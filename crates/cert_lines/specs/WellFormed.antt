@@ -1,5 +1,5 @@
 -- Which answers have a text.
-use Rattle.std.specs.Prelude.{ℕ, ◌<◌, ◌≤◌, ◌+◌, Bool, ◌&&◌, ◌||◌, ◌==◌, List, length, IsTrue, All, AllPairs}
+use Rattle.std.specs.Prelude.{◌≡◌, ◌⊎◌, ℕ, ◌<◌, ◌≤◌, ◌+◌, Bool, ◌&&◌, ◌||◌, ◌==◌, List, [], length, IsTrue, All, AllPairs}
 use Rattle.fapp_text.specs.Signs.{IsSign}
 use Rattle.fapp_model.specs.declared.choice.Choice.{Choice}
 use Rattle.fapp_model.specs.declared.instance.Instance.{Instance}
@@ -14,7 +14,7 @@ use Rattle.cert_lines.specs.declared.answer.Answer.{Answer}
 use Rattle.cert_lines.specs.declared.answer.Child.{Child}
 use Rattle.cert_lines.specs.declared.answer.Line.{Line}
 use Rattle.cert_lines.specs.declared.answer.Rule.{Rule}
-use Rattle.cert_lines.specs.declared.answer.Rule.TheVariants.{Count, Branch}
+use Rattle.cert_lines.specs.declared.answer.Rule.TheVariants.{Count, Branch, Delete}
 use Rattle.cert_lines.specs.declared.answer.Verdict.{Verdict}
 use Rattle.cert_lines.specs.declared.answer.Verdict.TheVariants.{Best, NoneFeasible, Open}
 
@@ -42,11 +42,32 @@ pub record AreChildren (instance : Instance) (path : ℕ) (children : List Child
 abbrev pub IsRule : Instance → Rule → Type 0
 IsRule instance (Count cites) = AreCites cites
 IsRule instance (Branch path children) = (path < length instance.paths) × AreChildren instance path children
+IsRule instance (Delete cites) = ⊥
 
+-- a Count or Branch line
 pub record IsLine (instance : Instance) (line : Line) : Type 0 where
   pub tag : IsTagFor instance line.tag
   pub lits : AreLiterals instance line.lits
   pub rule : IsRule instance line.rule
+
+-- a Delete line
+pub record IsDelete (line : Line) : Type 0 where
+  pub tag : line.tag.code ≡ 0
+  pub lits : line.lits ≡ []
+  pub cites : List ℕ
+  pub rule : line.rule ≡ Delete cites
+  pub cites_are : AreCites cites
+
+-- a line of version 2
+abbrev pub IsEntry : Instance → Line → Type 0
+IsEntry instance line = IsLine instance line ⊎ IsDelete line
+
+-- a line of a version: Delete lines stand in version 2 alone
+abbrev pub IsLineIn : ℕ → Instance → Line → Type 0
+IsLineIn version instance line = IsLine instance line ⊎ ((version ≡ 2) × IsDelete line)
+
+abbrev pub IsVersion : ℕ → Type 0
+IsVersion version = (version ≡ 1) ⊎ (version ≡ 2)
 
 -- what a plan can cost: nothing at all, or some level with violations one level below it
 abbrev pub is_cost : ℕ → Triple → Bool
@@ -67,4 +88,5 @@ pub record IsWellFormed (instance : Instance) (answer : Answer) : Type 0 where
   pub plan : length answer.plan ≤ length instance.paths
   pub choices : All IsShown answer.plan
   pub verdict : IsVerdict instance answer.verdict
-  pub lines : All (IsLine instance) answer.lines
+  pub version : IsVersion answer.version
+  pub lines : All (IsLineIn answer.version instance) answer.lines

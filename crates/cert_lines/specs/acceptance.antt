@@ -1,4 +1,5 @@
 pub mod Contained
+pub mod Deleted
 pub mod Excluded
 pub mod Judged
 pub mod LineFaults

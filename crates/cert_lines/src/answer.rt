@@ -19,6 +19,8 @@ pub enum Rule {
     /// It follows for each choice of a path, given by its position. The children's choices ascend, and a choice
     /// without a child needs no citation.
     Branch { path: u16, children: Items<Child> },
+    /// Nothing: no later line cites the named ones. Their numbers ascend.
+    Delete { cites: Items<u32> },
 }
 
 /// A line of a certificate: no assignment that extends its literals and breaks no imperative record costs less
@@ -57,6 +59,8 @@ pub struct Answer {
     /// The choices of the first paths, in the order of the paths.
     pub plan: Items<Choice>,
     pub verdict: Verdict,
+    /// 1, or 2 where lines may be Delete lines.
+    pub version: u32,
     /// They count from 1.
     pub lines: Items<Line>,
 }

@@ -1,4 +1,4 @@
-//! What the lines of a text are: lines of a plan, verdicts and certificate lines.
+//! What the lines of a text are: lines of a plan, verdicts, versions and certificate lines.
 
 ghost use Rattle.std.specs.Prelude.{ℕ, List, Result};
 ghost use Rattle.fapp_model.specs.Instances.{IsInstance};
@@ -7,6 +7,7 @@ ghost use Rattle.fapp_text.specs.Reading.{Gives};
 ghost use Rattle.cert_lines.specs.FieldsLeft.{fields_left};
 ghost use Rattle.cert_lines.specs.PlanReading.{plan_line};
 ghost use Rattle.cert_lines.specs.VerdictReading.{verdict_line};
+ghost use Rattle.cert_lines.specs.VersionReading.{version_line};
 ghost use Rattle.cert_lines.specs.CertificateReading.{certificate_line};
 
 use crate::certificate::certificate_line;
@@ -14,6 +15,7 @@ use crate::fault::LineError;
 use crate::fields::Fields;
 use crate::plan::plan_line;
 use crate::verdict::verdict_line;
+use crate::version::version_line;
 use crate::{Line, Verdict};
 use fapp_model::{Choice, Instance};
 use std::alloc::Global;
@@ -83,10 +85,31 @@ impl<'i> LineReader for VerdictLine<'i> {
     }
 }
 
+/// A version, or `None` at another line.
+pub(crate) struct VersionLine;
+
+impl LineReader for VersionLine {
+    type Found = Option<u32>;
+
+    ghost valid = { λ s. Unit {0} };
+
+    ghost read = { λ s place. version_line };
+
+    fn read_line(
+        &self,
+        _alloc: Global,
+        _place: usize,
+        fields: Fields,
+    ) -> Result<Option<u32>, LineError> {
+        version_line(fields)
+    }
+}
+
 /// A line of a certificate, or `None` at the line that ends it.
 #[derive(Clone, Copy)]
 pub(crate) struct CertificateLines<'i> {
     pub instance: &'i Instance,
+    pub version: u32,
 }
 
 impl<'i> LineReader for CertificateLines<'i> {
@@ -94,7 +117,7 @@ impl<'i> LineReader for CertificateLines<'i> {
 
     ghost valid = { λ s. IsInstance s.instance.now };
 
-    ghost read = { λ s place. certificate_line s.instance.now };
+    ghost read = { λ s place. certificate_line s.version s.instance.now };
 
     fn read_line(
         &self,
@@ -102,6 +125,6 @@ impl<'i> LineReader for CertificateLines<'i> {
         _place: usize,
         fields: Fields,
     ) -> Result<Option<Line>, LineError> {
-        certificate_line(alloc, self.instance, fields)
+        certificate_line(alloc, self.version, self.instance, fields)
     }
 }

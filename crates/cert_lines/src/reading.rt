@@ -6,11 +6,11 @@ ghost use Rattle.fapp_model.specs.Instances.{IsInstance};
 ghost use Rattle.fapp_text.specs.Lines.{is_line_feed};
 ghost use Rattle.fapp_text.specs.Reading.{Gives};
 ghost use Rattle.cert_lines.specs.FieldsLeft.{fields_left};
-ghost use Rattle.cert_lines.specs.Reading.{next_line, line_by, until, finished, reading, IsReading};
+ghost use Rattle.cert_lines.specs.Reading.{next_line, line_by, until, version_at, finished, reading, IsReading};
 ghost use Rattle.cert_lines.specs.TextLeft.{text_left};
 
 use crate::fields::{Fields, fields_of};
-use crate::line::{CertificateLines, LineReader, PlanLines, VerdictLine};
+use crate::line::{CertificateLines, LineReader, PlanLines, VerdictLine, VersionLine};
 use crate::text::Text;
 use crate::{Answer, AnswerError, CertCause};
 use fapp_model::{Instance, Items};
@@ -92,6 +92,18 @@ fn until<'t, T: Drop, R: LineReader<Found = Option<T>>>(
     }
 }
 
+/// The version, and the text after the line that says it. A text without such a line is of version 1.
+#[tactic(auto, unfolding(crate::specs::Reading::version_at))]
+fn version_at<'t>(alloc: Global, text: Text<'t>) -> Result<(u32, Text<'t>), AnswerError>
+    ensures { Gives (λ x. (x.0, text_left x.1)) result (version_at (text_left text.entry)) }
+{
+    let (found, after) = line_by(alloc, &VersionLine, 0, text)?;
+    match found {
+        Some(version) => Ok((version, after)),
+        None => Ok((1, text)),
+    }
+}
+
 /// No byte may follow.
 fn finished(text: Text) -> Result<(), AnswerError>
     ensures { Gives (λ x. x) result (finished (text_left text.entry)) }
@@ -114,11 +126,13 @@ fn answer_of(alloc: Global, instance: &Instance, bytes: &[u8]) -> Result<Answer,
     };
     let (plan, rest) = until(alloc, &PlanLines { instance }, text)?;
     let (verdict, rest) = line_by(alloc, &VerdictLine { instance }, 0, rest)?;
-    let (lines, rest) = until(alloc, &CertificateLines { instance }, rest)?;
+    let (version, rest) = version_at(alloc, rest)?;
+    let (lines, rest) = until(alloc, &CertificateLines { instance, version }, rest)?;
     finished(rest)?;
     Ok(Answer {
         plan,
         verdict,
+        version,
         lines,
     })
 }

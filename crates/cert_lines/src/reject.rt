@@ -27,10 +27,16 @@ pub enum RejectCause {
     ImperativeBroken,
     /// The plan costs something else.
     TripleDiffers { claimed: Triple, found: Triple },
-    /// No line is without literals.
+    /// No Count or Branch line is without literals, or each such line is deleted.
     NoRootLine,
-    /// No line without literals has the verdict's tag or a greater one.
+    /// No Count or Branch line without literals that no line deletes has the verdict's tag or a greater one.
     RootTagTooLow { claimed: Tag, found: Tag },
+    /// An earlier line deletes a cited one.
+    CiteDeleted,
+    /// A deleted number is 0, or names no earlier line.
+    DeleteNotEarlier,
+    /// An earlier line deletes a deleted one.
+    DeletedTwice,
 }
 
 /// The first fault of an answer: the certificate's line, from 1, or 0 for a fault of the plan or of the root.
@@ -43,7 +49,7 @@ pub struct Rejected {
 impl RejectCause {
     ghost use Rattle.cert_lines.specs.Rejects.{reject_number, reject_name};
 
-    /// Its number, from 1 for `CiteNotEarlier` to 11 for `RootTagTooLow`.
+    /// Its number, from 1 for `CiteNotEarlier` to 14 for `DeletedTwice`.
     pub fn number(self) -> u8
         ensures { result ≡ reject_number self }
     {
@@ -59,6 +65,9 @@ impl RejectCause {
             RejectCause::TripleDiffers { .. } => 9,
             RejectCause::NoRootLine => 10,
             RejectCause::RootTagTooLow { .. } => 11,
+            RejectCause::CiteDeleted => 12,
+            RejectCause::DeleteNotEarlier => 13,
+            RejectCause::DeletedTwice => 14,
         }
     }
 
@@ -78,6 +87,9 @@ impl RejectCause {
             RejectCause::TripleDiffers { .. } => "TripleDiffers",
             RejectCause::NoRootLine => "NoRootLine",
             RejectCause::RootTagTooLow { .. } => "RootTagTooLow",
+            RejectCause::CiteDeleted => "CiteDeleted",
+            RejectCause::DeleteNotEarlier => "DeleteNotEarlier",
+            RejectCause::DeletedTwice => "DeletedTwice",
         }
     }
 

@@ -72,7 +72,7 @@ fn is_kept(alloc: Global, instance: &Instance, text: &str) -> bool
     written.as_slice() == text.as_bytes() && is_in_parts(alloc, instance, &answer, text)
 }
 
-/// Whether a text is an answer's head, its certificate lines and the line `END`, and the head ends with the verdict.
+/// Whether a text is an answer's head, its certificate lines and the line `END`, and the head ends as it must.
 fn is_in_parts(alloc: Global, instance: &Instance, answer: &Answer, text: &str) -> bool
     requires { IsWellFormed instance.now answer.now }
 {
@@ -91,10 +91,22 @@ fn is_in_parts(alloc: Global, instance: &Instance, answer: &Answer, text: &str) 
     let Some(end) = rest.strip_prefix(lines.as_slice()) else {
         return false;
     };
-    head.as_slice().ends_with(verdict.as_slice()) && end == b"END\n".as_slice()
+    ends_in_verdict(head.as_slice(), verdict.as_slice(), answer.version)
+        && end == b"END\n".as_slice()
 }
 
-const FAULTS: [(&str, u32, CertCause); 40] = [
+/// Whether a head ends with a verdict, and the line that says version 2 where it is that.
+fn ends_in_verdict(head: &[u8], verdict: &[u8], version: u32) -> bool {
+    if version == 1 {
+        return head.ends_with(verdict);
+    }
+    let Some(front) = head.strip_suffix(b"V 2\n".as_slice()) else {
+        return false;
+    };
+    front.ends_with(verdict)
+}
+
+const FAULTS: [(&str, u32, CertCause); 53] = [
     ("", 1, CertCause::NoEnd),
     ("AL", 1, CertCause::NoEnd),
     ("AL 1 10 1\n", 2, CertCause::NoEnd),
@@ -195,6 +207,23 @@ const FAULTS: [(&str, u32, CertCause); 40] = [
         2,
         CertCause::UnknownChoice,
     ),
+    ("--\nNONE\nD 1 1\nEND\n", 3, CertCause::BadKind),
+    (
+        "--\nNONE\nC 12 0 0 0 0\nD 1 1\nEND\n",
+        4,
+        CertCause::BadKind,
+    ),
+    ("--\nNONE\nV 2\nV 2\nEND\n", 4, CertCause::BadKind),
+    ("--\nNONE\nC 12 0 0 0 0\nV 2\n", 4, CertCause::BadKind),
+    ("--\nNONE\nVV 2\n", 3, CertCause::BadKind),
+    ("--\nNONE\nV\n", 3, CertCause::FieldCount),
+    ("--\nNONE\nV 2 2\n", 3, CertCause::FieldCount),
+    ("--\nNONE\nV 2\nD 2 1\n", 4, CertCause::FieldCount),
+    ("--\nNONE\nV 3 x\n", 3, CertCause::BadNumber),
+    ("--\nNONE\nV 02\n", 3, CertCause::BadNumber),
+    ("--\nNONE\nV 2\nD 2 2 2\n", 4, CertCause::BadOrder),
+    ("--\nNONE\nV 2", 3, CertCause::NoEnd),
+    ("--\nNONE\nV 2\nEND\n\n", 5, CertCause::AfterEnd),
 ];
 
 #[test]
@@ -210,11 +239,13 @@ fn faults(rt: HostRuntime) -> Result<(), Fail> {
     Ok(())
 }
 
-const PAIR_TEXTS: [&str; 4] = [
+const PAIR_TEXTS: [&str; 6] = [
     "AL 1 10 1\nAL 2 30 1\n--\nBEST 0 0 0\nC 0 0 0 0 0\nEND\n",
     "AL 1 10 1\nAL 2 10 1\n--\nBEST 11 1 10\nB 11 1 10 0 0 0\nEND\n",
     "AL 1 10 1\nAL 2 20 -1\n--\nBEST 5 1 4\nB 5 1 4 0 1 2 0 1 1 3\nEND\n",
     "--\nNONE\nB 12 0 0 1 0 0 1 2 0 1 1 2\nC 12 0 0 0 2 1 9\nEND\n",
+    "AL 1 10 1\nAL 2 30 1\n--\nBEST 0 0 0\nV 2\nEND\n",
+    "--\nNONE\nV 2\nD 0\nC 12 0 0 0 2 1 9\nD 2 1 7\nEND\n",
 ];
 
 const TRIANGLE_TEXTS: [&str; 3] = [

@@ -2,10 +2,11 @@
 
 ghost use Rattle.std.specs.Prelude.{◌≡◌, ◌≤◌, ◌++◌, [], ◌∷◌, length, flat_map, IfOk, OnOk, decimal, codes};
 ghost use Rattle.std.specs.Fmt.{signed_decimal};
-ghost use Rattle.cert_lines.specs.Spelling.{line_text, triple_numbers, list_numbers, child_numbers, rule_word, rule_numbers, certificate_fields, verdict_text, choice_fields, plan_lines, head_text, lines_text, answer_text};
+ghost use Rattle.cert_lines.specs.Spelling.{line_text, triple_numbers, tag_numbers, list_numbers, child_numbers, front_numbers, rule_word, rule_numbers, certificate_fields, verdict_text, version_text, choice_fields, plan_lines, head_text, lines_text, answer_text};
 ghost use Rattle.cert_lines.specs.Spaced.{spaced};
 ghost use Rattle.cert_lines.specs.WellFormed.{IsWellFormed};
 
+use crate::kept::is_delete;
 use crate::{Answer, Child, Line, Rule, Verdict};
 use fapp_model::{Choice, Instance, Literal, Path, Tag, Triple, triple_of};
 use fapp_text::{NoMemory, push_number, push_signed};
@@ -27,7 +28,7 @@ pub fn write_answer(
     Ok(out)
 }
 
-/// The text of a well-formed answer up to its verdict. `NoMemory` comes where its room could not be had.
+/// The text of a well-formed answer before its certificate lines. `NoMemory` comes where its room could not be had.
 pub fn head_text(alloc: Global, instance: &Instance, answer: &Answer) -> Result<Vec<u8>, NoMemory>
     requires { IsWellFormed instance.now answer.now }
     ensures { IfOk result (λ text. text.items ≡ head_text instance.now answer.now) }
@@ -71,7 +72,8 @@ fn push_head(out: &mut Vec<u8>, instance: &Instance, answer: &Answer) -> Result<
 {
     push_plan(out, instance.paths.as_slice(), answer.plan.as_slice())?;
     out.extend_from_slice(b"--\n")?;
-    push_verdict(out, &answer.verdict)
+    push_verdict(out, &answer.verdict)?;
+    push_version(out, answer.version)
 }
 
 /// One line for each choice of a plan.
@@ -143,6 +145,16 @@ fn push_open(
     Ok(())
 }
 
+/// The line that says the version, which version 1 has not.
+fn push_version(out: &mut Vec<u8>, version: u32) -> Result<(), NoMemory>
+    ensures { OnOk result (out.new.items ≡ out.old.items ++ version_text version) }
+{
+    if version == 2 {
+        out.extend_from_slice(b"V 2\n")?;
+    }
+    Ok(())
+}
+
 fn push_lines(out: &mut Vec<u8>, lines: &[Line]) -> Result<(), NoMemory>
     ensures { OnOk result (out.new.items ≡ out.old.items ++ lines_text lines.now) }
 {
@@ -156,11 +168,27 @@ fn push_line(out: &mut Vec<u8>, line: &Line) -> Result<(), NoMemory>
     ensures { OnOk result (out.new.items ≡ out.old.items ++ line_text (certificate_fields line.now)) }
 {
     out.extend_from_slice(rule_word(&line.rule))?;
-    push_triple(out, triple_of(line.tag))?;
-    push_literals(out, line.lits.as_slice())?;
+    push_front(out, line)?;
     push_rule(out, &line.rule)?;
     out.extend_from_slice(b"\n")?;
     Ok(())
+}
+
+/// What stands before a rule's own numbers: the tag and the literals, which a Delete line leaves out.
+fn push_front(out: &mut Vec<u8>, line: &Line) -> Result<(), NoMemory>
+    ensures { OnOk result (out.new.items ≡ out.old.items ++ spaced (front_numbers line.now line.now.rule)) }
+{
+    if is_delete(&line.rule) {
+        return Ok(());
+    }
+    push_tag_and_literals(out, line)
+}
+
+fn push_tag_and_literals(out: &mut Vec<u8>, line: &Line) -> Result<(), NoMemory>
+    ensures { OnOk result (out.new.items ≡ out.old.items ++ spaced (tag_numbers line.now.tag ++ list_numbers line.now.lits)) }
+{
+    push_triple(out, triple_of(line.tag))?;
+    push_literals(out, line.lits.as_slice())
 }
 
 fn rule_word(rule: &Rule) -> &'static [u8]
@@ -169,6 +197,7 @@ fn rule_word(rule: &Rule) -> &'static [u8]
     match rule {
         Rule::Count { .. } => b"C",
         Rule::Branch { .. } => b"B",
+        Rule::Delete { .. } => b"D",
     }
 }
 
@@ -176,15 +205,20 @@ fn push_rule(out: &mut Vec<u8>, rule: &Rule) -> Result<(), NoMemory>
     ensures { OnOk result (out.new.items ≡ out.old.items ++ spaced (rule_numbers rule.now)) }
 {
     match rule {
-        Rule::Count { cites } => {
-            push_length(out, cites.len())?;
-            push_numbers(out, cites.as_slice())
-        }
+        Rule::Count { cites } => push_cites(out, cites.as_slice()),
         Rule::Branch { path, children } => {
             push_numbers(out, &[u32::from(*path)])?;
             push_children(out, children.as_slice())
         }
+        Rule::Delete { cites } => push_cites(out, cites.as_slice()),
     }
+}
+
+fn push_cites(out: &mut Vec<u8>, cites: &[u32]) -> Result<(), NoMemory>
+    ensures { OnOk result (out.new.items ≡ out.old.items ++ spaced (length cites.now ∷ cites.now)) }
+{
+    push_length(out, cites.len())?;
+    push_numbers(out, cites)
 }
 
 fn push_children(out: &mut Vec<u8>, children: &[Child]) -> Result<(), NoMemory>

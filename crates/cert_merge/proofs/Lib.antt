@@ -6,3 +6,6 @@ pub mod Gatherings
 pub mod PlanSteps
 pub mod Ends
 pub mod PlacedRows
+pub mod LastCites
+pub mod EndedRows
+pub mod CompactSteps

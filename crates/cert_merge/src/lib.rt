@@ -1,7 +1,9 @@
 //! One certificate from the arcs, the lines of several logs and the plan of jobs.
 #![tactic(auto)]
 
+mod citing;
 mod claim;
+mod compacting;
 mod copies;
 mod gathered;
 mod levels;
@@ -13,4 +15,5 @@ mod segments;
 mod tree;
 mod whole;
 
+pub use compacting::compact;
 pub use whole::{merge, merge_after};

@@ -211,7 +211,7 @@ fn at_or_none(numbers: &[u32], place: u32) -> u32
 }
 
 /// So many empty lists of numbers.
-fn no_numbers(alloc: Global, count: usize) -> Result<Vec<Items<u32>>, NoMemory>
+pub(crate) fn no_numbers(alloc: Global, count: usize) -> Result<Vec<Items<u32>>, NoMemory>
     ensures { IfOk result (λ lists. lists.items ≡ replicate count []) }
 {
     let mut lists = Vec::with_capacity(alloc, count)?;

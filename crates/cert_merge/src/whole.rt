@@ -56,7 +56,7 @@ pub fn merge(
 /// (0, 0, 0), one root line without cites comes behind them. The further lines are at most as many as the choices, the lists
 /// of choices along the prefixes, the Branch lines of the logs, and one.
 ///
-/// The old lines are well formed and good in their order. Each row is home once or placed once, and not both. The rest is as
+/// The old lines are well formed and good in their order, and none is a Delete line; nor is one of the result. Each row is home once or placed once, and not both. The rest is as
 /// for `merge`; but the verdict's rule takes the greatest tag of an old root line in place of the arcs' root tag where that
 /// tag is greater.
 ///

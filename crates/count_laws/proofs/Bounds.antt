@@ -232,7 +232,7 @@ outside_most false = omega arith
 
 module _ (instance : Instance) (valid : IsInstance instance) (level : ℕ) (within : level ≤ 11) where
   -- what a choice adds is below what a clash counts
-  pub sum_small : (literals : List Literal) → AreDistinct literals → (a : Literal) → added instance (coded_part level) literals a < 2 ^ 47
+  pub sum_small : (literals : List Literal) → AreDistinct literals → (a : Literal) → added instance (coded_part level) literals a < HARD
   sum_small literals distinct a =
       let most = added_most (coded_part level) (S_SPAN + 10) (coded_most level within) instance valid literals distinct a in
       omega (arith, most, valid.few_records)
@@ -242,7 +242,7 @@ module _ (instance : Instance) (valid : IsInstance instance) (level : ℕ) (with
       let most = added_most (bad_further level) 10 (further_most level within) instance valid literals distinct a in
       omega (arith, most, valid.few_records)
 
-  pub inside_small : (literals : List Literal) → AreDistinct literals → inside instance (coded_part level) literals < 2 ^ 47
+  pub inside_small : (literals : List Literal) → AreDistinct literals → inside instance (coded_part level) literals < HARD
   inside_small literals distinct =
       let most = inside_total (coded_part level) (S_SPAN + 10) (coded_most level within) instance literals distinct in
       omega (arith, most, valid.few_records)

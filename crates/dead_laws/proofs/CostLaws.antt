@@ -4,6 +4,7 @@ use Rattle.std.proofs.lemmas.Bool.{ltb-true, lt-ltb}
 use Rattle.std.proofs.Math.Nat.{mul-le-mul}
 use Rattle.fapp_model.specs.declared.instance.Instance.{Instance}
 use Rattle.fapp_model.specs.declared.triple.Triple.{Triple}
+use Rattle.fapp_model.specs.declared.level.TheConstants.{MAX_LEVELS}
 use Rattle.fapp_model.specs.declared.limits.TheConstants.{MAX_RECORDS, S_SPAN}
 use Rattle.fapp_model.specs.Costs.{clear_level, count_below, cost, cost_by, sum_under, violations}
 use Rattle.fapp_model.specs.Instances.{IsInstance}
@@ -17,7 +18,7 @@ use Rattle.fapp_model.proofs.LevelNumbers.{levels-few}
 use Rattle.fapp_model.proofs.TagParts.{TagShape, limited, plain, shape_of, mode-limited, mode-plain, tag_from_limited, tag_from_plain}
 use Rattle.fapp_model.proofs.Violations.{violations-falling, violations-le, sum_under-le}
 
-small_sum : (n r s : ℕ) → n ≤ 60 → r ≤ MAX_RECORDS → s ≤ n * r → s < S_SPAN
+small_sum : (n r s : ℕ) → n ≤ MAX_LEVELS → r ≤ MAX_RECORDS → s ≤ n * r → s < S_SPAN
 small_sum n r s few records h = omega (arith, mul-le-mul few records)
 
 pub cost-tag : (instance : Instance) (plan : List ℕ) → IsInstance instance → IsTagOf instance (cost instance plan)

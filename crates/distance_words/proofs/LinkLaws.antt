@@ -10,6 +10,7 @@ use Rattle.fapp_model.specs.search.Clashes.{clashes}
 use Rattle.fapp_model.specs.search.Partials.{choice_of}
 use Rattle.fapp_tables.specs.Measures.{both_between, coded_part}
 use Rattle.dead_laws.proofs.Picks.{AreDistinct}
+use Rattle.count_laws.specs.declared.rows.TheConstants.{HARD}
 use Rattle.count_laws.specs.Counts.{pair_word}
 use Rattle.count_laws.proofs.Bounds.{sum_small}
 use Rattle.count_laws.proofs.Clash.{flag_most}
@@ -45,7 +46,7 @@ one_distinct b = λ i j d less inside. absurd (omega (arith, less, inside))
 pub pair_small : (instance : Instance) → IsInstance instance → (level : ℕ) → level ≤ MAX_LEVELS → (a b : Literal) → pair_word instance level a b ≤ 2 ^ 49
 pair_small instance valid level low a b =
     let sum = sum_small instance valid level low (b ∷ []) (one_distinct b) a in
-    let one : 0 + both_between instance (coded_part level) a b < 2 ^ 47 = sum in
+    let one : 0 + both_between instance (coded_part level) a b < HARD = sum in
     omega (arith, one, flag_most (clashes instance level a b))
 
 -- the word that was found for choices that are told by equations

@@ -14,7 +14,7 @@ pub record LimitsAre : Type 0 where
   pub number : MAX_NUMBER ≡ 1000000000
   pub text : MAX_TEXT ≡ 1073741824
   pub paths : MAX_PATHS ≡ 8192
-  pub records : MAX_RECORDS ≡ 1048576
+  pub records : MAX_RECORDS ≡ 2097152
   pub domain_records : MAX_DOMAIN_RECORDS ≡ 1048576
   pub domain_frequencies : MAX_DOMAIN_FREQUENCIES ≡ 32768
   pub choices : MAX_CHOICES ≡ 4194304

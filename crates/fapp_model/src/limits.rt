@@ -11,7 +11,7 @@ pub const MAX_PATHS: usize = 8_192;
 pub const MAX_DOMAIN_RECORDS: usize = 1_048_576;
 
 /// The most constraint records of an instance.
-pub const MAX_RECORDS: usize = 1_048_576;
+pub const MAX_RECORDS: usize = 2_097_152;
 
 /// The most distinct frequencies of a domain.
 pub const MAX_DOMAIN_FREQUENCIES: usize = 32_768;

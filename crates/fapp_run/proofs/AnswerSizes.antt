@@ -8,17 +8,19 @@ use Rattle.fapp_text.specs.Reading.{◌>>=◌, at_line}
 use Rattle.cert_lines.specs.declared.answer.Answer.{Answer}
 use Rattle.cert_lines.specs.declared.answer.Line.{Line}
 use Rattle.cert_lines.specs.declared.answer.Rule.{Rule}
-use Rattle.cert_lines.specs.declared.answer.Rule.TheVariants.{Count, Branch}
+use Rattle.cert_lines.specs.declared.answer.Rule.TheVariants.{Count, Branch, Delete}
 use Rattle.cert_lines.specs.declared.fault.CertCause.{CertCause}
 use Rattle.cert_lines.specs.CertificateReading.{certificate_line}
 use Rattle.cert_lines.specs.PlanReading.{plan_line}
 use Rattle.cert_lines.specs.VerdictReading.{verdict_line}
-use Rattle.cert_lines.specs.Reading.{TextFault, Rest, parts_of, next_line, line_by, and_then, until, finished, reading, fault_in, first_fault}
-use Rattle.cert_lines.specs.Spelling.{certificate_fields, line_text, lines_text, head_text, answer_text, rule_word, tag_numbers, list_numbers, rule_numbers}
+use Rattle.cert_lines.specs.VersionReading.{version_line}
+use Rattle.cert_lines.specs.Reading.{TextFault, Rest, parts_of, next_line, line_by, and_then, until, version_or, version_at, finished, reading, fault_in, first_fault}
+use Rattle.cert_lines.specs.Spelling.{certificate_fields, line_text, lines_text, head_text, answer_text, rule_word, front_numbers, rule_numbers}
 
 word_long : (rule : Rule) → 1 ≤ length (rule_word rule)
 word_long (Count cites) = omega arith
 word_long (Branch path children) = omega arith
+word_long (Delete cites) = omega arith
 
 joined_long : (word : List ℕ) (fields : List (List ℕ)) → length word ≤ length (join_with_byte 32 (word ∷ fields))
 joined_long word [] = omega arith
@@ -30,7 +32,7 @@ line_long word fields h = omega (arith, joined_long word fields, length-append (
 lines_long : (lines : List Line) → 2 * length lines ≤ length (lines_text lines)
 lines_long [] = omega arith
 lines_long (line ∷ lines) =
-    let one : 2 ≤ length (line_text (certificate_fields line)) = line_long (rule_word line.rule) (map decimal (tag_numbers line.tag ++ list_numbers line.lits ++ rule_numbers line.rule)) (word_long line.rule) in
+    let one : 2 ≤ length (line_text (certificate_fields line)) = line_long (rule_word line.rule) (map decimal (front_numbers line line.rule ++ rule_numbers line.rule)) (word_long line.rule) in
     omega (arith, lines_long lines, one, length-append (line_text (certificate_fields line)) (lines_text lines))
 
 -- an answer has no more lines than half the bytes of its text
@@ -124,14 +126,25 @@ end_low most number ([] ∷ []) answer h = tt
 end_low most number ([] ∷ next ∷ parts) answer h = h
 end_low most number ((b ∷ bytes) ∷ parts) answer h = h
 
+or_bounded : (most : ℕ) (rest : Rest) (r : Result (Option ℕ × Rest) TextFault) → rest.0 + length rest.1 ≤ most → Bounded most r → Bounded most (r >>= λ found. Ok (version_or rest found))
+unfolding Bounded
+or_bounded most rest (Ok (Some version, after)) high low = low
+or_bounded most rest (Ok (None, after)) high low = high
+or_bounded most rest (Err found) high low = low
+
+version_bounded : (number : ℕ) (parts : List (List ℕ)) → Bounded (number + length parts) (version_at (number, parts))
+unfolding version_at
+version_bounded number parts = or_bounded (number + length parts) (number, parts) (line_by version_line (number, parts)) (omega arith) (line_bounded version_line number parts)
+
 reading_low : (instance : Instance) (bytes : List ℕ) → IsLow (1 + length (parts_of bytes)) (reading instance bytes)
 unfolding reading
 reading_low instance bytes =
     let most = 1 + length (parts_of bytes) in
     low_after most (until (plan_line instance) 0 1 (parts_of bytes)) _ (until_bounded (plan_line instance) 0 1 (parts_of bytes)) (λ plan h.
     low_after most (line_by (verdict_line instance) plan.1) _ (wider (plan.1.0 + length plan.1.1) most (line_by (verdict_line instance) plan.1) h (line_bounded (verdict_line instance) plan.1.0 plan.1.1)) (λ verdict g.
-    low_after most (until (λ place. certificate_line instance) 0 verdict.1.0 verdict.1.1) _ (wider (verdict.1.0 + length verdict.1.1) most (until (λ place. certificate_line instance) 0 verdict.1.0 verdict.1.1) g (until_bounded (λ place. certificate_line instance) 0 verdict.1.0 verdict.1.1)) (λ lines f.
-    end_low most lines.1.0 lines.1.1 _ (omega (arith, f)))))
+    low_after most (version_at verdict.1) _ (wider (verdict.1.0 + length verdict.1.1) most (version_at verdict.1) g (version_bounded verdict.1.0 verdict.1.1)) (λ version v.
+    low_after most (until (λ place. certificate_line version.0 instance) 0 version.1.0 version.1.1) _ (wider (version.1.0 + length version.1.1) most (until (λ place. certificate_line version.0 instance) 0 version.1.0 version.1.1) v (until_bounded (λ place. certificate_line version.0 instance) 0 version.1.0 version.1.1)) (λ lines f.
+    end_low most lines.1.0 lines.1.1 _ (omega (arith, f))))))
 
 low_fault : (most : ℕ) (r : Result Answer TextFault) (found : TextFault) → IsLow most r → fault_in r ≡ Some found → found.line ≤ most
 unfolding IsLow

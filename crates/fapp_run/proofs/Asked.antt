@@ -8,7 +8,7 @@ use Rattle.fapp_words.specs.declared.options.SolveOptions.{SolveOptions}
 use Rattle.fapp_words.specs.declared.request.Request.{Request}
 use Rattle.fapp_words.specs.declared.request.Request.TheVariants.{Solve, Check, Gen, Demo}
 use Rattle.fapp_words.specs.declared.request.Seed.{Seed}
-use Rattle.fapp_words.specs.Solving.{fuel, given, names, pool, split, text_of, workers}
+use Rattle.fapp_words.specs.Solving.{cert, fuel, given, names, pool, split, text_of, workers}
 use Rattle.fapp_words.specs.Options.{IsPromised, ranged, within}
 use Rattle.fapp_words.specs.Promises.{ArePromised, IsSeed}
 use Rattle.fapp_run.specs.Answers.{AreOptions}
@@ -44,19 +44,22 @@ fuel-in : (o : Option ℕ) → IsIn 0 1000000 o → IfSome o (λ n. n ≤ 100000
 fuel-in None h = tt
 fuel-in (Some n) h = h.1
 
-options-given : (w f s p : Option (Option ℕ)) (only : Bool) (options : SolveOptions) → ((o : Option ℕ) → w ≡ Some o → IsIn 1 32 o) → ((o : Option ℕ) → f ≡ Some o → IsIn 0 1000000 o) → ((o : Option ℕ) → s ≡ Some o → IsIn 1 4096 o) → ((o : Option ℕ) → p ≡ Some o → IsIn 0 65536 o) →
-    option_and_then (λ w'. option_and_then (λ f'. option_and_then (λ s'. option_and_then (λ p'. Some (record { workers = unwrap_or w' 4; fuel = f'; split = unwrap_or s' 64; pool = unwrap_or p' 4096; answer_only = only })) p) s) f) w ≡ Some options → AreOptions options
-options-given None f s p only options hw hf hs hp e = absurd (cc)
-options-given (Some w) None s p only options hw hf hs hp e = absurd (cc)
-options-given (Some w) (Some f) None p only options hw hf hs hp e = absurd (cc)
-options-given (Some w) (Some f) (Some s) None only options hw hf hs hp e = absurd (cc)
-options-given (Some w) (Some f) (Some s) (Some p) only options hw hf hs hp e = subst AreOptions (some-is _ options e) (record {
+options-given : (w f s p v : Option (Option ℕ)) (only : Bool) (options : SolveOptions) → ((o : Option ℕ) → w ≡ Some o → IsIn 1 32 o) → ((o : Option ℕ) → f ≡ Some o → IsIn 0 1000000 o) → ((o : Option ℕ) → s ≡ Some o → IsIn 1 4096 o) → ((o : Option ℕ) → p ≡ Some o → IsIn 0 65536 o) → ((o : Option ℕ) → v ≡ Some o → IsIn 1 2 o) →
+    option_and_then (λ w'. option_and_then (λ f'. option_and_then (λ s'. option_and_then (λ p'. option_and_then (λ v'. Some (record { workers = unwrap_or w' 4; fuel = f'; split = unwrap_or s' 64; pool = unwrap_or p' 4096; cert = unwrap_or v' 1; answer_only = only })) v) p) s) f) w ≡ Some options → AreOptions options
+options-given None f s p v only options hw hf hs hp hv e = absurd (cc)
+options-given (Some w) None s p v only options hw hf hs hp hv e = absurd (cc)
+options-given (Some w) (Some f) None p v only options hw hf hs hp hv e = absurd (cc)
+options-given (Some w) (Some f) (Some s) None v only options hw hf hs hp hv e = absurd (cc)
+options-given (Some w) (Some f) (Some s) (Some p) None only options hw hf hs hp hv e = absurd (cc)
+options-given (Some w) (Some f) (Some s) (Some p) (Some v) only options hw hf hs hp hv e = subst AreOptions (some-is _ options e) (record {
   some_workers = (or-in 1 32 4 w (omega arith) (omega arith) (hw w refl)).0;
   few_workers = (or-in 1 32 4 w (omega arith) (omega arith) (hw w refl)).1;
   fuel = fuel-in f (hf f refl);
   some_prefixes = (or-in 1 4096 64 s (omega arith) (omega arith) (hs s refl)).0;
   few_prefixes = (or-in 1 4096 64 s (omega arith) (omega arith) (hs s refl)).1;
   rows = (or-in 0 65536 4096 p (omega arith) (omega arith) (hp p refl)).1;
+  some_version = (or-in 1 2 1 v (omega arith) (omega arith) (hv v refl)).0;
+  few_versions = (or-in 1 2 1 v (omega arith) (omega arith) (hv v refl)).1;
 })
   where
     some-is : (a b : SolveOptions) → Some a ≡ Some b → a ≡ b
@@ -68,8 +71,9 @@ solve-in words options h =
     let f = given (text_of fuel) h.pieces in
     let s = given (text_of split) h.pieces in
     let p = given (text_of pool) h.pieces in
-    options-given (ranged 1 32 w) (ranged 0 1000000 f) (ranged 1 4096 s) (ranged 0 65536 p) (names (codes "answer-only") h.pieces) options
-    (ranged-in 1 32 w) (ranged-in 0 1000000 f) (ranged-in 1 4096 s) (ranged-in 0 65536 p) h.values
+    let v = given (text_of cert) h.pieces in
+    options-given (ranged 1 32 w) (ranged 0 1000000 f) (ranged 1 4096 s) (ranged 0 65536 p) (ranged 1 2 v) (names (codes "answer-only") h.pieces) options
+    (ranged-in 1 32 w) (ranged-in 0 1000000 f) (ranged-in 1 4096 s) (ranged-in 0 65536 p) (ranged-in 1 2 v) h.values
 
 seed-in : (name : List ℕ) (words : List (List ℕ)) (seed : Seed) → IsSeed name words seed → AreSeed seed
 seed-in name words seed h =

@@ -6,4 +6,5 @@ pub mod Joining
 pub mod Shown
 pub mod Asked
 pub mod Solved
+pub mod Written
 pub mod Told

@@ -1,5 +1,5 @@
 -- The answer that follows from what the workers found.
-use Rattle.std.proofs.Common.{◌≡◌, ℕ, ◌<◌, ◌≤◌, List, [], length, get_or, All, None, sum, sum_by, sym, ap, ◌∙◌, subst, ⊎_elim, arith}
+use Rattle.std.proofs.Common.{◌≡◌, ℕ, ◌<◌, ◌≤◌, List, [], length, get_or, All, None, inl, refl, sum, sum_by, sym, ap, ◌∙◌, subst, ⊎_elim, arith}
 use Rattle.std.proofs.lemmas.Bool.{cases_lt}
 use Rattle.std.proofs.lemmas.List.Elements.{All-nil}
 use Rattle.fapp_model.specs.declared.choice.Choice.{Choice}
@@ -16,6 +16,7 @@ use Rattle.cert_lines.specs.declared.answer.Verdict.TheVariants.{Best, NoneFeasi
 use Rattle.cert_lines.specs.WellFormed.{IsShown, IsVerdict, IsWellFormed}
 use Rattle.cert_lines.specs.acceptance.Accepts.{Accepts}
 use Rattle.cert_lines.specs.acceptance.PlanFaults.{plan_fault}
+use Rattle.cert_lines.proofs.Deleting.{lines-in}
 use Rattle.accept_laws.specs.ShownPlans.{IsWellShown, shown}
 use Rattle.accept_laws.proofs.Accepting.{accepted-right}
 use Rattle.accept_laws.proofs.Showing.{no-plan, well-shown}
@@ -87,16 +88,16 @@ module _ (instance : Instance) (split fuel : ℕ) (rows : List KnownRow) (logs :
   -- ---- the whole
 
   answer : Answer
-  answer = record { plan = choices; verdict = verdict; lines = lines }
+  answer = record { plan = choices; verdict = verdict; version = 1; lines = lines }
 
   fit : IsFit verdict
   fit = fits verdict rule
 
-  is-formed : IsWellFormed instance (record { plan = choices; verdict = verdict; lines = lines })
-  is-formed = record { plan = fit.short; choices = fit.written; verdict = formed; lines = merged.formed }
+  is-formed : IsWellFormed instance (record { plan = choices; verdict = verdict; version = 1; lines = lines })
+  is-formed = record { plan = fit.short; choices = fit.written; verdict = formed; version = inl refl; lines = lines-in 1 instance lines merged.formed }
 
-  is-accepted : Accepts instance (record { plan = choices; verdict = verdict; lines = lines })
-  is-accepted = answer-accepted instance split logs (record { plan = choices; verdict = verdict; lines = lines }) fit.faultless merged
+  is-accepted : Accepts instance (record { plan = choices; verdict = verdict; version = 1; lines = lines })
+  is-accepted = answer-accepted instance split logs (record { plan = choices; verdict = verdict; version = 1; lines = lines }) fit.faultless merged
 
   solved : (v : Verdict) → IsVerdictOf instance split outcomes word root v → IsSolved (split_of instance split) fuel rows logs word root outcomes v
   solved v r = record { valid = valid; shown = word-shown instance logs word valid least; settled = settled; least = least; ruled = r }
@@ -111,11 +112,12 @@ module _ (instance : Instance) (split fuel : ℕ) (rows : List KnownRow) (logs :
   closes e NoneFeasible r = tt
   closes e (Open best lower level prefix) r = enough (split_of instance split) fuel rows logs word root outcomes best lower level prefix (solved (Open best lower level prefix) r) e
 
-  pub answer-for : IsAnswerFor instance split fuel (record { plan = choices; verdict = verdict; lines = lines })
+  pub answer-for : IsAnswerFor instance split fuel (record { plan = choices; verdict = verdict; version = 1; lines = lines })
   answer-for = record {
     formed = is-formed;
+    version = refl;
     accepted = is-accepted;
-    right = accepted-right instance (record { plan = choices; verdict = verdict; lines = lines }) valid is-formed is-accepted;
+    right = accepted-right instance (record { plan = choices; verdict = verdict; version = 1; lines = lines }) valid is-formed is-accepted;
     jobs = says verdict rule;
     few = λ most m. lines-few (split_of instance split) fuel logs ticks (length lines) most counted few branches merged.few m;
     bare = merged.bare;

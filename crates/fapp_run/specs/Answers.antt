@@ -12,6 +12,7 @@ use Rattle.answer_writer.specs.Texts.{written_text}
 use Rattle.fapp_words.specs.declared.options.SolveOptions.{SolveOptions}
 use Rattle.fapp_run.specs.declared.outcome.TheConstants.{MAX_INPUT}
 use Rattle.fapp_run.specs.Solving.{IsAnswerFor}
+use Rattle.fapp_run.specs.Versions.{IsWritten}
 
 -- options in their ranges
 pub record AreOptions (options : SolveOptions) : Type 0 where
@@ -21,6 +22,8 @@ pub record AreOptions (options : SolveOptions) : Type 0 where
   pub some_prefixes : 1 ≤ options.split
   pub few_prefixes : options.split ≤ 4096
   pub rows : options.pool ≤ 65536
+  pub some_version : 1 ≤ options.cert
+  pub few_versions : options.cert ≤ 2
 
 -- the fuel of each job: what is named, else 1,000 and the number of paths
 abbrev pub fuel_of : SolveOptions → Instance → ℕ
@@ -32,12 +35,14 @@ status_of (verdicts.Best t) = Best
 status_of verdicts.NoneFeasible = NoneFeasible
 status_of (verdicts.Open best lower level prefix) = Open
 
--- an answer to an instance, written whole or as its plan alone
+-- an answer to an instance, written whole, in the version that is asked for, or as its plan alone
 pub record IsSolved (instance : Instance) (options : SolveOptions) (status : Status) (text : List ℕ) : Type 0 where
   pub answer : Answer
   pub answers : IsAnswerFor instance options.split (fuel_of options instance) answer
+  pub written : Answer
+  pub writes : IsWritten instance options.cert answer written
   pub status_is : status ≡ status_of answer.verdict
-  pub text_is : text ≡ written_text instance answer options.answer_only
+  pub text_is : text ≡ written_text instance written options.answer_only
 
 -- the answer to an input: that it is longer than the limit, or its first refused line, or that to the instance whose
 -- text it is

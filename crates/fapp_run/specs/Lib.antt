@@ -1,4 +1,5 @@
 pub mod Solving
+pub mod Versions
 pub mod Answers
 pub mod Made
 pub mod Halves

@@ -27,7 +27,7 @@ AreRequested (Demo seed) = AreSeed seed
 
 -- how a made network is solved
 abbrev pub demo_options : SolveOptions
-demo_options = record { workers = 4; fuel = Some 40000; split = 64; pool = 4096; answer_only = false }
+demo_options = record { workers = 4; fuel = Some 40000; split = 64; pool = 4096; cert = 1; answer_only = false }
 
 -- an answer to an instance, of which the verdict is written
 pub record IsDemonstrated (instance : Instance) (status : Status) (text : List ℕ) : Type 0 where

@@ -31,12 +31,13 @@ IsClosed (Best t) = Unit {0}
 IsClosed NoneFeasible = Unit {0}
 IsClosed (Open best lower level prefix) = ⊥
 
--- The answer is accepted by definition, and so it is right: Best comes with a least plan and its cost, NoneFeasible only where
+-- The answer has no Delete line. It is accepted by definition, and so it is right: Best comes with a least plan and its cost, NoneFeasible only where
 -- no plan meets the imperative records. An open verdict names a job that has more tries than its fuel, and says no less than the
 -- jobs give that have tries within theirs. The lines are no more than the bound, and one of the tag (0, 0, 0) cites nothing. With fuel enough for one
 -- level the verdict is not open.
 pub record IsAnswerFor (instance : Instance) (split fuel : ℕ) (answer : Answer) : Type 0 where
   pub formed : IsWellFormed instance answer
+  pub version : answer.version ≡ 1
   pub accepted : Accepts instance answer
   pub right : IsRight instance answer.plan answer.verdict
   pub jobs : SaysOfJobs (split_of instance split) fuel answer.verdict

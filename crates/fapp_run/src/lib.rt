@@ -10,6 +10,7 @@ mod outcome;
 mod plan;
 mod solving;
 mod top;
+mod version;
 
 pub use answer_writer::Status;
 pub use fapp_words::SolveOptions;

@@ -58,6 +58,7 @@ fn demo_options() -> SolveOptions
         fuel: Some(40_000),
         split: 64,
         pool: 4096,
+        cert: 1,
         answer_only: false,
     }
 }

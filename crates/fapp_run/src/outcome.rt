@@ -8,6 +8,7 @@ ghost use Rattle.fapp_workers.specs.Ranges.{AreInRange};
 ghost use Rattle.fapp_run.specs.Answers.{Answers, AreOptions, IsSolved, fuel_of, status_of};
 
 use crate::solving::solve_answer;
+use crate::version::in_version;
 use answer_writer::{Status, answer_text, refusal_text};
 use cert_lines::{Answer, Verdict};
 use fapp_io::NoMemory;
@@ -19,7 +20,7 @@ use std::alloc::Global;
 use std::thread::Threads;
 
 /// The most bytes of an input.
-pub const MAX_INPUT: usize = 67_108_864;
+pub const MAX_INPUT: usize = 134_217_728;
 
 /// How a run is to end, unless its writing fails.
 #[derive(Drop)]
@@ -66,7 +67,8 @@ fn solved<R: Threads + Sync, G: Gate>(
 {
     let settings = settings_for(instance, options);
     let answer = solve_answer(rt, alloc, instance, &settings, gate)?;
-    told(alloc, instance, &answer, options.answer_only)
+    let written = in_version(alloc, instance, answer, options.cert)?;
+    told(alloc, instance, &written, options.answer_only)
 }
 
 /// An answer with its status.

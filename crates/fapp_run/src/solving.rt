@@ -68,6 +68,7 @@ fn answer_of(
     Ok(Answer {
         plan: Items::from_vec(choices),
         verdict,
+        version: 1,
         lines: Items::from_vec(lines),
     })
 }

@@ -29,7 +29,7 @@ const LENIENT: &str =
     "TR 1 1 1\r\nTR\t2 2 1\r\n\r\nCE  1 2 20 20 20 20 20 20 20 20 20 20 20\r\nDM 2 30\nDM 2 10\nDM 2 020\nDM 2 30\nDM 1 10";
 
 // Words, an input, the exit status and what is written. Each plan is the only one that costs the least.
-const ENDS: [(&str, &str, u8, &str); 42] = [
+const ENDS: [(&str, &str, u8, &str); 45] = [
     (WORDS, PLAIN, 0, PLAIN_PLAN),
     (WORDS, CHAIN, 0, "AL 1 10 1\nAL 2 20 1\n"),
     (WORDS, "", 0, ""),
@@ -66,6 +66,14 @@ const ENDS: [(&str, &str, u8, &str); 42] = [
         0,
         "AL 1 10 1\nAL 2 10 -1\n--\nBEST 0 0 0\nC 0 0 0 0 0\nEND\n",
     ),
+    (
+        "solve --cert 2",
+        PLAIN,
+        0,
+        "AL 1 10 1\nAL 2 30 1\n--\nBEST 0 0 0\nV 2\nC 0 0 0 0 0\nEND\n",
+    ),
+    ("solve --cert 2 --answer-only", PLAIN, 0, PLAIN_PLAN),
+    ("solve --cert 3", PLAIN, 64, "USAGE\n"),
     ("demo 7 40", PLAIN, 0, "BEST 5 4 44\n"),
     (
         "solve --split 1 --answer-only --workers=1",
@@ -192,6 +200,7 @@ fn bytes_alone_have_their_answer(rt: HostRuntime) -> Result<(), Fail> {
         fuel: None,
         split: 64,
         pool: 0,
+        cert: 1,
         answer_only: true,
     };
     let outcome = answer(&rt, rt.alloc(), PLAIN.as_bytes(), &options, &OpenGate)?;
@@ -252,8 +261,8 @@ fn any_call_may_fail(rt: HostRuntime) -> Result<(), Fail> {
 #[test]
 fn the_longest_input_is_read(rt: HostRuntime) -> Result<(), Fail> {
     for (length, code, output) in [
-        (MAX_INPUT, 0, NOTHING_TO_PLAN),
-        (MAX_INPUT + 1, 65, "BADINPUT 0 TooLong\n"),
+        (134_217_728, 0, NOTHING_TO_PLAN),
+        (134_217_729, 65, "BADINPUT 0 TooLong\n"),
     ] {
         let feeds = vec![in rt.alloc(); b'\n'; length]?;
         let (status, written) = end_of(&rt, rt.alloc(), "solve", &feeds, 4096, 0, 0)?;

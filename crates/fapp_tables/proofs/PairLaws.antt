@@ -7,6 +7,7 @@ use Rattle.std.proofs.lemmas.List.Elements.{All-filter, Contains-get_or}
 use Rattle.std.proofs.lemmas.List.FromFn.{length-range_with_len}
 use Rattle.fapp_model.specs.declared.choice.Choice.{Choice}
 use Rattle.fapp_model.specs.declared.instance.Instance.{Instance}
+use Rattle.fapp_model.specs.declared.limits.TheConstants.{MAX_RECORDS}
 use Rattle.fapp_model.specs.declared.literal.Literal.{Literal}
 use Rattle.fapp_model.specs.declared.record.Record.{Record}
 use Rattle.fapp_model.specs.search.Clashes.{joins, shares_record}
@@ -91,7 +92,7 @@ pub positions_within : (instance : Instance) (path other : ℕ) → All (λ k. k
 positions_within instance path other =
     All-filter (λ k. touches path other (record_at instance k)) (λ k. k < length instance.records) (range_with_len 0 (length instance.records)) (All-range (λ k. k < length instance.records) (length instance.records) (λ k below. below))
 
-pub few_positions : (instance : Instance) (path other : ℕ) → IsInstance instance → length (records_of instance path other) ≤ 1048576
+pub few_positions : (instance : Instance) (path other : ℕ) → IsInstance instance → length (records_of instance path other) ≤ MAX_RECORDS
 few_positions instance path other valid =
     let kept = length-filter (λ k. touches path other (record_at instance k)) (range_with_len 0 (length instance.records)) in
     let most = count_by-le-length (λ k. touches path other (record_at instance k)) (range_with_len 0 (length instance.records)) in

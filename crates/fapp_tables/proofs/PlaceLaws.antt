@@ -9,6 +9,7 @@ use Rattle.std.proofs.lemmas.List.FromFn.{length-map-range_with_len, get_or-map-
 use Rattle.std.proofs.lemmas.List.Sorted.{Contains-permutation, IsPermutation-sym, IsNonDecreasingBy-from_all_adjacent}
 use Rattle.std.proofs.lemmas.List.Sums.{count_by-le-length}
 use Rattle.fapp_model.specs.declared.instance.Instance.{Instance}
+use Rattle.fapp_model.specs.declared.limits.TheConstants.{MAX_RECORDS}
 use Rattle.fapp_model.specs.Instances.{IsInstance}
 use Rattle.fapp_model.specs.search.WorkOrder.{IsWorkOrder, comes_before, degree, names_path}
 use Rattle.fapp_model.proofs.Members.{All-from_members, in-map, from-map, in-range, from-range}
@@ -31,13 +32,13 @@ places_more instance path n counts x places more is inside at so_far pushed =
 
 -- a place as one number: the less, the earlier
 abbrev rank : Place → ℕ
-rank p = (1048576 - p.degree.0) * 65536 + p.path
+rank p = (MAX_RECORDS - p.degree.0) * 65536 + p.path
 
-rank_at_most : (a b : Place) → a.degree.0 ≤ 1048576 → b.degree.0 ≤ 1048576 → a.path < 65536 → b.path < 65536 → IsNext a b → rank a ≤ rank b
+rank_at_most : (a b : Place) → a.degree.0 ≤ MAX_RECORDS → b.degree.0 ≤ MAX_RECORDS → a.path < 65536 → b.path < 65536 → IsNext a b → rank a ≤ rank b
 rank_at_most a b da db pa pb (inl less) = omega arith
 rank_at_most a b da db pa pb (inr (same, most)) = omega arith
 
-earlier : (da db a b : ℕ) → da ≤ 1048576 → db ≤ 1048576 → a < 65536 → b < 65536 → (1048576 - da) * 65536 + a < (1048576 - db) * 65536 + b → (ltb db da || (eqb da db && ltb a b)) ≡ true
+earlier : (da db a b : ℕ) → da ≤ MAX_RECORDS → db ≤ MAX_RECORDS → a < 65536 → b < 65536 → (MAX_RECORDS - da) * 65536 + a < (MAX_RECORDS - db) * 65536 + b → (ltb db da || (eqb da db && ltb a b)) ≡ true
 earlier da db a b la lb pa pb less = elim (cases_order da db) [
   | inl same ↦
       let above : ltb a b ≡ true = lt-ltb a b (omega (arith, less, same)) in
@@ -59,7 +60,7 @@ module _ (instance : Instance) (valid : IsInstance instance) (places sorted : Li
       let found = from-map (place_of instance) (range_with_len 0 (length instance.paths)) p (subst (λ xs. Contains xs p) is (Contains-permutation sorted places p (IsPermutation-sym places sorted moved) m)) in
       subst IsPlace found.2 (record { inside = from-range (length instance.paths) found.0 found.1; known = refl })
 
-  few : (p : Place) → IsPlace p → p.degree.0 ≤ 1048576
+  few : (p : Place) → IsPlace p → p.degree.0 ≤ MAX_RECORDS
   few p h = omega (arith, ap (λ (q : Place). q.degree.0) h.known, count_by-le-length (names_path p.path) instance.records, valid.few_records)
 
   low : (p : Place) → IsPlace p → p.path < 65536

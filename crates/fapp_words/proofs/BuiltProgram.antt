@@ -26,7 +26,7 @@ flag_rule = record (new_rule (codes "answer-only")) {
 }
 
 abbrev pub rules : List Rule
-rules = option_rule (codes "workers") ∷ option_rule (codes "fuel") ∷ option_rule (codes "split") ∷ option_rule (codes "pool") ∷ flag_rule ∷ []
+rules = option_rule (codes "workers") ∷ option_rule (codes "fuel") ∷ option_rule (codes "split") ∷ option_rule (codes "pool") ∷ option_rule (codes "cert") ∷ flag_rule ∷ []
 
 abbrev pub leaf : Text → List Rule → Shape
 leaf name rules = record (new_shape name) {

@@ -10,7 +10,7 @@ use Rattle.std.proofs.lemmas.List.Elements.{All-nil, All-cons, All-head, All-tai
 use Rattle.std.proofs.lemmas.Slice.Eq.{bytes_eq-Decides}
 use Rattle.clap.proofs.WalkLemmas.{both}
 use Rattle.clap.specs.Words.{Text}
-use Rattle.fapp_words.specs.Solving.{Name, text_of, workers, fuel, split, pool, Piece, apart, joined, bare, words_of, HasNumeral, is_short_numeral, is_name, is_joined, is_bare, split_equals, are_pieces}
+use Rattle.fapp_words.specs.Solving.{Name, text_of, workers, fuel, split, pool, cert, Piece, apart, joined, bare, words_of, HasNumeral, is_short_numeral, is_name, is_joined, is_bare, split_equals, are_pieces}
 
 -- the words that are some pieces
 abbrev pub ArePieces : List Text → Type 0
@@ -30,12 +30,14 @@ split_here workers v = ap (cut_if (joined_word workers v)) (lt-ltb 9 (length (jo
 split_here fuel v = ap (cut_if (joined_word fuel v)) (lt-ltb 6 (length (joined_word fuel v)) (omega arith))
 split_here split v = ap (cut_if (joined_word split v)) (lt-ltb 7 (length (joined_word split v)) (omega arith))
 split_here pool v = ap (cut_if (joined_word pool v)) (lt-ltb 6 (length (joined_word pool v)) (omega arith))
+split_here cert v = ap (cut_if (joined_word cert v)) (lt-ltb 6 (length (joined_word cert v)) (omega arith))
 
 name_passes : (name : Name) → is_name (codes "--" ++ text_of name) ≡ true
 name_passes workers = refl
 name_passes fuel = refl
 name_passes split = refl
 name_passes pool = refl
+name_passes cert = refl
 
 joined_passes : (name : Name) (v : Text) → is_short_numeral v ≡ true → is_joined (codes "--" ++ (text_of name ++ (codes "=" ++ v))) ≡ true
 unfolding joined_word
@@ -47,10 +49,12 @@ pieces_pass (apart workers v ∷ ps) h = rw (All-head HasNumeral (apart workers 
 pieces_pass (apart fuel v ∷ ps) h = rw (All-head HasNumeral (apart fuel v) ps h) (pieces_pass ps (All-tail HasNumeral (apart fuel v) ps h))
 pieces_pass (apart split v ∷ ps) h = rw (All-head HasNumeral (apart split v) ps h) (pieces_pass ps (All-tail HasNumeral (apart split v) ps h))
 pieces_pass (apart pool v ∷ ps) h = rw (All-head HasNumeral (apart pool v) ps h) (pieces_pass ps (All-tail HasNumeral (apart pool v) ps h))
+pieces_pass (apart cert v ∷ ps) h = rw (All-head HasNumeral (apart cert v) ps h) (pieces_pass ps (All-tail HasNumeral (apart cert v) ps h))
 pieces_pass (joined workers v ∷ ps) h = rw (joined_passes workers v (All-head HasNumeral (joined workers v) ps h)) (pieces_pass ps (All-tail HasNumeral (joined workers v) ps h))
 pieces_pass (joined fuel v ∷ ps) h = rw (joined_passes fuel v (All-head HasNumeral (joined fuel v) ps h)) (pieces_pass ps (All-tail HasNumeral (joined fuel v) ps h))
 pieces_pass (joined split v ∷ ps) h = rw (joined_passes split v (All-head HasNumeral (joined split v) ps h)) (pieces_pass ps (All-tail HasNumeral (joined split v) ps h))
 pieces_pass (joined pool v ∷ ps) h = rw (joined_passes pool v (All-head HasNumeral (joined pool v) ps h)) (pieces_pass ps (All-tail HasNumeral (joined pool v) ps h))
+pieces_pass (joined cert v ∷ ps) h = rw (joined_passes cert v (All-head HasNumeral (joined cert v) ps h)) (pieces_pass ps (All-tail HasNumeral (joined cert v) ps h))
 pieces_pass (bare ∷ ps) h = pieces_pass ps (All-tail HasNumeral bare ps h)
 
 -- ---- words in their forms are pieces
@@ -71,7 +75,10 @@ name_of word e = elim (either _ _ e) [
       | inl c ↦ (split, bytes_same word (codes "--split") c)
       | inr rest'' ↦ elim (either _ _ rest'') [
         | inl d ↦ (pool, bytes_same word (codes "--pool") d)
-        | inr none ↦ absurd (false≢true none)
+        | inr rest''' ↦ elim (either _ _ rest''') [
+          | inl e ↦ (cert, bytes_same word (codes "--cert") e)
+          | inr none ↦ absurd (false≢true none)
+        ]
       ]
     ]
   ]

@@ -11,7 +11,7 @@ use Rattle.clap.specs.Walk.{finished, nothing_held, with_default}
 use Rattle.fapp_text.specs.Numbers.{is_digit, is_numeral}
 use Rattle.fapp_words.specs.declared.options.SolveOptions.{SolveOptions}
 use Rattle.fapp_words.specs.Commands.{program}
-use Rattle.fapp_words.specs.Solving.{Name, text_of, workers, fuel, split, pool, Piece, apart, joined, bare, words_of, HasNumeral, AreNew, is_short_numeral, are_pieces, given, names}
+use Rattle.fapp_words.specs.Solving.{Name, text_of, workers, fuel, split, pool, cert, Piece, apart, joined, bare, words_of, HasNumeral, AreNew, is_short_numeral, are_pieces, given, names}
 use Rattle.fapp_words.specs.Options.{IsPromised, ReadsSolve, options_in, options_of}
 use Rattle.fapp_words.proofs.BuiltProgram.{rules}
 use Rattle.fapp_words.proofs.SolveWalk.{IsPlain, IsPlainPiece, after}
@@ -69,35 +69,35 @@ module _ (ps : List Piece) (numerals : All HasNumeral ps) (new : AreNew [] ps) w
   flag_is false only text is is_true is_false = is_false is
 
   -- so the options are theirs
-  settings_are : (rows : List Row) (w f s p : Option Text) (only : Bool) →
+  settings_are : (rows : List Row) (w f s p v : Option Text) (only : Bool) →
       Some rows ≡ option_map (λ p. p.1) (subcommand_of program (codes "solve" ∷ flat_map words_of ps)) →
-      w ≡ first_of (codes "workers") rows → f ≡ first_of (codes "fuel") rows → s ≡ first_of (codes "split") rows → p ≡ first_of (codes "pool") rows →
+      w ≡ first_of (codes "workers") rows → f ≡ first_of (codes "fuel") rows → s ≡ first_of (codes "split") rows → p ≡ first_of (codes "pool") rows → v ≡ first_of (codes "cert") rows →
       (one_of (codes "answer-only") rows ≡ Some (codes "true") → only ≡ true) → (one_of (codes "answer-only") rows ≡ Some (codes "false") → only ≡ false) →
-      options_in w f s p only ≡ options_of ps
-  settings_are rows w f s p only found w_is f_is s_is p_is is_true is_false =
+      options_in w f s p v only ≡ options_of ps
+  settings_are rows w f s p v only found w_is f_is s_is p_is v_is is_true is_false =
       let are = rows_are rows found in
       let value : (name : Name) → first_of (text_of name) rows ≡ given (text_of name) ps = λ name. ap (first_of (text_of name)) are ∙ value_found name ps in
       let flag = flag_is (names (codes "answer-only") ps) only (one_of (codes "answer-only") rows) (ap (one_of (codes "answer-only")) are ∙ flag_found ps) is_true is_false in
-      rw (w_is ∙ value workers, f_is ∙ value fuel, s_is ∙ value split, p_is ∙ value pool, flag) refl
+      rw (w_is ∙ value workers, f_is ∙ value fuel, s_is ∙ value split, p_is ∙ value pool, v_is ∙ value cert, flag) refl
 
 -- the options that were read are those that the words promise
-pub options_read : (words options : List Text) (rows : List Row) (w f s p : Option Text) (only : Bool) → words ≡ codes "solve" ∷ options → are_pieces false options ≡ true → fault_of program words ≡ [] →
+pub options_read : (words options : List Text) (rows : List Row) (w f s p v : Option Text) (only : Bool) → words ≡ codes "solve" ∷ options → are_pieces false options ≡ true → fault_of program words ≡ [] →
     Some rows ≡ option_map (λ p. p.1) (subcommand_of program words) →
-    w ≡ first_of (codes "workers") rows → f ≡ first_of (codes "fuel") rows → s ≡ first_of (codes "split") rows → p ≡ first_of (codes "pool") rows →
+    w ≡ first_of (codes "workers") rows → f ≡ first_of (codes "fuel") rows → s ≡ first_of (codes "split") rows → p ≡ first_of (codes "pool") rows → v ≡ first_of (codes "cert") rows →
     (one_of (codes "answer-only") rows ≡ Some (codes "true") → only ≡ true) → (one_of (codes "answer-only") rows ≡ Some (codes "false") → only ≡ false) →
-    ReadsSolve words (options_in w f s p only)
-options_read words options rows w f s p only words_are form none found w_is f_is s_is p_is is_true is_false =
+    ReadsSolve words (options_in w f s p v only)
+options_read words options rows w f s p v only words_are form none found w_is f_is s_is p_is v_is is_true is_false =
     let pieces = pieces_of options form in
     let ps = pieces.0 in
     let spelled : words ≡ codes "solve" ∷ flat_map words_of ps = words_are ∙ ap (λ xs. codes "solve" ∷ xs) pieces.1 in
     let new = is_new ps (plain_pieces ps pieces.2) (ap (fault_of program) (sym spelled) ∙ none) in
-    let theirs : (qs : List Piece) → All HasNumeral qs → AreNew [] qs → words ≡ codes "solve" ∷ flat_map words_of qs → options_in w f s p only ≡ options_of qs =
-    λ qs numerals once are. settings_are qs numerals once rows w f s p only (found ∙ ap (λ xs. option_map (λ p. p.1) (subcommand_of program xs)) are) w_is f_is s_is p_is is_true is_false in
-    go ps spelled pieces.2 new theirs (options_in w f s p only) (sym (theirs ps pieces.2 new spelled)) refl
+    let theirs : (qs : List Piece) → All HasNumeral qs → AreNew [] qs → words ≡ codes "solve" ∷ flat_map words_of qs → options_in w f s p v only ≡ options_of qs =
+    λ qs numerals once are. settings_are qs numerals once rows w f s p v only (found ∙ ap (λ xs. option_map (λ p. p.1) (subcommand_of program xs)) are) w_is f_is s_is p_is v_is is_true is_false in
+    go ps spelled pieces.2 new theirs (options_in w f s p v only) (sym (theirs ps pieces.2 new spelled)) refl
   where
     go : (ps : List Piece) → words ≡ codes "solve" ∷ flat_map words_of ps → All HasNumeral ps → AreNew [] ps →
-        ((qs : List Piece) → All HasNumeral qs → AreNew [] qs → words ≡ codes "solve" ∷ flat_map words_of qs → options_in w f s p only ≡ options_of qs) →
-        (o : Option SolveOptions) → options_of ps ≡ o → options_in w f s p only ≡ o → ReadsSolve words o
+        ((qs : List Piece) → All HasNumeral qs → AreNew [] qs → words ≡ codes "solve" ∷ flat_map words_of qs → options_in w f s p v only ≡ options_of qs) →
+        (o : Option SolveOptions) → options_of ps ≡ o → options_in w f s p v only ≡ o → ReadsSolve words o
     go ps spelled numerals new theirs (Some options) are is = record { pieces = ps; spelled = spelled; numerals = numerals; once = new; values = are }
     go ps spelled numerals new theirs None are is = λ options promised. none_some (sym is ∙ (theirs promised.pieces promised.numerals promised.once promised.spelled ∙ promised.values))
 

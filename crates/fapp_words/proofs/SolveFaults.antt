@@ -9,7 +9,7 @@ use Rattle.clap.specs.Kinds.{or_else}
 use Rattle.clap.specs.Walk.{Held, has_row, walk_from}
 use Rattle.clap.specs.Faults.{settle_fault, turn_fault, use_fault, walk_fault}
 use Rattle.clap.specs.declared.error.kind.ErrorKind.TheVariants.{ArgumentConflict}
-use Rattle.fapp_words.specs.Solving.{Name, text_of, workers, fuel, split, pool, Piece, apart, joined, bare, words_of, key_of, names, AreNew}
+use Rattle.fapp_words.specs.Solving.{Name, text_of, workers, fuel, split, pool, cert, Piece, apart, joined, bare, words_of, key_of, names, AreNew}
 use Rattle.fapp_words.proofs.BuiltProgram.{option_rule, flag_rule, rules, leaf}
 use Rattle.fapp_words.proofs.SolveWalk.{IsPlain, IsPlainPiece, after, waits, name_walked, value_walked, joined_walked, bare_walked}
 use Rattle.fapp_words.proofs.SolveRows.{all_rows, row_of, after-rows, has_row-names}
@@ -65,6 +65,7 @@ settles_apart workers v h = refl
 settles_apart fuel v h = refl
 settles_apart split v h = refl
 settles_apart pool v h = refl
+settles_apart cert v h = refl
 
 -- what the words of a piece come to, and what is found at the next one
 abbrev now_fault : Piece → Held → Kinds
@@ -77,18 +78,21 @@ name_fault workers h = or_else-last (settles h)
 name_fault fuel h = or_else-last (settles h)
 name_fault split h = or_else-last (settles h)
 name_fault pool h = or_else-last (settles h)
+name_fault cert h = or_else-last (settles h)
 
 value_fault : (name : Name) (v : Text) (h : Held) → IsPlain v → turn_fault solve [] (waits (text_of name) h) v ≡ []
 value_fault workers v h plain = rw (plain.dashes, plain.long, plain.short) refl
 value_fault fuel v h plain = rw (plain.dashes, plain.long, plain.short) refl
 value_fault split v h plain = rw (plain.dashes, plain.long, plain.short) refl
 value_fault pool v h plain = rw (plain.dashes, plain.long, plain.short) refl
+value_fault cert v h plain = rw (plain.dashes, plain.long, plain.short) refl
 
 joined_fault : (name : Name) (v : Text) (h : Held) → turn_fault solve [] (walk_from h) (codes "--" ++ (text_of name ++ (codes "=" ++ v))) ≡ now_fault (joined name v) h
 joined_fault workers v h = or_else-last (now_fault (joined workers v) h)
 joined_fault fuel v h = or_else-last (now_fault (joined fuel v) h)
 joined_fault split v h = or_else-last (now_fault (joined split v) h)
 joined_fault pool v h = or_else-last (now_fault (joined pool v) h)
+joined_fault cert v h = or_else-last (now_fault (joined cert v) h)
 
 bare_fault : (h : Held) → turn_fault solve [] (walk_from h) (codes "--answer-only") ≡ now_fault bare h
 bare_fault h = or_else-last (now_fault bare h)

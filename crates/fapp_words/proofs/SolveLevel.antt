@@ -73,7 +73,7 @@ defaults_none : (rows : List Row) → defaults_fault rows rules ≡ []
 defaults_none rows = one_default (codes "workers") (drop 1 rules) rows (one_fuel one_split)
   where
     one_split : (now : List Row) → defaults_fault now (drop 2 rules) ≡ []
-    one_split now = one_default (codes "split") (drop 3 rules) now (λ more. one_default (codes "pool") (drop 4 rules) more last_default)
+    one_split now = one_default (codes "split") (drop 3 rules) now (λ more. one_default (codes "pool") (drop 4 rules) more (λ rest. one_default (codes "cert") (drop 5 rules) rest last_default))
 
     one_fuel : ((now : List Row) → defaults_fault now (drop 2 rules) ≡ []) → (now : List Row) → defaults_fault now (drop 1 rules) ≡ []
     one_fuel more now = one_default (codes "fuel") (drop 2 rules) now more

@@ -9,7 +9,7 @@ use Rattle.clap.specs.declared.parser.matches.ValueSource.{ValueSource}
 use Rattle.clap.specs.declared.parser.matches.ValueSource.TheVariants.{CommandLine}
 use Rattle.clap.specs.declared.builder.value_parser.ValueParser.TheVariants as vp
 use Rattle.clap.specs.Words.{reading_of}
-use Rattle.fapp_words.specs.Solving.{text_of, workers, fuel, split, pool, Piece, apart, joined, bare, key_of, value_of, names}
+use Rattle.fapp_words.specs.Solving.{text_of, workers, fuel, split, pool, cert, Piece, apart, joined, bare, key_of, value_of, names}
 use Rattle.fapp_words.proofs.BuiltProgram.{rules}
 use Rattle.fapp_words.proofs.SolveWalk.{after}
 
@@ -53,6 +53,7 @@ after-rows (apart workers v) h new = with_values-missing (codes "workers") (read
 after-rows (apart fuel v) h new = with_values-missing (codes "fuel") (reading_of vp.String) CommandLine (v ∷ []) (all_rows h) new
 after-rows (apart split v) h new = with_values-missing (codes "split") (reading_of vp.String) CommandLine (v ∷ []) (all_rows h) new
 after-rows (apart pool v) h new = with_values-missing (codes "pool") (reading_of vp.String) CommandLine (v ∷ []) (all_rows h) new
+after-rows (apart cert v) h new = with_values-missing (codes "cert") (reading_of vp.String) CommandLine (v ∷ []) (all_rows h) new
 after-rows (joined name v) h new = with_values-missing (text_of name) (reading_of vp.String) CommandLine (v ∷ []) (all_rows h) new
 after-rows bare h new = with_values-missing (codes "answer-only") (reading_of vp.Bool) CommandLine (codes "true" ∷ []) (all_rows h) new
 

@@ -9,7 +9,7 @@ use Rattle.clap.specs.Walk.{has_row, more_values, with_default}
 use Rattle.clap.specs.declared.parser.matches.ValueSource.TheVariants.{DefaultValue}
 use Rattle.std.proofs.lemmas.Bool.{false≢true}
 use Rattle.clap.proofs.WalkLemmas.{find-map}
-use Rattle.fapp_words.specs.Solving.{Name, text_of, workers, fuel, split, pool, Piece, apart, joined, bare, key_of, value_of, names, given}
+use Rattle.fapp_words.specs.Solving.{Name, text_of, workers, fuel, split, pool, cert, Piece, apart, joined, bare, key_of, value_of, names, given}
 use Rattle.fapp_words.proofs.BuiltProgram.{option_rule, flag_rule, rules}
 use Rattle.fapp_words.proofs.SolveRows.{row_of, has_row-names, at_row-missing, or_false}
 
@@ -22,7 +22,7 @@ same_default id rows = go (has_row id rows) refl
 
 finished_is : (rows : List Row) → fold with_default rows rules ≡ with_default rows flag_rule
 finished_is rows = ap (λ r. with_default r flag_rule)
-    (same_default (codes "pool") _ ∙ (same_default (codes "split") _ ∙ (same_default (codes "fuel") _ ∙ same_default (codes "workers") rows)))
+    (same_default (codes "cert") _ ∙ (same_default (codes "pool") _ ∙ (same_default (codes "split") _ ∙ (same_default (codes "fuel") _ ∙ same_default (codes "workers") rows))))
 
 false_row : Row
 false_row = (get_row (with_default [] flag_rule))
@@ -60,6 +60,7 @@ not_flag workers = refl
 not_flag fuel = refl
 not_flag split = refl
 not_flag pool = refl
+not_flag cert = refl
 
 -- the value of an option, with the default of the flag behind
 pub value_found : (name : Name) (ps : List Piece) → first_of (text_of name) (fold with_default (map row_of ps) rules) ≡ given (text_of name) ps
@@ -84,10 +85,12 @@ flag_given (apart workers v ∷ ps) h = flag_given ps h
 flag_given (apart fuel v ∷ ps) h = flag_given ps h
 flag_given (apart split v ∷ ps) h = flag_given ps h
 flag_given (apart pool v ∷ ps) h = flag_given ps h
+flag_given (apart cert v ∷ ps) h = flag_given ps h
 flag_given (joined workers v ∷ ps) h = flag_given ps h
 flag_given (joined fuel v ∷ ps) h = flag_given ps h
 flag_given (joined split v ∷ ps) h = flag_given ps h
 flag_given (joined pool v ∷ ps) h = flag_given ps h
+flag_given (joined cert v ∷ ps) h = flag_given ps h
 flag_given (bare ∷ ps) h = refl
 
 flag_missing : (rows : List Row) → has_row (codes "answer-only") rows ≡ false → one_of (codes "answer-only") (rows ++ false_row ∷ []) ≡ Some (codes "false")

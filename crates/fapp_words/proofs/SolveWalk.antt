@@ -8,7 +8,7 @@ use Rattle.std.specs.Str.{bytes_eq}
 use Rattle.clap.specs.Lexer.{long_of, short_of}
 use Rattle.clap.specs.Words.{Text}
 use Rattle.clap.specs.Walk.{Held, Walk, option, plain_word, reacted, settled, walk_from, walked, word_met}
-use Rattle.fapp_words.specs.Solving.{Name, text_of, workers, fuel, split, pool, Piece, apart, joined, bare, words_of}
+use Rattle.fapp_words.specs.Solving.{Name, text_of, workers, fuel, split, pool, cert, Piece, apart, joined, bare, words_of}
 use Rattle.fapp_words.proofs.BuiltProgram.{option_rule, flag_rule, rules}
 
 -- a word that is no flag
@@ -41,6 +41,7 @@ name_walked workers h = refl
 name_walked fuel h = refl
 name_walked split h = refl
 name_walked pool h = refl
+name_walked cert h = refl
 
 -- its value
 pub value_walked : (name : Name) (v : Text) (h : Held) → IsPlain v → walked rules [] (waits (text_of name) h) v ≡ walk_from (after h (apart name v))
@@ -49,6 +50,7 @@ value_walked workers v h plain = rw (plain.dashes, plain.long, plain.short) refl
 value_walked fuel v h plain = rw (plain.dashes, plain.long, plain.short) refl
 value_walked split v h plain = rw (plain.dashes, plain.long, plain.short) refl
 value_walked pool v h plain = rw (plain.dashes, plain.long, plain.short) refl
+value_walked cert v h plain = rw (plain.dashes, plain.long, plain.short) refl
 
 pub joined_walked : (name : Name) (v : Text) (h : Held) → walked rules [] (walk_from h) (codes "--" ++ (text_of name ++ (codes "=" ++ v))) ≡ walk_from (after h (joined name v))
 unfolding walked
@@ -56,6 +58,7 @@ joined_walked workers v h = refl
 joined_walked fuel v h = refl
 joined_walked split v h = refl
 joined_walked pool v h = refl
+joined_walked cert v h = refl
 
 pub bare_walked : (h : Held) → walked rules [] (walk_from h) (codes "--answer-only") ≡ walk_from (after h bare)
 unfolding walked

@@ -19,7 +19,7 @@ abbrev pub with_rules : Text → List Rule → Shape
 with_rules name rules = record (new_shape name) { rules = rules }
 
 abbrev pub solve_shape : Shape
-solve_shape = with_rules (codes "solve") (option_rule (codes "workers") ∷ option_rule (codes "fuel") ∷ option_rule (codes "split") ∷ option_rule (codes "pool") ∷ flag_rule (codes "answer-only") ∷ [])
+solve_shape = with_rules (codes "solve") (option_rule (codes "workers") ∷ option_rule (codes "fuel") ∷ option_rule (codes "split") ∷ option_rule (codes "pool") ∷ option_rule (codes "cert") ∷ flag_rule (codes "answer-only") ∷ [])
 
 abbrev pub check_shape : Shape
 check_shape = new_shape (codes "check")

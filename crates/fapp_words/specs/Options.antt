@@ -6,7 +6,7 @@ use Rattle.fapp_text.specs.Numbers.{number_of}
 use Rattle.fapp_text.specs.declared.numeral.NumFault.{NumFault}
 use Rattle.fapp_words.specs.declared.options.SolveOptions.{SolveOptions}
 use Rattle.fapp_words.specs.declared.request.Seed.{Seed}
-use Rattle.fapp_words.specs.Solving.{Piece, words_of, HasNumeral, AreNew, given, names, text_of, workers, fuel, split, pool}
+use Rattle.fapp_words.specs.Solving.{Piece, words_of, HasNumeral, AreNew, given, names, text_of, workers, fuel, split, pool, cert}
 
 abbrev pub within : ℕ → ℕ → Result ℕ NumFault → Option (Option ℕ)
 within low high (Ok n) = if nat_le low n && nat_le n high then Some (Some n) else None
@@ -18,11 +18,11 @@ ranged low high None = Some None
 ranged low high (Some text) = within low high (number_of text)
 
 -- the options for the values of the options, where each number is in its range
-abbrev pub options_in : Option Text → Option Text → Option Text → Option Text → Bool → Option SolveOptions
-options_in w f s p only =
-    option_and_then (λ w'. option_and_then (λ f'. option_and_then (λ s'. option_and_then (λ p'.
-    Some (record { workers = unwrap_or w' 4; fuel = f'; split = unwrap_or s' 64; pool = unwrap_or p' 4096; answer_only = only }))
-    (ranged 0 65536 p)) (ranged 1 4096 s)) (ranged 0 1000000 f)) (ranged 1 32 w)
+abbrev pub options_in : Option Text → Option Text → Option Text → Option Text → Option Text → Bool → Option SolveOptions
+options_in w f s p c only =
+    option_and_then (λ w'. option_and_then (λ f'. option_and_then (λ s'. option_and_then (λ p'. option_and_then (λ c'.
+    Some (record { workers = unwrap_or w' 4; fuel = f'; split = unwrap_or s' 64; pool = unwrap_or p' 4096; cert = unwrap_or c' 1; answer_only = only }))
+    (ranged 1 2 c)) (ranged 0 65536 p)) (ranged 1 4096 s)) (ranged 0 1000000 f)) (ranged 1 32 w)
 
 -- a seed for two values, where each is written and in its range
 abbrev pub seed_in : Option Text → Option Text → Option Seed
@@ -31,7 +31,7 @@ seed_in n p =
     (ranged 2 2000 p)) n') (ranged 0 1000000000 n)
 
 abbrev pub options_of : List Piece → Option SolveOptions
-options_of ps = options_in (given (text_of workers) ps) (given (text_of fuel) ps) (given (text_of split) ps) (given (text_of pool) ps) (names (codes "answer-only") ps)
+options_of ps = options_in (given (text_of workers) ps) (given (text_of fuel) ps) (given (text_of split) ps) (given (text_of pool) ps) (given (text_of cert) ps) (names (codes "answer-only") ps)
 
 -- the words are options of `solve`, each at most once and each number in its range, and these are the options
 pub record IsPromised (words : List Text) (options : SolveOptions) : Type 0 where

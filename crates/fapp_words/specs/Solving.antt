@@ -13,12 +13,14 @@ pub data Name : Type 0 where
   fuel : Name
   split : Name
   pool : Name
+  cert : Name
 
 abbrev pub text_of : Name → Text
 text_of workers = codes "workers"
 text_of fuel = codes "fuel"
 text_of split = codes "split"
 text_of pool = codes "pool"
+text_of cert = codes "cert"
 
 -- one option as it is written: `--name VALUE`, `--name=VALUE`, or `--answer-only`
 pub data Piece : Type 0 where
@@ -67,7 +69,7 @@ given name ps = option_map value_of (find (λ p. bytes_eq (key_of p) name) ps)
 -- ---- the forms of words, one after another
 
 abbrev pub is_name : Text → Bool
-is_name word = list_any (λ name. bytes_eq word (codes "--" ++ text_of name)) (workers ∷ fuel ∷ split ∷ pool ∷ [])
+is_name word = list_any (λ name. bytes_eq word (codes "--" ++ text_of name)) (workers ∷ fuel ∷ split ∷ pool ∷ cert ∷ [])
 
 -- what stands before and after the first `=` (61)
 abbrev pub split_equals : Text → Option (Text × Text)

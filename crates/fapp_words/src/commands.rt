@@ -41,6 +41,7 @@ fn solve<'a>(alloc: Global) -> Result<Command<'a>, AllocError>
         .arg(option(alloc, "fuel"))?
         .arg(option(alloc, "split"))?
         .arg(option(alloc, "pool"))?
+        .arg(option(alloc, "cert"))?
         .arg(flag(alloc, "answer-only"))
 }
 

@@ -43,7 +43,11 @@ fn all_digits(bytes: &[u8]) -> bool
 fn is_name(word: &str) -> bool
     ensures { result ≡ is_name word.now }
 {
-    word == "--workers" || word == "--fuel" || word == "--split" || word == "--pool"
+    word == "--workers"
+        || word == "--fuel"
+        || word == "--split"
+        || word == "--pool"
+        || word == "--cert"
 }
 
 fn is_bare(word: &str) -> bool

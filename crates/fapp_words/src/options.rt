@@ -17,6 +17,8 @@ pub struct SolveOptions {
     pub split: u32,
     /// The rows of the pool of nogoods, 0 to 65,536.
     pub pool: u32,
+    /// The version of the certificate's text, 1 or 2.
+    pub cert: u32,
     /// Whether the plan is written alone.
     pub answer_only: bool,
 }
@@ -27,20 +29,23 @@ pub(crate) fn options_in(
     fuel: Option<&str>,
     split: Option<&str>,
     pool: Option<&str>,
+    cert: Option<&str>,
     answer_only: bool,
 ) -> Option<SolveOptions>
     ensures { result ≡ options_in (option_map (λ s. s.now) workers.entry) (option_map (λ s. s.now) fuel.entry)
-        (option_map (λ s. s.now) split.entry) (option_map (λ s. s.now) pool.entry) answer_only }
+        (option_map (λ s. s.now) split.entry) (option_map (λ s. s.now) pool.entry) (option_map (λ s. s.now) cert.entry) answer_only }
 {
     let workers = ranged(1, 32, workers)?;
     let fuel = ranged(0, 1_000_000, fuel)?;
     let split = ranged(1, 4096, split)?;
     let pool = ranged(0, 65_536, pool)?;
+    let cert = ranged(1, 2, cert)?;
     Some(SolveOptions {
         workers: workers.unwrap_or(4),
         fuel,
         split: split.unwrap_or(64),
         pool: pool.unwrap_or(4096),
+        cert: cert.unwrap_or(1),
         answer_only,
     })
 }

@@ -17,7 +17,7 @@ use clap::error::ErrorKind;
 use std::alloc::Global;
 
 /// What the words after the program's name ask for. `None` comes exactly where they are none of the promised ones:
-/// `solve` with `--workers`, `--fuel`, `--split`, `--pool` and `--answer-only`, each at most once and in any order,
+/// `solve` with `--workers`, `--fuel`, `--split`, `--pool`, `--cert` and `--answer-only`, each at most once and in any order,
 /// `check`, `gen` and `demo` with a number and a number of paths; a number has 1 to 10 digits and is in its range.
 /// `NoMemory` comes where the words' copies could not be had.
 pub fn read_words(alloc: Global, words: &[String]) -> Result<Option<Request>, NoMemory>
@@ -112,6 +112,7 @@ fn solve_options(matches: &ArgMatches, words: &[String]) -> Option<SolveOptions>
             found.get_str("fuel"),
             found.get_str("split"),
             found.get_str("pool"),
+            found.get_str("cert"),
             found.get_flag("answer-only"),
         ),
         None => None,

@@ -1,7 +1,7 @@
 -- What has no fault, from its parts.
-use Rattle.std.proofs.Common.{◌≡◌, ℕ, ◌<◌, ◌≤◌, Bool, true, false, ◌&&◌, List, [], ◌∷◌, length, refl, Option, None, Contains, ltb, leb, eqb}
+use Rattle.std.proofs.Common.{◌≡◌, ℕ, ◌<◌, ◌≤◌, Bool, true, false, ◌&&◌, not, List, [], ◌∷◌, length, refl, Option, None, All, Contains, ltb, leb, eqb}
 use Rattle.std.specs.List.{list_all}
-use Rattle.std.proofs.lemmas.Bool.{and_from, eq-eqb, lt-ltb, le-leb}
+use Rattle.std.proofs.lemmas.Bool.{and_from, not_from_false, eq-eqb, lt-ltb, le-leb}
 use Rattle.std.proofs.lemmas.List.Elements.{All-contains}
 use Rattle.fapp_model.specs.declared.literal.Literal.{Literal}
 use Rattle.fapp_model.specs.declared.tag.Tag.{Tag}
@@ -10,8 +10,10 @@ use Rattle.fapp_model.proofs.Anys.{any-member}
 use Rattle.fapp_model.proofs.Members.{All-from_members, at_front, behind}
 use Rattle.cert_lines.specs.declared.answer.Line.{Line}
 use Rattle.cert_lines.specs.declared.reject.RejectCause.{RejectCause}
-use Rattle.cert_lines.specs.declared.reject.RejectCause.TheVariants.{CiteNotEarlier, CiteNotContained, CiteTagTooLow}
+use Rattle.cert_lines.specs.declared.reject.RejectCause.TheVariants.{CiteDeleted, CiteNotEarlier, CiteNotContained, CiteTagTooLow}
 use Rattle.cert_lines.specs.acceptance.Contained.{is_same, has, has_all}
+use Rattle.cert_lines.specs.acceptance.Deleted.{is_deleted}
+use Rattle.cert_lines.proofs.Deleting.{IsPlain, none-deleted}
 use Rattle.cert_lines.specs.acceptance.Excluded.{line_at}
 use Rattle.cert_lines.specs.acceptance.LineFaults.{first_of, cause_unless, cite_fault}
 use Rattle.accept_laws.proofs.Options.{both-none, none-first_of}
@@ -36,8 +38,9 @@ has-from literals a m = any-member (λ b. is_same b a) literals a m (same-self a
 pub has_all-from : (literals cited : List Literal) → HasAll literals cited → has_all literals cited ≡ true
 has_all-from literals cited h = all-from (has literals) cited (λ a m. has-from literals a (All-contains (Contains literals) cited a h m))
 
-pub clean-cite : (out : List Line) (t : Tag) (contains : List Literal → Bool) (n : ℕ) → 0 < n → n ≤ length out → contains (line_at out n).lits ≡ true → t.code ≤ (line_at out n).tag.code → cite_fault out t contains n ≡ None
-clean-cite out t contains n low high inside reaches =
+pub clean-cite : (out : List Line) → All IsPlain out → (t : Tag) (contains : List Literal → Bool) (n : ℕ) → 0 < n → n ≤ length out → contains (line_at out n).lits ≡ true → t.code ≤ (line_at out n).tag.code → cite_fault out t contains n ≡ None
+clean-cite out plain t contains n low high inside reaches =
     both-none (cause_unless (ltb 0 n && leb n (length out)) CiteNotEarlier) _ (passes-none _ CiteNotEarlier (and_from (ltb 0 n) (leb n (length out)) (lt-ltb 0 n low) (le-leb n (length out) high)))
+    (both-none (cause_unless (not (is_deleted out n)) CiteDeleted) _ (passes-none _ CiteDeleted (not_from_false (is_deleted out n) (none-deleted out n plain)))
     (both-none (cause_unless (contains (line_at out n).lits) CiteNotContained) _ (passes-none _ CiteNotContained inside)
-    (passes-none _ CiteTagTooLow (le-leb t.code (line_at out n).tag.code reaches)))
+    (passes-none _ CiteTagTooLow (le-leb t.code (line_at out n).tag.code reaches))))

@@ -1,5 +1,5 @@
 -- What stays as a certificate grows.
-use Rattle.std.proofs.Common.{◌≡◌, ◌⊎◌, ℕ, ◌+◌, ◌-◌, ◌<◌, ◌≤◌, List, [], ◌∷◌, ◌++◌, length, take, refl, ap, subst, ◌∙◌, inl, inr, arith, Option, None, All}
+use Rattle.std.proofs.Common.{◌≡◌, ◌⊎◌, ℕ, ◌+◌, ◌-◌, ◌<◌, ◌≤◌, false, List, [], ◌∷◌, ◌++◌, length, take, refl, ap, subst, ◌∙◌, inl, inr, arith, Option, None, All}
 use Rattle.std.specs.Option.{option_map}
 use Rattle.std.proofs.lemmas.Bool.{or_left, cases_lt}
 use Rattle.std.proofs.lemmas.List.{length-append, length_push, get_or_append_left, get_or_push, take-append-le, take_all}
@@ -9,6 +9,7 @@ use Rattle.fapp_model.specs.declared.instance.Instance.{Instance}
 use Rattle.fapp_model.specs.Instances.{IsNumber}
 use Rattle.cert_lines.specs.declared.answer.Line.{Line}
 use Rattle.cert_lines.specs.WellFormed.{IsLine}
+use Rattle.cert_lines.specs.acceptance.Deleted.{is_delete}
 use Rattle.cert_lines.specs.acceptance.Excluded.{is_marked, line_at, no_line}
 use Rattle.cert_lines.specs.acceptance.LineFaults.{line_fault, rejected_at}
 use Rattle.accept_laws.specs.Lines.{AreGood}
@@ -16,8 +17,11 @@ use Rattle.accept_laws.proofs.Options.{mapped-none}
 use Rattle.log_laws.specs.Contents.{Content}
 use Rattle.merge_laws.specs.Fates.{AreMarked, IsFate, Stands}
 
-pub marked-grows : (instance : Instance) (out more : List Line) → AreMarked instance out → AreMarked instance (out ++ more)
-marked-grows instance out more h t a own home outside = list_any-append _ out more ∙ or_left (is_marked out t a) (is_marked more t a) (h t a own home outside)
+pub marked-grows : (instance : Instance) (out : List Line) (line : Line) → is_delete line.rule ≡ false → AreMarked instance out → AreMarked instance (out ++ line ∷ [])
+marked-grows instance out line plain h = record {
+  plain = All-push (λ (line : Line). is_delete line.rule ≡ false) out line h.plain plain;
+  marks = λ t a own home outside. list_any-append _ out (line ∷ []) ∙ or_left (is_marked out t a) (is_marked (line ∷ []) t a) (h.marks t a own home outside);
+}
 
 at-front : (out more : List Line) (n : ℕ) → 0 < n → n ≤ length out → line_at (out ++ more) n ≡ line_at out n
 at-front out more n low high = get_or_append_left out more no_line (n - 1) (omega (arith, low, high))

@@ -26,6 +26,7 @@ use Rattle.cert_lines.specs.acceptance.LineFaults.{line_fault}
 use Rattle.cert_lines.specs.acceptance.Accepts.{answer_fault}
 use Rattle.cert_lines.specs.acceptance.PlanFaults.{plan_fault}
 use Rattle.cert_lines.specs.acceptance.RootFaults.{greater, is_root, root_fault, root_fault_by, root_tag, verdict_tag, with_line}
+use Rattle.cert_lines.proofs.Deleting.{IsPlain, all-stay, formed-plain}
 use Rattle.accept_laws.specs.Lines.{AreGood}
 use Rattle.accept_laws.proofs.GoodLines.{clean-lines, good-none}
 use Rattle.accept_laws.proofs.Accepting.{parts-accepted}
@@ -72,9 +73,9 @@ unrooted-below : (t : Tag) (found : Option Tag) → 0 < t.code → is_enough t f
 unrooted-below t None some e = some
 unrooted-below t (Some u) some e = leb-false t.code u.code e
 
-rooted-enough : (instance : Instance) (verdict : Verdict) (old : List Line) → is_rooted (verdict_tag instance verdict) old ≡ true → root_fault instance verdict old ≡ None
+rooted-enough : (instance : Instance) (verdict : Verdict) (old : List Line) → All IsPlain old → is_rooted (verdict_tag instance verdict) old ≡ true → root_fault instance verdict old ≡ None
 unfolding root_fault
-rooted-enough instance verdict old e = by_tag (root_tag old) e
+rooted-enough instance verdict old plain e = subst (λ ls. root_fault_by (verdict_tag instance verdict) (root_tag ls) ≡ None) (sym (all-stay old plain)) (by_tag (root_tag old) e)
   where
     by_tag : (found : Option Tag) → is_enough (verdict_tag instance verdict) found ≡ true → root_fault_by (verdict_tag instance verdict) found ≡ None
     by_tag None e = absurd (cc)
@@ -347,7 +348,7 @@ module _ (instance : Instance) (split : ℕ) (old : List Line) (placed : List (�
     begins = keeps-begins old lines h.kept;
     formed = h.formed few;
     good = good-none instance lines h.good;
-    root = root-enough instance verdict lines (length lines) h.root;
+    root = root-enough instance verdict lines (length lines) (formed-plain instance lines (h.formed few)) h.root;
     bare = h.kept.bare;
     few = h.few;
   }
@@ -357,7 +358,7 @@ module _ (instance : Instance) (split : ℕ) (old : List Line) (placed : List (�
     begins = keeps-begins old old (keeps-itself old);
     formed = given.old_are.formed;
     good = good-none instance old given.old_are.good;
-    root = rooted-enough instance verdict old rooted;
+    root = rooted-enough instance verdict old (formed-plain instance old given.old_are.formed) rooted;
     bare = λ before. before;
     few = omega arith;
   }

@@ -139,7 +139,7 @@ module _ (instance : Instance) (rows : List KnownRow) (logs : List (List LogLine
         good = good-grows instance s.out new stage.good (written-good instance rows earlier s.out (number_of s log) line path valid stage.marked fates some ready.good.tag ready.good.lits refs ready.good.contents ready.good.cites branch);
         formed = formed-grows instance s.out new stage.formed
             (written-formed instance rows earlier s.out (number_of s log) line path valid stage.marked fates some ready.good.tag ready.good.lits refs ready.good.contents ready.good.cites branch);
-        marked = marked-grows instance s.out (new ∷ []) stage.marked;
+        marked = marked-grows instance s.out new refl stage.marked;
         logs_are = length-set s.own log (get_or s.own log [] ++ (length s.out + 1) ∷ []) ∙ stage.logs_are;
         room = stage.room;
         own = next-own (s.out ++ new ∷ []) (length s.out + 1) (λ content k h. fate-grows instance s.out (new ∷ []) content k h) (inr (stands-last s.out new));

@@ -31,6 +31,7 @@ use Rattle.log_laws.specs.declared.line.LogLine.{LogLine}
 use Rattle.log_laws.specs.Contents.{KnownRow}
 use Rattle.log_laws.proofs.CodeOrder.{below-codes}
 use Rattle.merge_laws.specs.Stages.{start, with_placed}
+use Rattle.cert_lines.proofs.Deleting.{IsPlain, formed-plain}
 use Rattle.accept_laws.specs.Lines.{AreGood}
 use Rattle.accept_laws.specs.Renumbering.{shifted}
 use Rattle.accept_laws.proofs.Renumbering.{good-behind}
@@ -131,13 +132,16 @@ module _ (instance : Instance) (arcs : List Line) (valid : IsInstance instance) 
 
   module _ (old : List Line) (old_are : AreOld instance old) where
     pub old-good : AreGood instance (old ++ arcs)
-    old-good = subst (λ xs. AreGood instance (old ++ xs)) (arcs-stay old) (good-behind instance old arcs arcs-formed old_are.good lined.good)
+    old-good = subst (λ xs. AreGood instance (old ++ xs)) (arcs-stay old) (good-behind instance old arcs old_are.formed arcs-formed old_are.good lined.good)
 
     old-formed : All (IsLine instance) (old ++ arcs)
     old-formed = All-append (IsLine instance) old arcs old_are.formed arcs-formed
 
     old-marks : AreMarked instance (old ++ arcs)
-    old-marks t a own home outside = list_any-append (λ line. is_only a line.lits && leb t.code line.tag.code) old arcs ∙ or_right (is_marked old t a) (is_marked arcs t a) (marks t a own home outside)
+    old-marks = record {
+      plain = All-append IsPlain old arcs (formed-plain instance old old_are.formed) (formed-plain instance arcs arcs-formed);
+      marks = λ t a own home outside. list_any-append (λ line. is_only a line.lits && leb t.code line.tag.code) old arcs ∙ or_right (is_marked old t a) (is_marked arcs t a) (marks t a own home outside);
+    }
 
   module _ (old : List Line) (old_are : AreOld instance old) (placed : List (ℕ × ℕ)) (rows : List KnownRow) (logs : List (List LogLine)) (room : ℕ) (fits : All (λ (row : KnownRow). row.number < room) rows)
       (said : (row : KnownRow) → Contains rows row → Contains (placed_numbers placed) row.number → IsPlacedIn old placed row) (once : AllPairs (λ p q. p.0 ≢ q.0) placed) where

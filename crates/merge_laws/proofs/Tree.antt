@@ -1,5 +1,5 @@
 -- The plan's tree from its longest lists to the empty one: each line is good, and the last ones are those of the lists.
-use Rattle.std.proofs.Common.{◌≡◌, ℕ, zero, suc, ◌+◌, ◌<◌, ◌≤◌, false, List, [], ◌∷◌, ◌++◌, length, get_or, refl, ap, subst, ◌∙◌, inl, inr, arith, None, Contains, eqb}
+use Rattle.std.proofs.Common.{◌≡◌, ℕ, zero, suc, ◌+◌, ◌<◌, ◌≤◌, false, List, [], ◌∷◌, ◌++◌, length, get_or, refl, ap, subst, ◌∙◌, inl, inr, arith, None, All, Contains, eqb}
 use Rattle.std.specs.List.{range_with_len}
 use Rattle.std.proofs.lemmas.List.{length_push, length-map, get_or-map}
 use Rattle.std.proofs.lemmas.List.FromFn.{length-range_with_len, get_or-range_with_len}
@@ -18,6 +18,7 @@ use Rattle.cert_lines.specs.declared.answer.Child.{Child}
 use Rattle.cert_lines.specs.declared.answer.Line.{Line}
 use Rattle.cert_lines.specs.WellFormed.{AreCites, IsChild, IsLine}
 use Rattle.cert_lines.specs.acceptance.LineFaults.{line_fault}
+use Rattle.cert_lines.proofs.Deleting.{IsPlain}
 use Rattle.accept_laws.specs.Lines.{AreGood}
 use Rattle.fapp_plan.specs.Sorting.{by_path}
 use Rattle.fapp_plan.proofs.ByPath.{from-by_path, in-by_path}
@@ -97,8 +98,8 @@ module _ (instance : Instance) (t : Tag) (own : IsTagFor instance t) (some : 0 <
     child-from : ℕ → ℕ → Child
     child-from next index = record { choice = index; cite = next + index }
 
-    branch-good : (literals : List Literal) (next : ℕ) (out : List Line) → names literals path ≡ false → AreNumbered out t next (longer instance path literals) → line_fault instance out (branch_line instance t path next literals) ≡ None
-    branch-good literals next out free front = whole-branch-good instance out t (by_path literals) path (children_from instance path next) (sorted-free literals path free)
+    branch-good : (literals : List Literal) (next : ℕ) (out : List Line) → All IsPlain out → names literals path ≡ false → AreNumbered out t next (longer instance path literals) → line_fault instance out (branch_line instance t path next literals) ≡ None
+    branch-good literals next out plain free front = whole-branch-good instance out plain t (by_path literals) path (children_from instance path next) (sorted-free literals path free)
         (λ child m. let found = from-map (λ index. record { choice = index; cite = next + index }) (range_with_len 0 (count_at instance path)) child m in
         subst (Serves out t (by_path literals) path) found.2 (serves literals next out front found.0 (from-range (count_at instance path) found.0 found.1)))
         (λ index below. (record { choice = index; cite = next + index }, in-map (λ index. record { choice = index; cite = next + index }) (range_with_len 0 (count_at instance path)) index (in-range (count_at instance path) index below), refl)) some
@@ -136,9 +137,9 @@ module _ (instance : Instance) (t : Tag) (own : IsTagFor instance t) (some : 0 <
         let back = numbered-back t (longer instance path literals) (all_longer instance path lists) out next (next + count_at instance path) (omega (arith, length-longer instance path literals)) level.numbered in
         let own_free = free literals (at_front literals lists) in
         let rest = grown lists (next + count_at instance path) (out ++ new ∷ []) (λ l m. free l (behind literals lists l m)) (record {
-          good = good-grows instance out new level.good (branch-good literals next out own_free.1 front);
+          good = good-grows instance out new level.good (branch-good literals next out level.marked.plain own_free.1 front);
           formed = formed-grows instance out new level.formed (branch-formed literals next out own_free.0 front);
-          marked = marked-grows instance out (new ∷ []) level.marked;
+          marked = marked-grows instance out new refl level.marked;
           numbered = numbered-grows t (all_longer instance path lists) out (new ∷ []) (next + count_at instance path) back;
         }) in
         record {
@@ -209,7 +210,7 @@ module _ (instance : Instance) (t : Tag) (own : IsTagFor instance t) (some : 0 <
         let new = prefix_line t literals (number place) in
         let home = partial literals (at_front literals lists) in
         let rest = bottomed lists (place + 1) (out ++ new ∷ []) (good-grows instance out new good (prefix-clean literals out (number place) home marked settled.0)) (formed-grows instance out new formed (prefix-formed literals out (number place) home settled.0))
-        (marked-grows instance out (new ∷ []) marked) (λ l m. partial l (behind literals lists l m)) (all-grow out (new ∷ []) number lists (place + 1) settled.1) in
+        (marked-grows instance out new refl marked) (λ l m. partial l (behind literals lists l m)) (all-grow out (new ∷ []) number lists (place + 1) settled.1) in
         record {
           level = record {
             good = rest.level.good;

@@ -1,5 +1,5 @@
 -- The lines of the plan's tree, one by one.
-use Rattle.std.proofs.Common.{◌≡◌, ℕ, zero, suc, ◌<◌, ◌≤◌, true, false, ◌||◌, not, List, [], ◌∷◌, length, count_by, refl, sym, subst, inl, inr, arith, None, Contains, eqb, leb}
+use Rattle.std.proofs.Common.{◌≡◌, ℕ, zero, suc, ◌<◌, ◌≤◌, true, false, ◌||◌, not, List, [], ◌∷◌, length, count_by, refl, sym, subst, ◌∙◌, inl, inr, arith, None, All, Contains, eqb, leb}
 use Rattle.std.specs.List.{list_any, list_all, range_with_len}
 use Rattle.std.proofs.lemmas.Bool.{and_from, or_left, or_right, eq-eqb, ne_eqb, le-leb, not_from_false}
 use Rattle.std.proofs.lemmas.List.Elements.{All-contains}
@@ -27,6 +27,7 @@ use Rattle.accept_laws.proofs.CodeOrder.{codes-at_most}
 use Rattle.accept_laws.proofs.Judging.{judged-where-excluded}
 use Rattle.accept_laws.proofs.Options.{both-none}
 use Rattle.log_laws.specs.Contents.{Content}
+use Rattle.cert_lines.proofs.Deleting.{IsPlain, plain-excluded}
 use Rattle.merge_laws.specs.Fates.{AreMarked, IsFate, Stands}
 use Rattle.merge_laws.specs.Levels.{cites_of}
 use Rattle.merge_laws.proofs.Beside.{above-least}
@@ -68,9 +69,9 @@ all-outside : (instance : Instance) (t : Tag) (literals : List Literal) → 0 < 
 all-outside instance t [] some = no_choice_left 0 some refl (λ index below. inl tt)
 all-outside instance t (a ∷ more) some = outside_literal a (at_front a more) tt
 
-cited-good : (instance : Instance) (out : List Line) (t : Tag) (literals : List Literal) (content : Content) (n : ℕ) → IsPartial instance literals → 0 < length instance.paths → 0 < t.code → t.code ≤ content.tag → HasAll literals content.lits → Stands out content n →
+cited-good : (instance : Instance) (out : List Line) → All IsPlain out → (t : Tag) (literals : List Literal) (content : Content) (n : ℕ) → IsPartial instance literals → 0 < length instance.paths → 0 < t.code → t.code ≤ content.tag → HasAll literals content.lits → Stands out content n →
     line_fault instance out (record { tag = t; lits = literals; rule = Count (n ∷ []) }) ≡ None
-cited-good instance out t literals content n partial paths some most within stands =
+cited-good instance out plain t literals content n partial paths some most within stands =
     from-count instance out t literals (n ∷ []) some
     (both-none (first_of (cite_fault out t (has_all_but_one literals)) (n ∷ [])) _
     (first_of-clean (cite_fault out t (has_all_but_one literals)) (n ∷ []) one)
@@ -80,7 +81,7 @@ cited-good instance out t literals content n partial paths some most within stan
     within-cited = subst (HasAll literals) (sym stands.lits_are) within
 
     clean : cite_fault out t (has_all_but_one literals) n ≡ None
-    clean = clean-cite out t (has_all_but_one literals) n stands.low stands.high (all-but-one literals (line_at out n).lits within-cited) (let e = stands.tag_is in omega arith)
+    clean = clean-cite out plain t (has_all_but_one literals) n stands.low stands.high (all-but-one literals (line_at out n).lits within-cited) (let e = stands.tag_is in omega arith)
 
     one : (m : ℕ) → Contains (n ∷ []) m → cite_fault out t (has_all_but_one literals) m ≡ None
     one m c = elim (front_or_behind n [] m c) [ inl here ↦ subst (λ k. cite_fault out t (has_all_but_one literals) k ≡ None) here clean | inr later ↦ absurd (no_member m later) ]
@@ -90,7 +91,7 @@ cited-good instance out t literals content n partial paths some most within stan
 
     dead : is_dead instance out t (n ∷ []) literals ≡ true
     dead = judged-where-excluded (λ _. Unit {0}) (is_excluded out t (n ∷ []) literals) instance (triple_from t.code) literals partial
-        (λ a _ _. or_right (is_marked out t a) (is_cited out (n ∷ []) literals a)
+        (λ a _ _. plain-excluded out plain t (n ∷ []) literals a ∙ or_right (is_marked out t a) (is_cited out (n ∷ []) literals a)
         (any-member (λ m. has_all (a ∷ literals) (line_at out m).lits) (n ∷ []) n (at_front n []) (has_all-from (a ∷ literals) (line_at out n).lits (more a))))
         (above-least t.code some) (all-outside instance t literals paths)
 
@@ -103,7 +104,7 @@ prefix-good instance out t literals content zero valid marked own partial paths 
     (dead_lower instance (triple_from content.tag) (triple_from t.code) content.lits valid left.tag_of own (codes-at_most t.code content.tag most) left.dead))
 prefix-good instance out t literals content zero valid marked own partial paths some most within (inr stands) = absurd (let l = stands.low in omega arith)
 prefix-good instance out t literals content (suc n) valid marked own partial paths some most within (inl left) = absurd (let e = left.none in omega arith)
-prefix-good instance out t literals content (suc n) valid marked own partial paths some most within (inr stands) = cited-good instance out t literals content (suc n) partial paths some most within stands
+prefix-good instance out t literals content (suc n) valid marked own partial paths some most within (inr stands) = cited-good instance out marked.plain t literals content (suc n) partial paths some most within stands
 
 -- a child stands for literals that lie within those of the line with its choice
 pub record Serves (out : List Line) (t : Tag) (literals : List Literal) (path : ℕ) (child : Child) : Type 0 where
@@ -112,11 +113,11 @@ pub record Serves (out : List Line) (t : Tag) (literals : List Literal) (path : 
   pub within : HasAll (literal path child.choice ∷ literals) lits
 
 -- a line with a child for each choice
-pub whole-branch-good : (instance : Instance) (out : List Line) (t : Tag) (literals : List Literal) (path : ℕ) (children : List Child) →
+pub whole-branch-good : (instance : Instance) (out : List Line) → All IsPlain out → (t : Tag) (literals : List Literal) (path : ℕ) (children : List Child) →
     names literals path ≡ false → ((child : Child) → Contains children child → Serves out t literals path child) →
     ((index : ℕ) → index < count_at instance path → (child : Child) × Contains children child × (child.choice ≡ index)) → 0 < t.code →
     line_fault instance out (record { tag = t; lits = literals; rule = Branch path children }) ≡ None
-whole-branch-good instance out t literals path children free each whole some = from-branch instance out t literals path children some
+whole-branch-good instance out plain t literals path children free each whole some = from-branch instance out t literals path children some
     (both-none (cause_unless (not (names literals path)) WrongPath) _ (passes-none (not (names literals path)) WrongPath (not_from_false (names literals path) free))
     (both-none (first_of (child_fault out t literals path) children) _ (first_of-clean (child_fault out t literals path) children clean)
     (passes-none (list_all (is_settled instance out t literals path children) (range_with_len 0 (count_at instance path))) NotDead
@@ -125,7 +126,7 @@ whole-branch-good instance out t literals path children free each whole some = f
     clean : (child : Child) → Contains children child → child_fault out t literals path child ≡ None
     clean child m =
         let c = each child m in
-        clean-cite out t (has_all (literal path child.choice ∷ literals)) child.cite c.stands.low c.stands.high
+        clean-cite out plain t (has_all (literal path child.choice ∷ literals)) child.cite c.stands.low c.stands.high
         (subst (λ l. has_all (literal path child.choice ∷ literals) l ≡ true) (sym c.stands.lits_are) (has_all-from (literal path child.choice ∷ literals) c.lits c.within))
         (let e = c.stands.tag_is in omega arith)
 

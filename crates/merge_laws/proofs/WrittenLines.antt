@@ -24,6 +24,7 @@ use Rattle.cert_lines.specs.WellFormed.{IsChild, IsLine}
 use Rattle.cert_lines.specs.acceptance.Contained.{has_all}
 use Rattle.cert_lines.specs.acceptance.Excluded.{is_cited, is_excluded, is_marked}
 use Rattle.cert_lines.specs.acceptance.LineFaults.{first_of, cause_unless, child_fault, is_dead, is_settled, branch_fault, line_fault}
+use Rattle.cert_lines.proofs.Deleting.{plain-excluded}
 use Rattle.dead_laws.proofs.DeadLower.{dead_lower}
 use Rattle.dead_laws.proofs.DeadMore.{dead-more}
 use Rattle.accept_laws.proofs.CodeOrder.{codes-at_most}
@@ -44,7 +45,7 @@ use Rattle.merge_laws.proofs.Clean.{all-from, clean-cite, first_of-clean, passes
 pub marked-judged : (instance : Instance) (out : List Line) (t : Tag) (cites : List ℕ) (literals : List Literal) → AreMarked instance out → IsTagFor instance t → IsPartial instance literals → 0 < t.code → Dead instance (triple_from t.code) literals → is_dead instance out t cites literals ≡ true
 marked-judged instance out t cites literals marked own partial some dead =
     judged-where-excluded (OutsideArc instance (mode_level (triple_from t.code))) (is_excluded out t cites literals) instance (triple_from t.code) literals partial
-    (λ a home outside. or_left (is_marked out t a) (is_cited out cites literals a) (marked t a own home outside))
+    (λ a home outside. plain-excluded out marked.plain t cites literals a ∙ or_left (is_marked out t a) (is_cited out cites literals a) (marked.marks t a own home outside))
     (above-least t.code some) dead
 
 -- where nothing is cited, what is outside or ruled out is outside
@@ -137,7 +138,7 @@ module _ (instance : Instance) (rows : List KnownRow) (earlier : List LogLine) (
       let c = named ref m in
       elim c.fate [
         | inl left ↦ absurd (let e = left.none in omega arith)
-        | inr stands ↦ clean-cite out line.tag (has_all (literal path ref.choice ∷ line.lits)) (number ref.line) stands.low stands.high
+        | inr stands ↦ clean-cite out marked.plain line.tag (has_all (literal path ref.choice ∷ line.lits)) (number ref.line) stands.low stands.high
             (subst (λ lits. has_all (literal path ref.choice ∷ line.lits) lits ≡ true) (sym stands.lits_are) c.within)
             (let e = stands.tag_is in let r = c.reaches in omega arith)
       ]

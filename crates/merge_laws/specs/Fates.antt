@@ -1,5 +1,5 @@
 -- What became of literals that a log says are implied: a certificate line has them, or they are dead without one.
-use Rattle.std.specs.Prelude.{◌≡◌, ◌⊎◌, ℕ, ◌<◌, ◌≤◌, List, length, IsTrue}
+use Rattle.std.specs.Prelude.{◌≡◌, ◌⊎◌, ℕ, ◌<◌, ◌≤◌, false, List, length, All, IsTrue}
 use Rattle.fapp_model.specs.declared.instance.Instance.{Instance}
 use Rattle.fapp_model.specs.declared.literal.Literal.{Literal}
 use Rattle.fapp_model.specs.declared.tag.Tag.{Tag}
@@ -9,6 +9,7 @@ use Rattle.fapp_model.specs.search.Arcs.{OutsideArc}
 use Rattle.fapp_model.specs.search.Dead.{Dead}
 use Rattle.fapp_model.specs.search.Partials.{IsLiteral, IsPartial}
 use Rattle.cert_lines.specs.declared.answer.Line.{Line}
+use Rattle.cert_lines.specs.acceptance.Deleted.{is_delete}
 use Rattle.cert_lines.specs.acceptance.Excluded.{is_marked, line_at}
 use Rattle.log_laws.specs.Contents.{Content}
 
@@ -30,7 +31,8 @@ pub record IsLeftOut (instance : Instance) (content : Content) (n : ℕ) : Type 
 abbrev pub IsFate : Instance → List Line → Content → ℕ → Type 0
 IsFate instance out content n = IsLeftOut instance content n ⊎ Stands out content n
 
--- each choice outside the arcs of a tag's level is excluded at that tag
-abbrev pub AreMarked : Instance → List Line → Type 0
-AreMarked instance out = (t : Tag) (a : Literal) → IsTagFor instance t → IsLiteral instance a →
-    OutsideArc instance (mode_level (triple_from t.code)) a → IsTrue (is_marked out t a)
+-- no line deletes, and each choice outside the arcs of a tag's level is excluded at that tag
+pub record AreMarked (instance : Instance) (out : List Line) : Type 0 where
+  pub plain : All (λ line. is_delete line.rule ≡ false) out
+  pub marks : (t : Tag) (a : Literal) → IsTagFor instance t → IsLiteral instance a →
+      OutsideArc instance (mode_level (triple_from t.code)) a → IsTrue (is_marked out t a)

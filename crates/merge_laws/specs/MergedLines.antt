@@ -5,7 +5,7 @@ use Rattle.fapp_model.specs.search.LineBound.{choice_total, tree_size}
 use Rattle.fapp_model.specs.declared.tag.Tag.{Tag}
 use Rattle.cert_lines.specs.declared.answer.Line.{Line}
 use Rattle.cert_lines.specs.declared.answer.Rule.{Rule}
-use Rattle.cert_lines.specs.declared.answer.Rule.TheVariants.{Branch, Count}
+use Rattle.cert_lines.specs.declared.answer.Rule.TheVariants.{Branch, Count, Delete}
 use Rattle.cert_lines.specs.declared.answer.Verdict.{Verdict}
 use Rattle.cert_lines.specs.WellFormed.{IsLine}
 use Rattle.cert_lines.specs.acceptance.LineFaults.{lines_fault}
@@ -81,6 +81,7 @@ branch_total logs = sum_by (λ log. count_by (λ line. is_branch_path line.path)
 abbrev pub HasNoCite : Rule → Type 0
 HasNoCite (Count cites) = cites ≡ []
 HasNoCite (Branch path children) = children ≡ []
+HasNoCite (Delete cites) = ⊥
 
 -- a line of the tag (0, 0, 0) cites nothing
 abbrev pub IsBareLine : Line → Type 0

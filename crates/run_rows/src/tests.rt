@@ -64,17 +64,24 @@ fn checked<R: Threads + Sync>(
 #[test]
 fn each_answer_is_accepted_with_its_verdict(rt: HostRuntime) -> Result<(), Fail> {
     for (text, workers, fuel, split, code, verdict) in VERDICTS.iter() {
-        let options = SolveOptions {
-            workers: (*workers).clamp(1, 32),
-            fuel: Some((*fuel).min(1_000_000)),
-            split: (*split).clamp(1, 4096),
-            pool: 0,
-            answer_only: false,
-        };
-        let (ended, said) = checked(&rt, rt.alloc(), text, &options)?;
-        assert_eq!(rt; ended, *code, "at {text}");
-        let wanted = format!(in rt.alloc(); "ACCEPTED {verdict}")?;
-        assert_eq!(rt; said.as_slice(), wanted.as_bytes(), "at {text}");
+        for version in [1u32, 2] {
+            let options = SolveOptions {
+                workers: (*workers).clamp(1, 32),
+                fuel: Some((*fuel).min(1_000_000)),
+                split: (*split).clamp(1, 4096),
+                pool: 0,
+                cert: version.clamp(1, 2),
+                answer_only: false,
+            };
+            let (ended, said) = checked(&rt, rt.alloc(), text, &options)?;
+            assert_eq!(rt; ended, *code, "at {text} in version {version}");
+            let wanted = format!(in rt.alloc(); "ACCEPTED {verdict}")?;
+            assert_eq!(rt;
+                said.as_slice(),
+                wanted.as_bytes(),
+                "at {text} in version {version}"
+            );
+        }
     }
     Ok(())
 }

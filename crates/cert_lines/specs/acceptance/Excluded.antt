@@ -5,6 +5,7 @@ use Rattle.fapp_model.specs.declared.literal.Literal.{Literal}
 use Rattle.fapp_model.specs.declared.tag.Tag.{Tag}
 use Rattle.cert_lines.specs.declared.answer.Line.{Line}
 use Rattle.cert_lines.specs.declared.answer.Rule.TheVariants.{Count}
+use Rattle.cert_lines.specs.acceptance.Deleted.{kept}
 use Rattle.cert_lines.specs.acceptance.Contained.{is_same, has_all}
 
 -- what stands past the end of a list of lines
@@ -29,6 +30,6 @@ is_marked earlier t a = list_any (λ line. is_only a line.lits && nat_le t.code 
 abbrev pub is_cited : List Line → List ℕ → List Literal → Literal → Bool
 is_cited earlier cites literals a = list_any (λ n. has_all (a ∷ literals) (line_at earlier n).lits) cites
 
--- a choice is excluded by an earlier line of one literal, or by a cited one
+-- a choice is excluded by an earlier line of one literal that is kept, or by a cited one
 abbrev pub is_excluded : List Line → Tag → List ℕ → List Literal → Literal → Bool
-is_excluded earlier t cites literals a = is_marked earlier t a || is_cited earlier cites literals a
+is_excluded earlier t cites literals a = is_marked (kept earlier) t a || is_cited earlier cites literals a

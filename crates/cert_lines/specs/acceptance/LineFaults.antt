@@ -11,11 +11,12 @@ use Rattle.fapp_model.specs.Tags.{triple_from}
 use Rattle.cert_lines.specs.declared.answer.Child.{Child}
 use Rattle.cert_lines.specs.declared.answer.Line.{Line}
 use Rattle.cert_lines.specs.declared.answer.Rule.{Rule}
-use Rattle.cert_lines.specs.declared.answer.Rule.TheVariants.{Count, Branch}
+use Rattle.cert_lines.specs.declared.answer.Rule.TheVariants.{Count, Branch, Delete}
 use Rattle.cert_lines.specs.declared.reject.RejectCause.{RejectCause}
-use Rattle.cert_lines.specs.declared.reject.RejectCause.TheVariants.{CiteNotEarlier, CiteNotContained, CiteTagTooLow, NotDead, WrongPath}
+use Rattle.cert_lines.specs.declared.reject.RejectCause.TheVariants.{CiteNotEarlier, CiteNotContained, CiteTagTooLow, NotDead, WrongPath, CiteDeleted, DeleteNotEarlier, DeletedTwice}
 use Rattle.cert_lines.specs.declared.reject.Rejected.{Rejected}
 use Rattle.cert_lines.specs.acceptance.Contained.{has_all, has_all_but_one}
+use Rattle.cert_lines.specs.acceptance.Deleted.{deletes, is_deleted}
 use Rattle.cert_lines.specs.acceptance.Excluded.{line_at, is_excluded}
 use Rattle.cert_lines.specs.acceptance.Judged.{judged_dead}
 
@@ -32,8 +33,9 @@ cause_unless passes cause = if passes then None else Some cause
 abbrev pub cite_fault : List Line → Tag → (List Literal → Bool) → ℕ → Option RejectCause
 cite_fault earlier t contains n =
     option_or (cause_unless (nat_lt 0 n && nat_le n (length earlier)) CiteNotEarlier)
+    (option_or (cause_unless (not (is_deleted earlier n)) CiteDeleted)
     (option_or (cause_unless (contains (line_at earlier n).lits) CiteNotContained)
-    (cause_unless (nat_le t.code (line_at earlier n).tag.code) CiteTagTooLow))
+    (cause_unless (nat_le t.code (line_at earlier n).tag.code) CiteTagTooLow)))
 
 -- the literals are judged dead, by earlier lines of one literal and by the cited ones
 abbrev pub is_dead : Instance → List Line → Tag → List ℕ → List Literal → Bool
@@ -61,14 +63,23 @@ branch_fault instance earlier t literals path children =
     (cause_unless (list_all (is_settled instance earlier t literals path children)
     (range_with_len 0 (count_at instance path))) NotDead))
 
+-- a deleted number is that of an earlier line, which none deletes
+abbrev pub delete_fault : List Line → ℕ → Option RejectCause
+delete_fault earlier n =
+    option_or (cause_unless (nat_lt 0 n && nat_le n (length earlier)) DeleteNotEarlier)
+    (cause_unless (not (is_deleted earlier n)) DeletedTwice)
+
+-- the fault of a Count or Branch line above (0, 0, 0); a Delete line has none here
 abbrev pub rule_fault : Instance → List Line → Tag → List Literal → Rule → Option RejectCause
 rule_fault instance earlier t literals (Count cites) = count_fault instance earlier t literals cites
 rule_fault instance earlier t literals (Branch path children) = branch_fault instance earlier t literals path children
+rule_fault instance earlier t literals (Delete cites) = None
 
--- a line of the tag (0, 0, 0) has no fault
+-- what a Delete line says has to be so; another line of the tag (0, 0, 0) has no fault
 unfoldable pub line_fault : Instance → List Line → Line → Option RejectCause
 line_fault instance earlier line =
-    if line.tag.code == 0 then None else rule_fault instance earlier line.tag line.lits line.rule
+    option_or (first_of (delete_fault earlier) (deletes line.rule))
+    (if line.tag.code == 0 then None else rule_fault instance earlier line.tag line.lits line.rule)
 
 abbrev pub rejected_at : ℕ → RejectCause → Rejected
 rejected_at n cause = record { line = n; cause = cause }

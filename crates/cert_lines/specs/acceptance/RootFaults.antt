@@ -9,9 +9,10 @@ use Rattle.cert_lines.specs.declared.answer.Verdict.{Verdict}
 use Rattle.cert_lines.specs.declared.answer.Verdict.TheVariants.{Best, NoneFeasible, Open}
 use Rattle.cert_lines.specs.declared.reject.RejectCause.{RejectCause}
 use Rattle.cert_lines.specs.declared.reject.RejectCause.TheVariants.{NoRootLine, RootTagTooLow}
+use Rattle.cert_lines.specs.acceptance.Deleted.{kept}
 use Rattle.cert_lines.specs.acceptance.LineFaults.{cause_unless}
 
--- a root line is one without literals
+-- a line without literals: a root line, where it is no Delete line
 abbrev pub is_root : Line → Bool
 is_root line = length line.lits == 0
 
@@ -23,7 +24,7 @@ greater (Some u) t = if nat_lt u.code t.code then t else u
 abbrev pub with_line : Option Tag → Line → Option Tag
 with_line found line = if is_root line then Some (greater found line.tag) else found
 
--- the greatest tag of the root lines
+-- the greatest tag of the lines without literals
 unfoldable pub root_tag : List Line → Option Tag
 root_tag lines = fold with_line None lines
 
@@ -46,4 +47,4 @@ root_fault_by claimed None = Some NoRootLine
 root_fault_by claimed (Some found) = cause_unless (nat_le claimed.code found.code) (RootTagTooLow claimed found)
 
 unfoldable pub root_fault : Instance → Verdict → List Line → Option RejectCause
-root_fault instance verdict lines = root_fault_by (verdict_tag instance verdict) (root_tag lines)
+root_fault instance verdict lines = root_fault_by (verdict_tag instance verdict) (root_tag (kept lines))

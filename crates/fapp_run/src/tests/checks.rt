@@ -5,7 +5,62 @@ use super::*;
 const ALONE: &str = "DM 1 10\nDM 1 20\nTR 1 1 1\n";
 
 // What stands before the first line `--`, that line and the rest, the exit status and what is written.
-const CHECKS: [(&str, &str, u8, &str); 65] = [
+const CHECKS: [(&str, &str, u8, &str); 74] = [
+    // Version 2: lines that delete others.
+    (
+        TIED,
+        "--\nAL 1 10 1\nAL 2 10 1\n--\nBEST 11 1 10\nV 2\nB 11 1 10 0 0 0\nEND\n",
+        0,
+        "ACCEPTED BEST 11 1 10\n",
+    ),
+    (
+        TIED,
+        "--\nAL 1 10 1\nAL 2 10 1\n--\nBEST 11 1 10\nV 2\nB 11 1 10 0 0 0\nD 1 1\nEND\n",
+        3,
+        "REJECTED 0 NoRootLine\n",
+    ),
+    (
+        TIED,
+        "--\nAL 1 10 1\nAL 2 10 1\n--\nBEST 11 1 10\nV 2\nC 12 0 0 1 1 0 0\nD 1 1\nB 11 1 10 0 0 1 0 1\nEND\n",
+        3,
+        "REJECTED 3 CiteDeleted\n",
+    ),
+    (
+        TIED,
+        "--\nAL 1 10 1\nAL 2 10 1\n--\nBEST 11 1 10\nV 2\nD 1 1\nEND\n",
+        3,
+        "REJECTED 1 DeleteNotEarlier\n",
+    ),
+    (
+        TIED,
+        "--\nAL 1 10 1\nAL 2 10 1\n--\nBEST 11 1 10\nV 2\nC 0 0 0 0 0\nD 1 1\nD 1 1\nEND\n",
+        3,
+        "REJECTED 3 DeletedTwice\n",
+    ),
+    (
+        TIED,
+        "--\nAL 1 10 1\nAL 2 10 1\n--\nBEST 11 1 10\nB 11 1 10 0 0 0\nD 1 1\nEND\n",
+        65,
+        "BADANSWER 13 BadKind\n",
+    ),
+    (
+        TIED,
+        "--\nAL 1 10 1\nAL 2 10 1\n--\nBEST 11 1 10\nV 3\nB 11 1 10 0 0 0\nEND\n",
+        65,
+        "BADANSWER 12 BadNumber\n",
+    ),
+    (
+        TIED,
+        "--\nAL 1 10 1\nAL 2 10 1\n--\nBEST 11 1 10\nV 2\nV 2\nB 11 1 10 0 0 0\nEND\n",
+        65,
+        "BADANSWER 13 BadKind\n",
+    ),
+    (
+        TIED,
+        "--\nAL 1 10 1\nAL 2 10 1\n--\nBEST 11 1 10\nV 2\nB 11 1 10 0 0 0\nC 0 0 0 0 0\nD 2 2 2\nEND\n",
+        65,
+        "BADANSWER 15 BadOrder\n",
+    ),
     // Faults of lines and of the root.
     (
         TIED,

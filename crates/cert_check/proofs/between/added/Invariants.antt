@@ -1,6 +1,7 @@
-use Rattle.std.proofs.Common.{◌≡◌, ◌≤◌, ◌*◌, ◌^◌, take}
+use Rattle.std.proofs.Common.{◌≡◌, ◌≤◌, ◌*◌, take}
 use Rattle.fapp_model.specs.search.Weights.{bad_before, bad_further}
 use Rattle.cert_check.specs.Places.{added_at}
+use Rattle.cert_check.specs.Weights.{pair_most}
 use Rattle.cert_check.proofs.between.added.Given as goal
 
 -- the literals so far
@@ -8,6 +9,6 @@ abbrev pub invariant-loop-b : goal.invariant-loop-b
 invariant-loop-b l = record {
   v : l.sum.v ≡ added_at l.instance l.places (bad_before l.level) (take l.b-index l.literals) l.a;
   s : l.sum.s ≡ added_at l.instance l.places (bad_further l.level) (take l.b-index l.literals) l.a;
-  small_v : l.sum.v ≤ l.b-index * 2 ^ 25;
-  small_s : l.sum.s ≤ l.b-index * 2 ^ 25;
+  small_v : l.sum.v ≤ l.b-index * (2 * pair_most);
+  small_s : l.sum.s ≤ l.b-index * (2 * pair_most);
 }

@@ -4,4 +4,4 @@ use Rattle.cert_check.proofs.cites.children_fault.Given as goal
 
 -- no fault so far
 abbrev pub invariant-loop-child : goal.invariant-loop-child
-invariant-loop-child l = first_of (child_fault l.earlier l.t l.literals l.path) (take l.child-index l.children) ≡ None
+invariant-loop-child l = first_of (child_fault (take l.scene.n l.scene.lines.now) l.scene.tag l.literals l.path) (take l.child-index l.children) ≡ None

@@ -5,4 +5,4 @@ use Rattle.cert_check.proofs.cites.cites_fault.Given as goal
 
 -- no fault so far
 abbrev pub invariant-loop-cite : goal.invariant-loop-cite
-invariant-loop-cite l = first_of (cite_fault l.earlier l.t (has_all_but_one l.literals)) (take l.cite-index l.cites) ≡ None
+invariant-loop-cite l = first_of (cite_fault (take l.scene.n l.scene.lines.now) l.scene.tag (has_all_but_one l.literals)) (take l.cite-index l.cites) ≡ None

@@ -9,6 +9,7 @@ is_dead-requires-clause-scene c =
     record {
       instance = scene.instance;
       marks = scene.marks;
+      entries = scene.entries;
       n = scene.n;
       cites = good-cites c.args.scene.lines.now c.args.scene.n c.args.scene.tag (has_all_but_one c.args.literals.now) c.args.cites.now scene.n (sym c.cites_fault.ensures ∙ c.in_default.is);
       level = scene.level;

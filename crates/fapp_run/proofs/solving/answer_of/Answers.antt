@@ -43,6 +43,6 @@ returns c =
     (subst (λ t. IsKeptPlan c.args.instance.now logs t choices) c.triple_of.ensures (subst (λ (ls : List LogState). IsKeptPlan c.args.instance.now ls c.triple_of.result choices) c.deref.ensures.value c.in_ok-choices.ensures)) in
     let whole = answer-for instance split c.args.fuel g.rows logs word c.root_tag.result.code c.args.gathered.collected verdict choices lines c.args.gathered.ticks.items
     (subst IsInstance (sym c.requires.plan) c.requires.valid) g.settled g.word kept c.in_ok-verdict.ensures.rule c.in_ok-verdict.ensures.formed c.in_ok-lines.ensures.accepted g.counted g.ticks g.branches in
-    subst (λ i. IsAnswerFor i split c.args.fuel (record { plan = c.from_vec.result; verdict = verdict; lines = c.from_vec-2.result })) c.requires.plan
-    (subst (λ (ls : List Line). IsAnswerFor instance split c.args.fuel (record { plan = c.from_vec.result; verdict = verdict; lines = ls })) (sym c.from_vec-2.ensures)
-    (subst (λ (cs : List Choice). IsAnswerFor instance split c.args.fuel (record { plan = cs; verdict = verdict; lines = lines })) (sym c.from_vec.ensures) whole))
+    subst (λ i. IsAnswerFor i split c.args.fuel (record { plan = c.from_vec.result; verdict = verdict; version = 1; lines = c.from_vec-2.result })) c.requires.plan
+    (subst (λ (ls : List Line). IsAnswerFor instance split c.args.fuel (record { plan = c.from_vec.result; verdict = verdict; version = 1; lines = ls })) (sym c.from_vec-2.ensures)
+    (subst (λ (cs : List Choice). IsAnswerFor instance split c.args.fuel (record { plan = cs; verdict = verdict; version = 1; lines = lines })) (sym c.from_vec.ensures) whole))

@@ -3,6 +3,7 @@ use Rattle.std.proofs.lemmas.List.{get_or_read, take_all, length-set}
 use Rattle.std.proofs.lemmas.List.FromFn.{fill_by_all}
 use Rattle.std.proofs.lemmas.List.Elements.{All-same}
 use Rattle.fapp_model.specs.declared.instance.Instance.{Instance}
+use Rattle.fapp_model.specs.declared.limits.TheConstants.{MAX_RECORDS}
 use Rattle.fapp_model.specs.declared.record.Record.{Record}
 use Rattle.fapp_model.specs.Instances.{IsInstance, IsRecord}
 use Rattle.fapp_model.specs.Levels.{levels_of}
@@ -15,7 +16,7 @@ here : (instance : Instance) (rs : List Record) (k : ℕ) → IsInstance instanc
 here instance rs k valid same inside =
     All-same (IsRecord (levels_of instance) (length instance.paths)) rs instance.records same valid.records k no_record inside
 
-few : (instance : Instance) (rs : List Record) → IsInstance instance → rs ≡ instance.records → length rs ≤ 1048576
+few : (instance : Instance) (rs : List Record) → IsInstance instance → rs ≡ instance.records → length rs ≤ MAX_RECORDS
 few instance rs valid same = omega (arith, ap length same, valid.few_records)
 
 pub overflow_add-index_mut : goal.overflow_add-index_mut

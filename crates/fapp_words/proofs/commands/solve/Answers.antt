@@ -10,8 +10,9 @@ returns-clause-shape c =
     let two = c.in_ok-arg-2.ensures.shape c.option-2.ensures.local ∙ ap₂ with_rule one c.option-2.ensures.rule in
     let three = c.in_ok-arg-3.ensures.shape c.option-3.ensures.local ∙ ap₂ with_rule two c.option-3.ensures.rule in
     let four = c.in_ok-arg-4.ensures.shape c.option-4.ensures.local ∙ ap₂ with_rule three c.option-4.ensures.rule in
-    IfOk-weaker c.arg-5.result _ _ (λ r h. ap (λ (a : App). a.top) (h.shape c.flag.ensures.local ∙ ap₂ with_rule four c.flag.ensures.rule)) c.arg-5.ensures
+    let five = c.in_ok-arg-5.ensures.shape c.option-5.ensures.local ∙ ap₂ with_rule four c.option-5.ensures.rule in
+    IfOk-weaker c.arg-6.result _ _ (λ r h. ap (λ (a : App). a.top) (h.shape c.flag.ensures.local ∙ ap₂ with_rule five c.flag.ensures.rule)) c.arg-6.ensures
 
 pub returns-clause-local : goal.returns-clause-local
 returns-clause-local c =
-    IfOk-weaker c.arg-5.result _ _ (λ r h. rw (h.globals, c.in_ok-arg-4.ensures.globals, c.in_ok-arg-3.ensures.globals, c.in_ok-arg-2.ensures.globals, c.in_ok-arg.ensures.globals, c.new.ensures.local, c.option.ensures.local, c.option-2.ensures.local, c.option-3.ensures.local, c.option-4.ensures.local) c.flag.ensures.local) c.arg-5.ensures
+    IfOk-weaker c.arg-6.result _ _ (λ r h. rw (h.globals, c.in_ok-arg-5.ensures.globals, c.in_ok-arg-4.ensures.globals, c.in_ok-arg-3.ensures.globals, c.in_ok-arg-2.ensures.globals, c.in_ok-arg.ensures.globals, c.new.ensures.local, c.option.ensures.local, c.option-2.ensures.local, c.option-3.ensures.local, c.option-4.ensures.local, c.option-5.ensures.local) c.flag.ensures.local) c.arg-6.ensures

@@ -14,10 +14,10 @@ pub returns-in-Some : goal.returns-in-Some
 returns-in-Some c =
     let found = found_of c.in-Some.found.now in
     let first = c.if-not-is_word.ensures.0 refl in
-    rw c.options_in.ensures (options_read (map string_bytes c.args.words.now) (map string_bytes c.in_ok-first.options.now) (rows_of found) _ _ _ _ _
+    rw c.options_in.ensures (options_read (map string_bytes c.args.words.now) (map string_bytes c.in_ok-first.options.now) (rows_of found) _ _ _ _ _ _
     (ap (map string_bytes) c.in_ok-first.ensures.cases.0 ∙ ap (λ x. x ∷ map string_bytes c.in_ok-first.options.now) first)
     (search rules) c.requires.taken (c.in-Some.ensures.rows ∙ ap (option_map (λ p. p.1)) c.requires.found)
-    (c.get_str.ensures ∙ first_value-rows found (codes "workers")) (c.get_str-in-Some.ensures ∙ first_value-rows found (codes "fuel")) (c.get_str-in-Some-2.ensures ∙ first_value-rows found (codes "split")) (c.get_str-in-Some-3.ensures ∙ first_value-rows found (codes "pool"))
+    (c.get_str.ensures ∙ first_value-rows found (codes "workers")) (c.get_str-in-Some.ensures ∙ first_value-rows found (codes "fuel")) (c.get_str-in-Some-2.ensures ∙ first_value-rows found (codes "split")) (c.get_str-in-Some-3.ensures ∙ first_value-rows found (codes "pool")) (c.get_str-in-Some-4.ensures ∙ first_value-rows found (codes "cert"))
     (λ e. c.get_flag.ensures.value (one_text-rows found (codes "answer-only") ∙ e)) (λ e. c.get_flag.ensures.other (one_text-rows found (codes "answer-only") ∙ e)))
 
 pub returns-in-None : goal.returns-in-None
