@@ -25,4 +25,4 @@ pub use error::CheckError;
 pub use fapp_model::NoMemory;
 pub use marks::Marks;
 pub use plan::judge_plan;
-pub use root::judge_root;
+pub use root::{judge_root, root_fault};

@@ -65,9 +65,9 @@ pub fn judge_root(instance: &Instance, answer: &Answer) -> Option<Rejected>
     rejected_at(0, fault_of(claimed, found))
 }
 
-/// The fault of an answer's root, by the index of its lines.
+/// What `judge_root` answers, by the index of the answer's lines: it goes through the lines once, and takes no memory.
 #[tactic(auto, unfolding(cert_lines::specs::acceptance::RootFaults::root_fault))]
-pub(crate) fn root_fault(instance: &Instance, answer: &Answer, marks: &Marks) -> Option<Rejected>
+pub fn root_fault(instance: &Instance, answer: &Answer, marks: &Marks) -> Option<Rejected>
     requires answer { IsWellFormed instance.now answer.now }
     requires marks { IsMarks instance.now answer.now.lines marks.now }
     ensures { result ≡ option_map (rejected_at 0) (root_fault instance.now answer.now.verdict answer.now.lines) }

@@ -4,14 +4,16 @@ use Rattle.std.specs.Prelude.{IfSome, codes, option_and_then, unwrap_or}
 use Rattle.std.proofs.lemmas.Bool.{and_parts, leb-true}
 use Rattle.fapp_text.specs.Numbers.{number_of}
 use Rattle.fapp_text.specs.declared.numeral.NumFault.{NumFault}
+use Rattle.fapp_words.specs.declared.options.CheckOptions.{CheckOptions}
 use Rattle.fapp_words.specs.declared.options.SolveOptions.{SolveOptions}
 use Rattle.fapp_words.specs.declared.request.Request.{Request}
 use Rattle.fapp_words.specs.declared.request.Request.TheVariants.{Solve, Check, Gen, Demo}
 use Rattle.fapp_words.specs.declared.request.Seed.{Seed}
 use Rattle.fapp_words.specs.Solving.{cert, fuel, given, names, pool, split, text_of, workers}
-use Rattle.fapp_words.specs.Options.{IsPromised, ranged, within}
+use Rattle.fapp_words.specs.Options.{IsCheck, IsPromised, ranged, within}
 use Rattle.fapp_words.specs.Promises.{ArePromised, IsSeed}
 use Rattle.fapp_run.specs.Answers.{AreOptions}
+use Rattle.fapp_run.specs.Judgements.{AreCheckOptions}
 use Rattle.fapp_run.specs.Made.{AreRequested, AreSeed}
 
 -- a number in a range, where there is one
@@ -75,6 +77,21 @@ solve-in words options h =
     options-given (ranged 1 32 w) (ranged 0 1000000 f) (ranged 1 4096 s) (ranged 0 65536 p) (ranged 1 2 v) (names (codes "answer-only") h.pieces) options
     (ranged-in 1 32 w) (ranged-in 0 1000000 f) (ranged-in 1 4096 s) (ranged-in 0 65536 p) (ranged-in 1 2 v) h.values
 
+check-given : (w : Option (Option ℕ)) (options : CheckOptions) → ((o : Option ℕ) → w ≡ Some o → IsIn 1 32 o) → option_and_then (λ w'. Some (record { workers = unwrap_or w' 1 })) w ≡ Some options → AreCheckOptions options
+check-given None options hw e = absurd (cc)
+check-given (Some w) options hw e = subst AreCheckOptions (some-is _ options e) (record {
+  some_workers = (or-in 1 32 1 w (omega arith) (omega arith) (hw w refl)).0;
+  few_workers = (or-in 1 32 1 w (omega arith) (omega arith) (hw w refl)).1;
+})
+  where
+    some-is : (a b : CheckOptions) → Some a ≡ Some b → a ≡ b
+    some-is a b e = cc
+
+check-in : (words : List (List ℕ)) (options : CheckOptions) → IsCheck words options → AreCheckOptions options
+check-in words options h =
+    let w = given (text_of workers) h.pieces in
+    check-given (ranged 1 32 w) options (ranged-in 1 32 w) h.values
+
 seed-in : (name : List ℕ) (words : List (List ℕ)) (seed : Seed) → IsSeed name words seed → AreSeed seed
 seed-in name words seed h =
     let number = ranged-in 0 1000000000 (Some h.number) (Some seed.number) h.number_value in
@@ -83,6 +100,6 @@ seed-in name words seed h =
 
 pub asked-in : (words : List (List ℕ)) (request : Request) → ArePromised words request → AreRequested request
 asked-in words (Solve options) h = solve-in words options h
-asked-in words Check h = tt
+asked-in words (Check options) h = check-in words options h
 asked-in words (Gen seed) h = seed-in _ words seed h
 asked-in words (Demo seed) h = seed-in _ words seed h

@@ -15,6 +15,7 @@ use Rattle.cert_lines.specs.acceptance.Accepts.{Accepts}
 use Rattle.answer_writer.specs.declared.status.Status.{Status}
 use Rattle.answer_writer.specs.declared.status.Status.TheVariants.{Best, NoneFeasible, Open, Accepted, Written, Rejected, Usage, BadInput, BadAnswer, TooLong, NoAnswer, ReadFault, WriteFault, NoMemory}
 use Rattle.fapp_plan.specs.Plans.{split_of}
+use Rattle.fapp_words.specs.declared.options.CheckOptions.{CheckOptions}
 use Rattle.fapp_words.specs.declared.options.SolveOptions.{SolveOptions}
 use Rattle.fapp_words.specs.declared.request.Request.{Request}
 use Rattle.fapp_words.specs.declared.request.Request.TheVariants as requests
@@ -46,28 +47,28 @@ module _ (words : List (String Global)) where
   solve_only : (options : SolveOptions) (asked : Option Request) → Names words (requests.Solve options) → Asks words asked → (other : SolveOptions) × (asked ≡ Some (requests.Solve other))
   solve_only options None named h = absurd (h (requests.Solve options) named)
   solve_only options (Some (requests.Solve other)) named h = (other, refl)
-  solve_only options (Some requests.Check) named h = absurd (let e = ap first_letter (sym named.spelled ∙ h) in omega arith)
+  solve_only options (Some (requests.Check other)) named h = absurd (let e = ap first_letter (sym named.spelled ∙ h.spelled) in omega arith)
   solve_only options (Some (requests.Gen seed)) named h = absurd (let e = ap first_letter (sym named.spelled ∙ h.spelled) in omega arith)
   solve_only options (Some (requests.Demo seed)) named h = absurd (let e = ap first_letter (sym named.spelled ∙ h.spelled) in omega arith)
 
-  check_only : (asked : Option Request) → Names words requests.Check → Asks words asked → asked ≡ Some requests.Check
-  check_only None named h = absurd (h requests.Check named)
-  check_only (Some (requests.Solve other)) named h = absurd (let e = ap first_letter (sym named ∙ h.spelled) in omega arith)
-  check_only (Some requests.Check) named h = refl
-  check_only (Some (requests.Gen seed)) named h = absurd (let e = ap first_letter (sym named ∙ h.spelled) in omega arith)
-  check_only (Some (requests.Demo seed)) named h = absurd (let e = ap first_letter (sym named ∙ h.spelled) in omega arith)
+  check_only : (options : CheckOptions) (asked : Option Request) → Names words (requests.Check options) → Asks words asked → (other : CheckOptions) × (asked ≡ Some (requests.Check other))
+  check_only options None named h = absurd (h (requests.Check options) named)
+  check_only options (Some (requests.Solve other)) named h = absurd (let e = ap first_letter (sym named.spelled ∙ h.spelled) in omega arith)
+  check_only options (Some (requests.Check other)) named h = (other, refl)
+  check_only options (Some (requests.Gen seed)) named h = absurd (let e = ap first_letter (sym named.spelled ∙ h.spelled) in omega arith)
+  check_only options (Some (requests.Demo seed)) named h = absurd (let e = ap first_letter (sym named.spelled ∙ h.spelled) in omega arith)
 
   gen_only : (seed : Seed) (asked : Option Request) → Names words (requests.Gen seed) → Asks words asked → (other : Seed) × (asked ≡ Some (requests.Gen other))
   gen_only seed None named h = absurd (h (requests.Gen seed) named)
   gen_only seed (Some (requests.Solve options)) named h = absurd (let e = ap first_letter (sym named.spelled ∙ h.spelled) in omega arith)
-  gen_only seed (Some requests.Check) named h = absurd (let e = ap first_letter (sym named.spelled ∙ h) in omega arith)
+  gen_only seed (Some (requests.Check options)) named h = absurd (let e = ap first_letter (sym named.spelled ∙ h.spelled) in omega arith)
   gen_only seed (Some (requests.Gen other)) named h = (other, refl)
   gen_only seed (Some (requests.Demo other)) named h = absurd (let e = ap first_letter (sym named.spelled ∙ h.spelled) in omega arith)
 
   demo_only : (seed : Seed) (asked : Option Request) → Names words (requests.Demo seed) → Asks words asked → (other : Seed) × (asked ≡ Some (requests.Demo other))
   demo_only seed None named h = absurd (h (requests.Demo seed) named)
   demo_only seed (Some (requests.Solve options)) named h = absurd (let e = ap first_letter (sym named.spelled ∙ h.spelled) in omega arith)
-  demo_only seed (Some requests.Check) named h = absurd (let e = ap first_letter (sym named.spelled ∙ h) in omega arith)
+  demo_only seed (Some (requests.Check options)) named h = absurd (let e = ap first_letter (sym named.spelled ∙ h.spelled) in omega arith)
   demo_only seed (Some (requests.Gen other)) named h = absurd (let e = ap first_letter (sym named.spelled ∙ h.spelled) in omega arith)
   demo_only seed (Some (requests.Demo other)) named h = (other, refl)
 
@@ -168,31 +169,35 @@ not_accepted (verdicts.Open best lower level prefix) e = cc
 
 -- ---- runs
 
-module _ (words : List (String Global)) (source source' : SourceMoment) (bytes : List ℕ) (instance : Instance) (status : Status) (text : List ℕ) (left : source.left ≡ Some bytes) where
-  -- on the words of solve and a text of an instance
-  by_options : (options : SolveOptions) → Names words (requests.Solve options) → length bytes ≤ MAX_INPUT → instance_of_text bytes ≡ Ok instance → (Rose source.faults source'.faults → ⊥) → IsOutcomeOf (Solve options) source source' status text →
-      IsAnswer status × (IsEnoughFor words instance → status ≢ Open)
-  by_options options named short read sound h = elim (end_of (Solve options) source source' status text h) [
+module _ (source source' : SourceMoment) (bytes : List ℕ) (instance : Instance) (status : Status) (text : List ℕ) (left : source.left ≡ Some bytes) where
+  -- by some options and on a text of an instance
+  pub solution_ends : (options : SolveOptions) → length bytes ≤ MAX_INPUT → instance_of_text bytes ≡ Ok instance → (Rose source.faults source'.faults → ⊥) → IsOutcomeOf (Solve options) source source' status text →
+      IsAnswer status × (IsEnough (split_of instance options.split) (fuel_of options instance) → status ≢ Open)
+  solution_ends options short read sound h = elim (end_of (Solve options) source source' status text h) [
     | inl risen ↦ absurd (sound risen)
     | inr (inl long) ↦ absurd (let l = dropped source.left source'.left bytes (MAX_INPUT + 1) left long in omega arith)
     | inr (inr whole) ↦ (let e = ended options bytes instance status text short read (subst (λ b. Answers options b status text) (taken source.left source'.left bytes whole.bytes left whole.all) whole.answers) in
-        (is_answer status e.verdict e.is, λ enough. not_open status e.verdict e.is (e.closed (enough options named))))
+        (is_answer status e.verdict e.is, λ enough. not_open status e.verdict e.is (e.closed enough)))
   ]
 
+module _ (words : List (String Global)) (source source' : SourceMoment) (bytes : List ℕ) (instance : Instance) (status : Status) (text : List ℕ) (left : source.left ≡ Some bytes) where
+  -- on the words of solve and a text of an instance
   pub solve_ends : (options : SolveOptions) → Names words (requests.Solve options) → length bytes ≤ MAX_INPUT → instance_of_text bytes ≡ Ok instance → (Rose source.faults source'.faults → ⊥) → IsOutcome words source source' status text →
       IsAnswer status × (IsEnoughFor words instance → status ≢ Open)
   solve_ends options named short read sound (asked, asks, out) =
       let only = solve_only words options asked named asks in
-      by_options only.0 (subst (Asks words) only.1 asks) short read sound (subst (λ a. IsOutcomeFor a source source' status text) only.1 out)
+      let end = solution_ends source source' bytes instance status text left only.0 short read sound (subst (λ a. IsOutcomeFor a source source' status text) only.1 out) in
+      (end.0, λ enough. end.1 (enough only.0 (subst (Asks words) only.1 asks)))
 
-  -- on the word of check and an answer that is to be accepted
-  pub check_ends : (answer : Answer) → Names words requests.Check → length bytes ≤ MAX_CHECK_INPUT → IsCheckInput bytes instance answer → Accepts instance answer → (Rose source.faults source'.faults → ⊥) → IsOutcome words source source' status text → status ≡ Accepted
-  check_ends answer named short given accepts sound (asked, asks, out) =
-      let h : IsOutcomeOf Check source source' status text = subst (λ a. IsOutcomeFor a source source' status text) (check_only words asked named asks) out in
-      elim (end_of Check source source' status text h) [
+  -- on the words of check and an answer that is to be accepted
+  pub check_ends : (answer : Answer) (options : CheckOptions) → Names words (requests.Check options) → length bytes ≤ MAX_CHECK_INPUT → IsCheckInput bytes instance answer → Accepts instance answer → (Rose source.faults source'.faults → ⊥) → IsOutcome words source source' status text → status ≡ Accepted
+  check_ends answer options named short given accepts sound (asked, asks, out) =
+      let only = check_only words options asked named asks in
+      let h : IsOutcomeOf (Check only.0) source source' status text = subst (λ a. IsOutcomeFor a source source' status text) only.1 out in
+      elim (end_of (Check only.0) source source' status text h) [
         | inl risen ↦ absurd (sound risen)
         | inr (inl long) ↦ absurd (let l = dropped source.left source'.left bytes (MAX_CHECK_INPUT + 1) left long in omega arith)
-        | inr (inr whole) ↦ accepted bytes instance answer status text short given accepts (subst (λ b. AnswersTo Check b status text) (taken source.left source'.left bytes whole.bytes left whole.all) whole.answers)
+        | inr (inr whole) ↦ accepted bytes instance answer status text short given accepts (subst (λ b. AnswersTo (Check only.0) b status text) (taken source.left source'.left bytes whole.bytes left whole.all) whole.answers)
       ]
 
 -- on the words of gen
@@ -222,7 +227,7 @@ accepted_by source source' bytes text None left h = absurd (let e = h.1 in cc)
 accepted_by source source' bytes text (Some (requests.Gen seed)) left h = absurd (let e = h.1 in cc)
 accepted_by source source' bytes text (Some (requests.Demo seed)) left h = absurd (not_accepted h.1.shown.answer.verdict h.1.shown.status_is)
 accepted_by source source' bytes text (Some (requests.Solve options)) left h = absurd (not_accepted h.2.3.answer.verdict h.2.3.status_is)
-accepted_by source source' bytes text (Some requests.Check) left h =
+accepted_by source source' bytes text (Some (requests.Check options)) left h =
     subst IsProved (taken source.left source'.left bytes h.0 left h.1) (accepted_proved h.0 text h.2)
 
 pub accepted_ends : (words : List (String Global)) (source source' : SourceMoment) (bytes : List ℕ) (status : Status) (text : List ℕ)
@@ -258,14 +263,14 @@ module _ (source source' : SourceMoment) (text : List ℕ) where
   no_fault (Some (requests.Gen seed)) h = let e = h.1 in cc
   no_fault (Some (requests.Demo seed)) h = no_verdict_fault h.1.shown.answer.verdict h.1.shown.status_is
   no_fault (Some (requests.Solve options)) h = no_verdict_fault h.2.3.answer.verdict h.2.3.status_is
-  no_fault (Some requests.Check) h = no_judgement_fault h.0 text (halves h.0) h.2.1
+  no_fault (Some (requests.Check options)) h = no_judgement_fault h.0 text (halves h.0) h.2.1
 
   no_want : (asked : Option Request) → IsOutcomeFor asked source source' NoMemory text → ⊥
   no_want None h = let e = h.1 in cc
   no_want (Some (requests.Gen seed)) h = let e = h.1 in cc
   no_want (Some (requests.Demo seed)) h = no_verdict_want h.1.shown.answer.verdict h.1.shown.status_is
   no_want (Some (requests.Solve options)) h = no_verdict_want h.2.3.answer.verdict h.2.3.status_is
-  no_want (Some requests.Check) h = no_judgement_want h.0 text (halves h.0) h.2.1
+  no_want (Some (requests.Check options)) h = no_judgement_want h.0 text (halves h.0) h.2.1
 
   -- an outcome whose text was taken whole
   pub whole_run : (words : List (String Global)) (sink sink' : SinkMoment) (status : Status) → IsOutcome words source source' status text → TakesWhole sink sink' text → IsRun words source source' sink sink' status

@@ -1,5 +1,5 @@
 -- An answer as it is written in a version.
-use Rattle.std.proofs.Common.{◌≡◌, ℕ, ◌<◌, ◌≤◌, Bool, true, false, List, [], ◌∷◌, length, filter, map, get_or, refl, ap, sym, subst, ◌∙◌, inr, arith, All, eqb, cond}
+use Rattle.std.proofs.Common.{◌≡◌, ℕ, ◌<◌, ◌≤◌, Bool, true, false, List, [], ◌∷◌, length, map, get_or, refl, ap, sym, subst, ◌∙◌, inr, arith, All, eqb, cond}
 use Rattle.std.proofs.lemmas.List.Elements.{All-head, All-tail}
 use Rattle.fapp_model.specs.declared.instance.Instance.{Instance}
 use Rattle.fapp_model.specs.Instances.{IsNumber}
@@ -8,10 +8,8 @@ use Rattle.cert_lines.specs.declared.answer.Child.{Child}
 use Rattle.cert_lines.specs.declared.answer.Line.{Line}
 use Rattle.cert_lines.specs.declared.answer.Rule.{Rule}
 use Rattle.cert_lines.specs.declared.answer.Rule.TheVariants.{Branch, Count, Delete}
-use Rattle.cert_lines.specs.declared.answer.Verdict.{Verdict}
 use Rattle.cert_lines.specs.WellFormed.{IsWellFormed}
 use Rattle.cert_lines.specs.acceptance.Accepts.{Accepts}
-use Rattle.cert_lines.specs.acceptance.Deleted.{is_delete}
 use Rattle.cert_lines.proofs.Deleting.{IsPlain, entries-in, formed-plain, plain-lines}
 use Rattle.accept_laws.specs.Compacting.{IsCompactable, compacted}
 use Rattle.accept_laws.specs.Deletion.{compacted_answer}
@@ -22,7 +20,7 @@ use Rattle.accept_laws.proofs.CompactedForms.{compacted-formed}
 use Rattle.accept_laws.proofs.RootLines.{compacted-root}
 use Rattle.accept_laws.proofs.Versions.{compactable, compacted-count}
 use Rattle.merge_laws.specs.MergedLines.{HasNoCite}
-use Rattle.fapp_run.specs.Versions.{IsWritten, delete_lines, in_version}
+use Rattle.fapp_run.specs.Versions.{IsWritten, delete_lines}
 
 pub same-verdict : (instance : Instance) (version : ℕ) (answer written : Answer) → IsWritten instance version answer written → written.verdict ≡ answer.verdict
 same-verdict instance version answer written h = ap (λ (a : Answer). a.verdict) h.is ∙ by_version (eqb version 2)

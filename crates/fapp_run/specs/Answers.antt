@@ -10,6 +10,8 @@ use Rattle.answer_writer.specs.declared.status.Status.TheVariants.{Best, NoneFea
 use Rattle.answer_writer.specs.Refusals.{refusal_line}
 use Rattle.answer_writer.specs.Texts.{written_text}
 use Rattle.fapp_words.specs.declared.options.SolveOptions.{SolveOptions}
+use Rattle.fapp_run.specs.declared.outcome.Solution.{Solution}
+use Rattle.fapp_run.specs.declared.outcome.Solution.TheVariants.{Refused, Answered}
 use Rattle.fapp_run.specs.declared.outcome.TheConstants.{MAX_INPUT}
 use Rattle.fapp_run.specs.Solving.{IsAnswerFor}
 use Rattle.fapp_run.specs.Versions.{IsWritten}
@@ -53,3 +55,18 @@ Answers options bytes (BadInput refused) text =
 Answers options bytes status text =
     (length bytes ≤ MAX_INPUT)
     × (instance : Instance) × (instance_of_text bytes ≡ Ok instance) × IsSolved instance options status text
+
+-- an answer to an instance, in the version that is asked for
+pub record IsAnswerIn (instance : Instance) (options : SolveOptions) (written : Answer) : Type 0 where
+  pub answer : Answer
+  pub answers : IsAnswerFor instance options.split (fuel_of options instance) answer
+  pub writes : IsWritten instance options.cert answer written
+
+-- what an input is solved to: that it is longer than the limit, or its first refused line, or the instance whose text it
+-- is, with an answer
+abbrev pub Solves : SolveOptions → List ℕ → Solution → Type 0
+Solves options bytes (Refused TooLong) = MAX_INPUT < length bytes
+Solves options bytes (Refused (BadInput refused)) = (length bytes ≤ MAX_INPUT) × (instance_of_text bytes ≡ Err refused)
+Solves options bytes (Refused _) = ⊥
+Solves options bytes (Answered instance written) =
+    (length bytes ≤ MAX_INPUT) × (instance_of_text bytes ≡ Ok instance) × IsAnswerIn instance options written

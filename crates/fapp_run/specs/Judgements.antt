@@ -12,8 +12,14 @@ use Rattle.answer_writer.specs.declared.status.Status.{Status}
 use Rattle.answer_writer.specs.declared.status.Status.TheVariants.{Accepted, Rejected, BadInput, BadAnswer, TooLong, NoAnswer}
 use Rattle.answer_writer.specs.Refusals.{refusal_line}
 use Rattle.answer_writer.specs.Texts.{accepted_text}
+use Rattle.fapp_words.specs.declared.options.CheckOptions.{CheckOptions}
 use Rattle.fapp_run.specs.declared.judgement.TheConstants.{MAX_CHECK_INPUT}
 use Rattle.fapp_run.specs.Halves.{Halves, halves}
+
+-- options in their ranges
+pub record AreCheckOptions (options : CheckOptions) : Type 0 where
+  pub some_workers : 1 ≤ options.workers
+  pub few_workers : options.workers ≤ 32
 
 -- an answer that was read: it is accepted, with its verdict, or this is its first fault
 abbrev pub IsJudgedAnswer : Instance → Answer → Status → List ℕ → Type 0

@@ -10,6 +10,7 @@ use Rattle.fapp_words.specs.declared.request.Request.{Request}
 use Rattle.fapp_words.specs.declared.request.Request.TheVariants.{Solve, Check, Gen, Demo}
 use Rattle.fapp_words.specs.declared.request.Seed.{Seed}
 use Rattle.fapp_run.specs.Answers.{AreOptions, status_of}
+use Rattle.fapp_run.specs.Judgements.{AreCheckOptions}
 use Rattle.fapp_run.specs.Solving.{IsAnswerFor}
 
 -- a seed in its ranges
@@ -21,7 +22,7 @@ pub record AreSeed (seed : Seed) : Type 0 where
 -- a request in its ranges
 abbrev pub AreRequested : Request → Type 0
 AreRequested (Solve options) = AreOptions options
-AreRequested Check = Unit {0}
+AreRequested (Check options) = AreCheckOptions options
 AreRequested (Gen seed) = AreSeed seed
 AreRequested (Demo seed) = AreSeed seed
 

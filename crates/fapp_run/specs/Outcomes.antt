@@ -17,7 +17,7 @@ use Rattle.fapp_run.specs.declared.command.Command.TheVariants.{Solve, Check}
 use Rattle.fapp_run.specs.declared.judgement.TheConstants.{MAX_CHECK_INPUT}
 use Rattle.fapp_run.specs.declared.outcome.TheConstants.{MAX_INPUT}
 use Rattle.fapp_run.specs.Answers.{Answers, AreOptions}
-use Rattle.fapp_run.specs.Judgements.{Judges}
+use Rattle.fapp_run.specs.Judgements.{AreCheckOptions, Judges}
 use Rattle.fapp_run.specs.Made.{Demonstrates}
 
 -- the words ask for this
@@ -31,17 +31,17 @@ Asks words asked = ReadsWords (map string_bytes words) asked
 -- the most bytes of a command's input
 abbrev pub limit_of : Command → ℕ
 limit_of (Solve options) = MAX_INPUT
-limit_of Check = MAX_CHECK_INPUT
+limit_of (Check options) = MAX_CHECK_INPUT
 
 -- options in their ranges
 abbrev pub AreGiven : Command → Type 0
 AreGiven (Solve options) = AreOptions options
-AreGiven Check = Unit {0}
+AreGiven (Check options) = AreCheckOptions options
 
 -- what a command answers to the bytes of its input
 abbrev pub AnswersTo : Command → List ℕ → Status → List ℕ → Type 0
 AnswersTo (Solve options) bytes status text = Answers options bytes status text
-AnswersTo Check bytes status text = Judges bytes status text
+AnswersTo (Check options) bytes status text = Judges bytes status text
 
 -- The status and the text for a command and what the source had left. A fault stops within the limit, and an input
 -- that is too long is read to one byte past it. Each other was read to its end.
@@ -64,7 +64,7 @@ IsOutcomeFor (Some (requests.Gen seed)) source source' status text =
 IsOutcomeFor (Some (requests.Demo seed)) source source' status text =
     (source' ≡ source) × Demonstrates (network_text seed.number seed.paths) status text
 IsOutcomeFor (Some (requests.Solve options)) source source' status text = IsOutcomeOf (Solve options) source source' status text
-IsOutcomeFor (Some requests.Check) source source' status text = IsOutcomeOf Check source source' status text
+IsOutcomeFor (Some (requests.Check options)) source source' status text = IsOutcomeOf (Check options) source source' status text
 
 -- the status and the text for the words
 abbrev pub IsOutcome : List (String Global) → SourceMoment → SourceMoment → Status → List ℕ → Type 0
@@ -74,7 +74,7 @@ IsOutcome words source source' status text =
 -- where there was no memory: a front was read, up to one byte past the command's limit, and nothing for what reads none
 abbrev pub ReadsFor : Request → SourceMoment → SourceMoment → Type 0
 ReadsFor (requests.Solve options) source source' = DropsUpTo source.left source'.left (MAX_INPUT + 1)
-ReadsFor requests.Check source source' = DropsUpTo source.left source'.left (MAX_CHECK_INPUT + 1)
+ReadsFor (requests.Check options) source source' = DropsUpTo source.left source'.left (MAX_CHECK_INPUT + 1)
 ReadsFor (requests.Gen seed) source source' = source' ≡ source
 ReadsFor (requests.Demo seed) source source' = source' ≡ source
 

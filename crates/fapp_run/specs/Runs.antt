@@ -13,6 +13,7 @@ use Rattle.answer_writer.specs.declared.status.Status.{Status}
 use Rattle.answer_writer.specs.declared.status.Status.TheVariants.{Best, NoneFeasible, Open, Accepted, Written, WriteFault, NoMemory}
 use Rattle.fapp_gen.specs.Generated.{network_text}
 use Rattle.fapp_plan.specs.Plans.{split_of}
+use Rattle.fapp_words.specs.declared.options.CheckOptions.{CheckOptions}
 use Rattle.fapp_words.specs.declared.options.SolveOptions.{SolveOptions}
 use Rattle.fapp_words.specs.declared.request.Request.TheVariants as requests
 use Rattle.fapp_words.specs.declared.request.Seed.{Seed}
@@ -61,12 +62,12 @@ Completes words source source' sink sink' status =
     → source.left ≡ Some bytes → length bytes ≤ MAX_INPUT → instance_of_text bytes ≡ Ok instance
     → IsUnfailing source source' sink sink' → IsAnswer status × (IsEnoughFor words instance → status ≢ Open)
 
--- on the word of check, an instance with an answer that is to be accepted, within the limit, and no fault, the answer
+-- on the words of check, an instance with an answer that is to be accepted, within the limit, and no fault, the answer
 -- is accepted, or there was no memory
 abbrev pub CompletesCheck : List (String Global) → SourceMoment → SourceMoment → SinkMoment → SinkMoment → Status →
     Type 0
 CompletesCheck words source source' sink sink' status =
-    (bytes : List ℕ) (instance : Instance) (answer : Answer) → Names words requests.Check
+    (bytes : List ℕ) (instance : Instance) (answer : Answer) (options : CheckOptions) → Names words (requests.Check options)
     → source.left ≡ Some bytes → length bytes ≤ MAX_CHECK_INPUT → IsCheckInput bytes instance answer
     → Accepts instance answer → IsUnfailing source source' sink sink' → (status ≡ Accepted) ⊎ (status ≡ NoMemory)
 

@@ -1,4 +1,4 @@
-use fapp_words::SolveOptions;
+use fapp_words::{CheckOptions, SolveOptions};
 
 /// What is done with an input that is read.
 #[derive(Clone, Copy, Debug, PartialEq, Eq)]
@@ -6,5 +6,5 @@ pub enum Command {
     /// The instance is solved.
     Solve(SolveOptions),
     /// The answer behind the instance is checked.
-    Check,
+    Check(CheckOptions),
 }

@@ -13,11 +13,11 @@ mod top;
 mod version;
 
 pub use answer_writer::Status;
-pub use fapp_words::SolveOptions;
+pub use fapp_words::{CheckOptions, SolveOptions};
 pub use fapp_workers::{Gate, OpenGate};
 pub use judgement::{MAX_CHECK_INPUT, judge};
 pub use laws::{a_check_has_one_status, what_is_accepted_is_right};
-pub use outcome::{MAX_INPUT, Outcome, answer};
+pub use outcome::{MAX_INPUT, Outcome, Solution, answer, solve_input, status_of};
 pub use solving::solve_answer;
 pub use top::run;
 

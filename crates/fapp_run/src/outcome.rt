@@ -5,7 +5,7 @@ ghost use Rattle.cert_lines.specs.WellFormed.{IsWellFormed};
 ghost use Rattle.answer_writer.specs.Refusals.{refusal_line};
 ghost use Rattle.answer_writer.specs.Texts.{written_text};
 ghost use Rattle.fapp_workers.specs.Ranges.{AreInRange};
-ghost use Rattle.fapp_run.specs.Answers.{Answers, AreOptions, IsSolved, fuel_of, status_of};
+ghost use Rattle.fapp_run.specs.Answers.{Answers, AreOptions, IsAnswerIn, Solves, fuel_of, status_of};
 
 use crate::solving::solve_answer;
 use crate::version::in_version;
@@ -31,6 +31,15 @@ pub struct Outcome {
     pub text: Vec<u8>,
 }
 
+/// What the bytes of an input are solved to.
+#[derive(Drop)]
+pub enum Solution {
+    /// The input is refused, as `TooLong` or `BadInput`.
+    Refused(Status),
+    /// The instance, and an answer to it in the version that is asked for.
+    Answered { instance: Instance, answer: Answer },
+}
+
 /// The outcome for an input, given as its bytes: the answer to the instance whose text it is, the first refused line of
 /// another text, or `TooLong` for more than `MAX_INPUT` bytes. `run` answers just so to what it reads.
 pub fn answer<R: Threads + Sync, G: Gate>(
@@ -43,32 +52,54 @@ pub fn answer<R: Threads + Sync, G: Gate>(
     requires { AreOptions options.now }
     ensures { IfOk result (λ outcome. Answers options.now bytes.now outcome.status outcome.text.items) }
 {
+    match solve_input(rt, alloc, bytes, options, gate)? {
+        Solution::Refused(status) => refusal(alloc, status),
+        Solution::Answered { instance, answer } => {
+            told(alloc, &instance, &answer, options.answer_only)
+        }
+    }
+}
+
+/// What an input is solved to, given as its bytes: the instance whose text it is, with an answer; or a refusal, `BadInput`
+/// with the first refused line of another text, and `TooLong` for more than `MAX_INPUT` bytes. No text is made.
+pub fn solve_input<R: Threads + Sync, G: Gate>(
+    rt: &R,
+    alloc: Global,
+    bytes: &[u8],
+    options: &SolveOptions,
+    gate: &G,
+) -> Result<Solution, NoMemory>
+    requires { AreOptions options.now }
+    ensures { IfOk result (Solves options.now bytes.now) }
+{
     if bytes.len() > MAX_INPUT {
-        return refusal(alloc, Status::TooLong);
+        return Ok(Solution::Refused(Status::TooLong));
     }
     match read_instance(alloc, bytes) {
-        Ok(instance) => solved(rt, alloc, &instance, options, gate),
-        Err(ReadError::Bad(bad)) => refusal(alloc, Status::BadInput(bad)),
+        Ok(instance) => {
+            let answer = solved(rt, alloc, &instance, options, gate)?;
+            Ok(Solution::Answered { instance, answer })
+        }
+        Err(ReadError::Bad(bad)) => Ok(Solution::Refused(Status::BadInput(bad))),
         Err(ReadError::NoMemory) => Err(NoMemory),
     }
 }
 
-/// The answer to an instance, as an outcome.
+/// An answer to an instance, in the version that is asked for.
 fn solved<R: Threads + Sync, G: Gate>(
     rt: &R,
     alloc: Global,
     instance: &Instance,
     options: &SolveOptions,
     gate: &G,
-) -> Result<Outcome, NoMemory>
+) -> Result<Answer, NoMemory>
     requires instance { IsInstance instance.now }
     requires options { AreOptions options.now }
-    ensures { IfOk result (λ outcome. IsSolved instance.now options.now outcome.status outcome.text.items) }
+    ensures { IfOk result (IsAnswerIn instance.now options.now) }
 {
     let settings = settings_for(instance, options);
     let answer = solve_answer(rt, alloc, instance, &settings, gate)?;
-    let written = in_version(alloc, instance, answer, options.cert)?;
-    told(alloc, instance, &written, options.answer_only)
+    in_version(alloc, instance, answer, options.cert)
 }
 
 /// An answer with its status.

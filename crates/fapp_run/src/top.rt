@@ -37,7 +37,7 @@ pub fn run<R: Threads + Sync, S: Source, K: Sink, G: Gate>(
     ensures completes { Completes words.now (S.moment source.old) (S.moment source.new)
         (K.moment sink.old) (K.moment sink.new) result }
 
-    // On the word of check, an instance with an answer that is to be accepted and no fault, it is accepted.
+    // On the words of check, an instance with an answer that is to be accepted and no fault, it is accepted.
     ensures completes_check { CompletesCheck words.now (S.moment source.old) (S.moment source.new)
         (K.moment sink.old) (K.moment sink.new) result }
 
@@ -93,7 +93,7 @@ fn requested<R: Threads + Sync, S: Source, G: Gate>(
 {
     match request {
         Request::Solve(options) => commanded(rt, alloc, Command::Solve(options), source, gate),
-        Request::Check => commanded(rt, alloc, Command::Check, source, gate),
+        Request::Check(options) => commanded(rt, alloc, Command::Check(options), source, gate),
         Request::Gen(seed) => generated(alloc, seed),
         Request::Demo(seed) => demonstrated(rt, alloc, seed, gate),
     }
@@ -127,7 +127,7 @@ fn limit_of(command: Command) -> usize
 {
     match command {
         Command::Solve(_) => MAX_INPUT,
-        Command::Check => MAX_CHECK_INPUT,
+        Command::Check(_) => MAX_CHECK_INPUT,
     }
 }
 
@@ -143,6 +143,6 @@ fn outcome_by<R: Threads + Sync, G: Gate>(
 {
     match command {
         Command::Solve(options) => answer(rt, alloc, bytes, &options, gate),
-        Command::Check => judge(alloc, bytes),
+        Command::Check(options) => judge(rt, alloc, bytes, &options),
     }
 }

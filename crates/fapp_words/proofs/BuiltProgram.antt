@@ -28,6 +28,9 @@ flag_rule = record (new_rule (codes "answer-only")) {
 abbrev pub rules : List Rule
 rules = option_rule (codes "workers") ∷ option_rule (codes "fuel") ∷ option_rule (codes "split") ∷ option_rule (codes "pool") ∷ option_rule (codes "cert") ∷ flag_rule ∷ []
 
+abbrev pub check_rules : List Rule
+check_rules = option_rule (codes "workers") ∷ []
+
 abbrev pub leaf : Text → List Rule → Shape
 leaf name rules = record (new_shape name) {
   rules = rules;
@@ -60,7 +63,7 @@ top = record (new_shape (codes "zilmaute")) {
 }
 
 abbrev pub whole : App
-whole = record { top = top; subs = leaf (codes "solve") rules ∷ leaf (codes "check") [] ∷ leaf (codes "gen") places ∷ leaf (codes "demo") places ∷ [] }
+whole = record { top = top; subs = leaf (codes "solve") rules ∷ leaf (codes "check") check_rules ∷ leaf (codes "gen") places ∷ leaf (codes "demo") places ∷ [] }
 
 pub built_is : built program ≡ whole
 built_is = refl

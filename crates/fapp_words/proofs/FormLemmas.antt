@@ -10,7 +10,7 @@ use Rattle.std.proofs.lemmas.List.Elements.{All-nil, All-cons, All-head, All-tai
 use Rattle.std.proofs.lemmas.Slice.Eq.{bytes_eq-Decides}
 use Rattle.clap.proofs.WalkLemmas.{both}
 use Rattle.clap.specs.Words.{Text}
-use Rattle.fapp_words.specs.Solving.{Name, text_of, workers, fuel, split, pool, cert, Piece, apart, joined, bare, words_of, HasNumeral, is_short_numeral, is_name, is_joined, is_bare, split_equals, are_pieces}
+use Rattle.fapp_words.specs.Solving.{Name, text_of, workers, fuel, split, pool, cert, Piece, apart, joined, bare, words_of, HasNumeral, is_short_numeral, is_name, is_joined, is_bare, split_equals, are_pieces, is_workers}
 
 -- the words that are some pieces
 abbrev pub ArePieces : List Text → Type 0
@@ -43,6 +43,10 @@ joined_passes : (name : Name) (v : Text) → is_short_numeral v ≡ true → is_
 unfolding joined_word
 joined_passes name v digits = ap (λ o. option_map_or (λ p. is_name p.0 && is_short_numeral p.1) o false) (split_here name v) ∙ rw (name_passes name) digits
 
+pub workers_pass : (v : Text) → is_short_numeral v ≡ true → is_workers (codes "--workers=" ++ v) ≡ true
+unfolding joined_word
+workers_pass v digits = ap (λ o. option_map_or (λ p. bytes_eq p.0 (codes "--workers") && is_short_numeral p.1) o false) (split_here workers v) ∙ digits
+
 pub pieces_pass : (ps : List Piece) → All HasNumeral ps → are_pieces false (flat_map words_of ps) ≡ true
 pieces_pass [] h = refl
 pieces_pass (apart workers v ∷ ps) h = rw (All-head HasNumeral (apart workers v) ps h) (pieces_pass ps (All-tail HasNumeral (apart workers v) ps h))
@@ -59,7 +63,7 @@ pieces_pass (bare ∷ ps) h = pieces_pass ps (All-tail HasNumeral bare ps h)
 
 -- ---- words in their forms are pieces
 
-bytes_same : (xs ys : Text) → bytes_eq xs ys ≡ true → xs ≡ ys
+pub bytes_same : (xs ys : Text) → bytes_eq xs ys ≡ true → xs ≡ ys
 bytes_same xs ys e = (bytes_eq-Decides xs ys).0 e
 
 either : (a b : Bool) → (a || b) ≡ true → (a ≡ true) ⊎ (b ≡ true)
@@ -103,18 +107,20 @@ cut_join (x ∷ xs) inside = go (x == 61) refl (cut_join xs)
         let within : position_or_len is_equals xs < length xs = omega (arith, rw e at inside) in
         rw e (ap (λ ys. x ∷ ys) (rest within) ∙ cut_later (position_or_len is_equals xs) (1 + position_or_len is_equals xs) x xs (omega arith))
 
-cut_word : (word : Text) → is_joined word ≡ true → (a : Text) × (b : Text) × (word ≡ a ++ 61 ∷ b) × (is_name a ≡ true) × (is_short_numeral b ≡ true)
-cut_word word e = go (nat_lt (position_or_len is_equals word) (length word)) refl
+-- a word that is a name that passes a test, a `=` and a numeral
+pub cut_by : (test : Text → Bool) (word : Text) → option_map_or (λ p. test p.0 && is_short_numeral p.1) (split_equals word) false ≡ true →
+    (a : Text) × (b : Text) × (word ≡ a ++ 61 ∷ b) × (test a ≡ true) × (is_short_numeral b ≡ true)
+cut_by test word e = go (nat_lt (position_or_len is_equals word) (length word)) refl
   where
-    go : (t : Bool) → nat_lt (position_or_len is_equals word) (length word) ≡ t → (a : Text) × (b : Text) × (word ≡ a ++ 61 ∷ b) × (is_name a ≡ true) × (is_short_numeral b ≡ true)
+    go : (t : Bool) → nat_lt (position_or_len is_equals word) (length word) ≡ t → (a : Text) × (b : Text) × (word ≡ a ++ 61 ∷ b) × (test a ≡ true) × (is_short_numeral b ≡ true)
     go false so = absurd (false≢true (rw so at e))
     go true so =
-        let parts = both (is_name (before_first is_equals word)) (is_short_numeral (after_first is_equals word)) (rw so at e) in
+        let parts = both (test (before_first is_equals word)) (is_short_numeral (after_first is_equals word)) (rw so at e) in
         (before_first is_equals word, after_first is_equals word, cut_join word (ltb-true _ _ so), parts.0, parts.1)
 
 joined_of : (word : Text) → is_joined word ≡ true → (name : Name) × (v : Text) × (word ≡ codes "--" ++ (text_of name ++ (codes "=" ++ v))) × (is_short_numeral v ≡ true)
 joined_of word e =
-    let cut = cut_word word e in
+    let cut = cut_by is_name word e in
     let name = name_of cut.0 cut.3 in
     (name.0, cut.1, cut.2 ∙ (ap (λ a. a ++ 61 ∷ cut.1) name.1 ∙ append_assoc (codes "--") (text_of name.0) (61 ∷ cut.1)), cut.4)
 

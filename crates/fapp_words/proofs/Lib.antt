@@ -7,4 +7,6 @@ pub mod SolveValues
 pub mod FormLemmas
 pub mod ReadingLemmas
 pub mod MakerLevel
+pub mod CheckLevel
+pub mod CheckLemmas
 pub mod RequestLemmas

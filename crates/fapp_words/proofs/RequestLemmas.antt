@@ -2,8 +2,8 @@
 use Rattle.std.proofs.Common.{◌≡◌, ℕ, List, [], ◌∷◌, true, Option, Some, None, codes, get_or, refl, ap, ◌∙◌, sym, arith}
 use Rattle.std.specs.Prelude.{length, option_map, option_and_then}
 use Rattle.clap.specs.Words.{Row, Text, fault_of, first_of, subcommand_of}
-use Rattle.clap.proofs.OnLiterals.{clap_on_literals}
 use Rattle.fapp_words.specs.declared.options.SolveOptions.{SolveOptions}
+use Rattle.fapp_words.specs.declared.options.CheckOptions.{CheckOptions}
 use Rattle.fapp_words.specs.declared.request.Seed.{Seed}
 use Rattle.fapp_words.specs.declared.request.Request.{Request}
 use Rattle.fapp_words.specs.declared.request.Request.TheVariants.{Solve, Check, Gen, Demo}
@@ -11,14 +11,11 @@ use Rattle.fapp_words.specs.declared.request.Maker.{Maker}
 use Rattle.fapp_words.specs.declared.request.Maker.TheVariants as maker
 use Rattle.fapp_words.specs.Commands.{maker_name, program}
 use Rattle.fapp_words.specs.Solving.{is_short_numeral}
-use Rattle.fapp_words.specs.Options.{ReadsSolve, seed_in, ranged}
+use Rattle.fapp_words.specs.Options.{ReadsSolve, ReadsCheck, seed_in, ranged}
 use Rattle.fapp_words.specs.Promises.{ArePromised, IsSeed, ReadsSeed, ReadsWords}
 use Rattle.fapp_words.proofs.ReadingLemmas.{none_some, plain_of, promised_taken, some_same}
 use Rattle.fapp_words.proofs.MakerLevel.{made_found, made_taken}
-
-check_taken : fault_of program (codes "check" ∷ []) ≡ []
-unfolding clap_on_literals
-check_taken = refl
+use Rattle.fapp_words.proofs.CheckLemmas.{check_taken}
 
 seed_taken : (maker : Maker) (words : List Text) (seed : Seed) → IsSeed (maker_name maker) words seed → fault_of program words ≡ []
 seed_taken maker words seed promised = ap (fault_of program) promised.spelled ∙ made_taken maker promised.number promised.paths (plain_of promised.number promised.number_form) (plain_of promised.paths promised.paths_form)
@@ -26,7 +23,7 @@ seed_taken maker words seed promised = ap (fault_of program) promised.spelled �
 -- clap takes what is promised
 pub request_taken : (words : List Text) (request : Request) → ArePromised words request → fault_of program words ≡ []
 request_taken words (Solve options) promised = promised_taken words options promised
-request_taken words Check promised = ap (fault_of program) promised ∙ check_taken
+request_taken words (Check options) promised = check_taken words options promised
 request_taken words (Gen seed) promised = seed_taken maker.Gen words seed promised
 request_taken words (Demo seed) promised = seed_taken maker.Demo words seed promised
 
@@ -41,7 +38,17 @@ reads_solve words first None h = λ request promised. other request promised
   where
     other : (request : Request) → ArePromised words request → ⊥
     other (Solve options) promised = h options promised
-    other Check promised = absurd (omega (arith, first, ap letter promised))
+    other (Check options) promised = absurd (omega (arith, first, ap letter promised.spelled))
+    other (Gen seed) promised = absurd (omega (arith, first, ap letter promised.spelled))
+    other (Demo seed) promised = absurd (omega (arith, first, ap letter promised.spelled))
+
+pub reads_check : (words : List Text) → letter words ≡ 99 → (o : Option CheckOptions) → ReadsCheck words o → ReadsWords words (option_map Check o)
+reads_check words first (Some options) h = h
+reads_check words first None h = λ request promised. other request promised
+  where
+    other : (request : Request) → ArePromised words request → ⊥
+    other (Solve options) promised = absurd (omega (arith, first, ap letter promised.spelled))
+    other (Check options) promised = h options promised
     other (Gen seed) promised = absurd (omega (arith, first, ap letter promised.spelled))
     other (Demo seed) promised = absurd (omega (arith, first, ap letter promised.spelled))
 
@@ -51,7 +58,7 @@ reads_gen words first None h = λ request promised. other request promised
   where
     other : (request : Request) → ArePromised words request → ⊥
     other (Solve options) promised = absurd (omega (arith, first, ap letter promised.spelled))
-    other Check promised = absurd (omega (arith, first, ap letter promised))
+    other (Check options) promised = absurd (omega (arith, first, ap letter promised.spelled))
     other (Gen seed) promised = h seed promised
     other (Demo seed) promised = absurd (omega (arith, first, ap letter promised.spelled))
 
@@ -61,7 +68,7 @@ reads_demo words first None h = λ request promised. other request promised
   where
     other : (request : Request) → ArePromised words request → ⊥
     other (Solve options) promised = absurd (omega (arith, first, ap letter promised.spelled))
-    other Check promised = absurd (omega (arith, first, ap letter promised))
+    other (Check options) promised = absurd (omega (arith, first, ap letter promised.spelled))
     other (Gen seed) promised = absurd (omega (arith, first, ap letter promised.spelled))
     other (Demo seed) promised = h seed promised
 

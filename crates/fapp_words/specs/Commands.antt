@@ -22,7 +22,7 @@ abbrev pub solve_shape : Shape
 solve_shape = with_rules (codes "solve") (option_rule (codes "workers") ∷ option_rule (codes "fuel") ∷ option_rule (codes "split") ∷ option_rule (codes "pool") ∷ option_rule (codes "cert") ∷ flag_rule (codes "answer-only") ∷ [])
 
 abbrev pub check_shape : Shape
-check_shape = new_shape (codes "check")
+check_shape = with_rules (codes "check") (option_rule (codes "workers") ∷ [])
 
 abbrev pub two_places : Text → Shape
 two_places name = with_rules name (place_rule (codes "number") ∷ place_rule (codes "paths") ∷ [])

@@ -1,12 +1,13 @@
--- What the words of `solve` ask for.
+-- What the options of a command ask for.
 use Rattle.std.specs.Prelude.{◌≡◌, ℕ, Bool, ◌&&◌, nat_le, List, [], ◌∷◌, Option, Some, None, Result, Ok, Err, codes, flat_map, unwrap_or, option_and_then, if◌then◌else◌}
 use Rattle.std.specs.List.{All}
 use Rattle.clap.specs.Words.{Text}
 use Rattle.fapp_text.specs.Numbers.{number_of}
 use Rattle.fapp_text.specs.declared.numeral.NumFault.{NumFault}
 use Rattle.fapp_words.specs.declared.options.SolveOptions.{SolveOptions}
+use Rattle.fapp_words.specs.declared.options.CheckOptions.{CheckOptions}
 use Rattle.fapp_words.specs.declared.request.Seed.{Seed}
-use Rattle.fapp_words.specs.Solving.{Piece, words_of, HasNumeral, AreNew, given, names, text_of, workers, fuel, split, pool, cert}
+use Rattle.fapp_words.specs.Solving.{Piece, words_of, key_of, HasNumeral, AreNew, given, names, text_of, workers, fuel, split, pool, cert}
 
 abbrev pub within : ℕ → ℕ → Result ℕ NumFault → Option (Option ℕ)
 within low high (Ok n) = if nat_le low n && nat_le n high then Some (Some n) else None
@@ -23,6 +24,10 @@ options_in w f s p c only =
     option_and_then (λ w'. option_and_then (λ f'. option_and_then (λ s'. option_and_then (λ p'. option_and_then (λ c'.
     Some (record { workers = unwrap_or w' 4; fuel = f'; split = unwrap_or s' 64; pool = unwrap_or p' 4096; cert = unwrap_or c' 1; answer_only = only }))
     (ranged 1 2 c)) (ranged 0 65536 p)) (ranged 1 4096 s)) (ranged 0 1000000 f)) (ranged 1 32 w)
+
+-- the options of `check` for the value of its option, where the number is in its range
+abbrev pub check_in : Option Text → Option CheckOptions
+check_in w = option_and_then (λ w'. Some (record { workers = unwrap_or w' 1 })) (ranged 1 32 w)
 
 -- a seed for two values, where each is written and in its range
 abbrev pub seed_in : Option Text → Option Text → Option Seed
@@ -45,3 +50,17 @@ pub record IsPromised (words : List Text) (options : SolveOptions) : Type 0 wher
 abbrev pub ReadsSolve : List Text → Option SolveOptions → Type 0
 ReadsSolve words (Some options) = IsPromised words options
 ReadsSolve words None = (options : SolveOptions) → IsPromised words options → ⊥
+
+-- the words are `check` and its option `workers`, at most once and with a number in its range, and these are the options
+pub record IsCheck (words : List Text) (options : CheckOptions) : Type 0 where
+  pub pieces : List Piece
+  pub spelled : words ≡ codes "check" ∷ flat_map words_of pieces
+  pub alone : All (λ p. key_of p ≡ text_of workers) pieces
+  pub numerals : All HasNumeral pieces
+  pub once : AreNew [] pieces
+  pub values : check_in (given (text_of workers) pieces) ≡ Some options
+
+-- the options of `check`, exactly where the words are promised
+abbrev pub ReadsCheck : List Text → Option CheckOptions → Type 0
+ReadsCheck words (Some options) = IsCheck words options
+ReadsCheck words None = (options : CheckOptions) → IsCheck words options → ⊥

@@ -7,7 +7,7 @@ use Rattle.fapp_words.specs.declared.request.Request.TheVariants.{Solve, Check, 
 use Rattle.fapp_words.specs.declared.request.Maker.{Maker}
 use Rattle.fapp_words.specs.Commands.{maker_name}
 use Rattle.fapp_words.specs.Solving.{is_short_numeral}
-use Rattle.fapp_words.specs.Options.{IsPromised, ranged}
+use Rattle.fapp_words.specs.Options.{IsPromised, IsCheck, ranged}
 
 -- two numerals behind the name of a command, each in its range
 pub record IsSeed (name : Text) (words : List Text) (seed : Seed) : Type 0 where
@@ -21,7 +21,7 @@ pub record IsSeed (name : Text) (words : List Text) (seed : Seed) : Type 0 where
 
 abbrev pub ArePromised : List Text → Request → Type 0
 ArePromised words (Solve options) = IsPromised words options
-ArePromised words Check = words ≡ codes "check" ∷ []
+ArePromised words (Check options) = IsCheck words options
 ArePromised words (Gen seed) = IsSeed (codes "gen") words seed
 ArePromised words (Demo seed) = IsSeed (codes "demo") words seed
 

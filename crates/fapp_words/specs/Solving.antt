@@ -1,4 +1,4 @@
--- The words of `solve`.
+-- The words of `solve` and `check`.
 use Rattle.std.specs.Prelude.{◌≡◌, ◌&&◌, ◌||◌, ◌==◌, Bool, not, nat_le, nat_lt, true, false, List, [], ◌∷◌, ◌++◌, length, Option, Some, None, codes, find, option_map, if◌then◌else◌}
 use Rattle.std.specs.List.{list_any}
 use Rattle.std.specs.Str.{bytes_eq}
@@ -88,3 +88,14 @@ abbrev pub are_pieces : Bool → List Text → Bool
 are_pieces wanted [] = not wanted
 are_pieces true (word ∷ rest) = is_short_numeral word && are_pieces false rest
 are_pieces false (word ∷ rest) = if is_name word then are_pieces true rest else ((is_bare word || is_joined word) && are_pieces false rest)
+
+-- the word is `--workers=VALUE`
+abbrev pub is_workers : Text → Bool
+is_workers word = option_map_or (λ p. bytes_eq p.0 (codes "--workers") && is_short_numeral p.1) (split_equals word) false
+
+-- the words of `check` behind its name: none, or the option `workers` with its value
+abbrev pub is_at_most_workers : List Text → Bool
+is_at_most_workers [] = true
+is_at_most_workers (word ∷ []) = is_workers word
+is_at_most_workers (name ∷ value ∷ []) = bytes_eq name (codes "--workers") && is_short_numeral value
+is_at_most_workers (word ∷ name ∷ value ∷ rest) = false

@@ -45,6 +45,13 @@ fn solve<'a>(alloc: Global) -> Result<Command<'a>, AllocError>
         .arg(flag(alloc, "answer-only"))
 }
 
+fn check<'a>(alloc: Global) -> Result<Command<'a>, AllocError>
+    ensures shape { IfOk result (λ c. shape_of c ≡ check_shape) }
+    ensures local { IfOk result (λ c. (out-Command c).has_globals ≡ false) }
+{
+    Command::new(alloc, "check").arg(option(alloc, "workers"))
+}
+
 /// A command that takes a number and a number of paths.
 fn with_two_places<'a>(alloc: Global, name: &'a str) -> Result<Command<'a>, AllocError>
     ensures shape { IfOk result (λ c. shape_of c ≡ two_places name.entry.now) }
@@ -65,7 +72,7 @@ pub(crate) fn program<'a>(alloc: Global) -> Result<Command<'a>, AllocError>
         .disable_help_subcommand(true)
         .subcommand_required(true)
         .subcommand(solve(alloc)?)?
-        .subcommand(Command::new(alloc, "check"))?
+        .subcommand(check(alloc)?)?
         .subcommand(with_two_places(alloc, "gen")?)?
         .subcommand(with_two_places(alloc, "demo")?)
 }

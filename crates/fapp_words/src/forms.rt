@@ -1,9 +1,9 @@
-//! The forms that the words of `solve` have.
+//! The forms that the words of `solve` and `check` have.
 
 ghost use Rattle.std.specs.Prelude.{◌≡◌, map, string_bytes, false};
 ghost use Rattle.std.specs.List.{list_all};
 ghost use Rattle.fapp_text.specs.Numbers.{is_digit};
-ghost use Rattle.fapp_words.specs.Solving.{is_short_numeral, is_name, is_joined, is_bare, are_pieces};
+ghost use Rattle.fapp_words.specs.Solving.{is_short_numeral, is_name, is_joined, is_bare, are_pieces, is_workers, is_at_most_workers};
 
 /// Whether each word has its form: options with their values, and `--answer-only`.
 pub(crate) fn are_pieces(words: &[String]) -> bool
@@ -24,6 +24,28 @@ pub(crate) fn are_pieces(words: &[String]) -> bool
         }
     }
     !wanted
+}
+
+/// Whether the words are none, or the option `--workers` with its value.
+pub(crate) fn is_at_most_workers(words: &[String]) -> bool
+    ensures { result ≡ is_at_most_workers (map string_bytes words.now) }
+{
+    match words {
+        [] => true,
+        [word] => is_workers(word.as_str()),
+        [name, value] => name.as_str() == "--workers" && is_short_numeral(value.as_str()),
+        _ => false,
+    }
+}
+
+/// Whether a word is `--workers=VALUE`.
+fn is_workers(word: &str) -> bool
+    ensures { result ≡ is_workers word.now }
+{
+    match word.split_once('=') {
+        Some((name, value)) => name == "--workers" && is_short_numeral(value),
+        None => false,
+    }
 }
 
 /// Whether a text has 1 to 10 decimal digits and nothing else.

@@ -8,7 +8,7 @@ mod reading;
 mod request;
 
 pub use fapp_text::NoMemory;
-pub use options::SolveOptions;
+pub use options::{CheckOptions, SolveOptions};
 pub use reading::read_words;
 pub use request::{Request, Seed};
 

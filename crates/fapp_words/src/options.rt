@@ -1,7 +1,7 @@
 //! The options of a command and their ranges.
 
 ghost use Rattle.std.specs.Prelude.{◌≡◌, option_map};
-ghost use Rattle.fapp_words.specs.Options.{ranged, options_in, seed_in};
+ghost use Rattle.fapp_words.specs.Options.{ranged, options_in, check_in, seed_in};
 
 use crate::request::Seed;
 use fapp_text::number;
@@ -21,6 +21,13 @@ pub struct SolveOptions {
     pub cert: u32,
     /// Whether the plan is written alone.
     pub answer_only: bool,
+}
+
+/// How `check` is to work.
+#[derive(Clone, Copy, Debug, PartialEq, Eq)]
+pub struct CheckOptions {
+    /// The threads that judge lines side by side, 1 to 32. It is 1 where no number is named, and then lines are judged one after another.
+    pub workers: u32,
 }
 
 /// The options for their values, where each number is in its range.
@@ -48,6 +55,14 @@ pub(crate) fn options_in(
         cert: cert.unwrap_or(1),
         answer_only,
     })
+}
+
+/// The options of `check` for the value of its option, where the number is in its range.
+pub(crate) fn check_in(workers: Option<&str>) -> Option<CheckOptions>
+    ensures { result ≡ check_in (option_map (λ s. s.now) workers.entry) }
+{
+    let workers = ranged(1, 32, workers)?.unwrap_or(1);
+    Some(CheckOptions { workers })
 }
 
 /// What a network is made from, for its two values, where each is in its range.

@@ -2,15 +2,15 @@
 
 ghost use Rattle.std.specs.Prelude.{◌≡◌, IfOk, map, string_bytes, [], codes, IsTrue, ◌↔◌, option_map};
 ghost use Rattle.clap.specs.Words.{fault_of, subcommand_of, subcommand_rows_of};
-ghost use Rattle.fapp_words.specs.declared.request.Request.TheVariants.{Solve, Gen, Demo};
+ghost use Rattle.fapp_words.specs.declared.request.Request.TheVariants.{Solve, Check, Gen, Demo};
 ghost use Rattle.fapp_words.specs.Commands.{program};
-ghost use Rattle.fapp_words.specs.Options.{ReadsSolve};
+ghost use Rattle.fapp_words.specs.Options.{ReadsSolve, ReadsCheck};
 ghost use Rattle.fapp_words.specs.Promises.{ReadsWords, ReadsSeed};
 
 use crate::NoMemory;
 use crate::commands::program;
-use crate::forms::{are_pieces, is_short_numeral};
-use crate::options::{SolveOptions, options_in, seed_in};
+use crate::forms::{are_pieces, is_at_most_workers, is_short_numeral};
+use crate::options::{CheckOptions, SolveOptions, check_in, options_in, seed_in};
 use crate::request::{Maker, Request, Seed};
 use clap::ArgMatches;
 use clap::error::ErrorKind;
@@ -18,7 +18,7 @@ use std::alloc::Global;
 
 /// What the words after the program's name ask for. `None` comes exactly where they are none of the promised ones:
 /// `solve` with `--workers`, `--fuel`, `--split`, `--pool`, `--cert` and `--answer-only`, each at most once and in any order,
-/// `check`, `gen` and `demo` with a number and a number of paths; a number has 1 to 10 digits and is in its range.
+/// `check` with `--workers` at most once, `gen` and `demo` with a number and a number of paths; a number has 1 to 10 digits and is in its range.
 /// `NoMemory` comes where the words' copies could not be had.
 pub fn read_words(alloc: Global, words: &[String]) -> Result<Option<Request>, NoMemory>
     ensures { IfOk result (ReadsWords (map string_bytes words.now)) }
@@ -36,7 +36,7 @@ fn request(matches: &ArgMatches, words: &[String]) -> Option<Request>
     requires taken { fault_of program (map string_bytes words.now) ≡ [] }
     ensures { ReadsWords (map string_bytes words.now) result }
 {
-    let (first, rest) = words.split_first()?;
+    let (first, _) = words.split_first()?;
     if is_word(first, "solve") {
         return solving(solve_options(matches, words));
     }
@@ -46,8 +46,8 @@ fn request(matches: &ArgMatches, words: &[String]) -> Option<Request>
     if is_word(first, "demo") {
         return showing(made_seed(matches, words, Maker::Demo));
     }
-    if is_word(first, "check") && rest.is_empty() {
-        return Some(Request::Check);
+    if is_word(first, "check") {
+        return checking(check_options(matches, words));
     }
     None
 }
@@ -56,6 +56,12 @@ fn solving(options: Option<SolveOptions>) -> Option<Request>
     ensures { result ≡ option_map Solve options }
 {
     options.map(|options| Request::Solve(options))
+}
+
+fn checking(options: Option<CheckOptions>) -> Option<Request>
+    ensures { result ≡ option_map Check options }
+{
+    options.map(|options| Request::Check(options))
 }
 
 fn generating(seed: Option<Seed>) -> Option<Request>
@@ -115,6 +121,24 @@ fn solve_options(matches: &ArgMatches, words: &[String]) -> Option<SolveOptions>
             found.get_str("cert"),
             found.get_flag("answer-only"),
         ),
+        None => None,
+    }
+}
+
+/// The options of `check`, from what clap found in words that it took.
+fn check_options(matches: &ArgMatches, words: &[String]) -> Option<CheckOptions>
+    requires found { subcommand_rows_of matches.now ≡ subcommand_of program (map string_bytes words.now) }
+    ensures { ReadsCheck (map string_bytes words.now) result }
+{
+    let (first, options) = words.split_first()?;
+    if !is_word(first, "check") {
+        return None;
+    }
+    if !is_at_most_workers(options) {
+        return None;
+    }
+    match matches.subcommand() {
+        Some((_, found)) => check_in(found.get_str("workers")),
         None => None,
     }
 }

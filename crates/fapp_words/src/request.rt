@@ -3,7 +3,7 @@
 ghost use Rattle.std.specs.Prelude.{◌≡◌};
 ghost use Rattle.fapp_words.specs.Commands.{maker_name};
 
-use crate::options::SolveOptions;
+use crate::options::{CheckOptions, SolveOptions};
 
 /// What a network is made from.
 #[derive(Clone, Copy, Debug, PartialEq, Eq)]
@@ -20,7 +20,7 @@ pub enum Request {
     /// To look for the least plan of an instance.
     Solve(SolveOptions),
     /// To check an answer to an instance.
-    Check,
+    Check(CheckOptions),
     /// To write the network that a number makes.
     Gen(Seed),
     /// To solve the network that a number makes, and to write the verdict.

@@ -4,7 +4,7 @@ use std::test::Fail;
 
 // Lists of words, and what they ask for: None where they are none of the promised ones. Two spaces stand around an empty
 // word.
-const LISTS: [(&str, Option<Request>); 254] = [
+const LISTS: [(&str, Option<Request>); 238] = [
     (
         "solve --cert 1",
         Some(Request::Solve(SolveOptions {
@@ -58,7 +58,6 @@ const LISTS: [(&str, Option<Request>); 254] = [
     ("solve --cert=2 --cert 2", None),
     ("solve --certificate 2", None),
     ("solve --cer 2", None),
-    ("check --cert 2", None),
     ("gen 7 3 --cert 2", None),
     (
         "solve",
@@ -258,7 +257,6 @@ const LISTS: [(&str, Option<Request>); 254] = [
             answer_only: true,
         })),
     ),
-    ("check", Some(Request::Check)),
     (
         "gen 0 2",
         Some(Request::Gen(Seed {
@@ -333,7 +331,6 @@ const LISTS: [(&str, Option<Request>); 254] = [
     ("--workers 1", None),
     ("1", None),
     ("solve check", None),
-    ("check solve", None),
     ("solve --workers 0", None),
     ("solve --workers 33", None),
     ("solve --workers=33", None),
@@ -359,7 +356,6 @@ const LISTS: [(&str, Option<Request>); 254] = [
     ("solve workers 1", None),
     ("solve --workers 1.0", None),
     ("solve --workers 1 --", None),
-    ("check --workers 1", None),
     ("--workers 1 solve", None),
     ("gen 7 40 --workers 1", None),
     ("demo --workers 1 7 40", None),
@@ -387,7 +383,6 @@ const LISTS: [(&str, Option<Request>); 254] = [
     ("solve fuel 1", None),
     ("solve --fuel 1.0", None),
     ("solve --fuel 1 --", None),
-    ("check --fuel 1", None),
     ("--fuel 1 solve", None),
     ("gen 7 40 --fuel 1", None),
     ("demo --fuel 1 7 40", None),
@@ -416,7 +411,6 @@ const LISTS: [(&str, Option<Request>); 254] = [
     ("solve split 1", None),
     ("solve --split 1.0", None),
     ("solve --split 1 --", None),
-    ("check --split 1", None),
     ("--split 1 solve", None),
     ("gen 7 40 --split 1", None),
     ("demo --split 1 7 40", None),
@@ -444,7 +438,6 @@ const LISTS: [(&str, Option<Request>); 254] = [
     ("solve pool 1", None),
     ("solve --pool 1.0", None),
     ("solve --pool 1 --", None),
-    ("check --pool 1", None),
     ("--pool 1 solve", None),
     ("gen 7 40 --pool 1", None),
     ("demo --pool 1 7 40", None),
@@ -464,17 +457,8 @@ const LISTS: [(&str, Option<Request>); 254] = [
     ("solve --unknown", None),
     ("solve --unknown 1", None),
     ("solve -- --fuel 1", None),
-    ("check ", None),
-    ("check --", None),
-    ("check -", None),
-    ("check x", None),
-    ("check 1", None),
-    ("check --help", None),
-    ("check -h", None),
-    ("check check", None),
-    ("check --answer-only", None),
     ("Check", None),
-    ("check --workers=1", None),
+    ("--workers 4 check", None),
     ("gen", None),
     ("gen 7", None),
     ("gen 7 40 1", None),
@@ -529,6 +513,80 @@ const LISTS: [(&str, Option<Request>); 254] = [
     ("demo 7 40 --answer-only", None),
 ];
 
+// The same for lists that begin with `check`, and the workers that they ask for.
+const CHECKS: [(&str, Option<u32>); 70] = [
+    ("check", Some(1)),
+    ("check --workers 1", Some(1)),
+    ("check --workers 2", Some(2)),
+    ("check --workers 32", Some(32)),
+    ("check --workers=1", Some(1)),
+    ("check --workers=4", Some(4)),
+    ("check --workers=32", Some(32)),
+    ("check --workers 04", Some(4)),
+    ("check --workers 0000000005", Some(5)),
+    ("check --workers=0000000032", Some(32)),
+    ("check --cert 2", None),
+    ("check solve", None),
+    ("check --fuel 1", None),
+    ("check --split 1", None),
+    ("check --pool 1", None),
+    ("check ", None),
+    ("check --", None),
+    ("check -", None),
+    ("check x", None),
+    ("check 1", None),
+    ("check --help", None),
+    ("check -h", None),
+    ("check check", None),
+    ("check --answer-only", None),
+    ("check --workers 0", None),
+    ("check --workers=0", None),
+    ("check --workers 33", None),
+    ("check --workers=33", None),
+    ("check --workers 4294967297", None),
+    ("check --workers", None),
+    ("check --workers=", None),
+    ("check --workers ", None),
+    ("check --workers 4 --workers 4", None),
+    ("check --workers=4 --workers 4", None),
+    ("check --workers 4 --workers=4", None),
+    ("check --workers=4 --workers=4", None),
+    ("check --workers --workers 4", None),
+    ("check --workers 00000000004", None),
+    ("check --workers=00000000004", None),
+    ("check --workers x", None),
+    ("check --workers 4x", None),
+    ("check --workers -4", None),
+    ("check --workers +4", None),
+    ("check --workers=-4", None),
+    ("check --workers=4=4", None),
+    ("check --workers==4", None),
+    ("check --workers -- 4", None),
+    ("check --workers 4 --", None),
+    ("check -- --workers 4", None),
+    ("check -- --workers=4", None),
+    ("check --workers 4 x", None),
+    ("check --workers=4 x", None),
+    ("check x --workers 4", None),
+    ("check --workers 4 --fuel 3", None),
+    ("check --workers 4 --answer-only", None),
+    ("check --worker 4", None),
+    ("check --worker=4", None),
+    ("check -w 4", None),
+    ("check -workers 4", None),
+    ("check --WORKERS 4", None),
+    ("check workers 4", None),
+    ("check --workers 4.0", None),
+    ("check  --workers 4", None),
+    ("check --fuel 3", None),
+    ("check --fuel=3", None),
+    ("check --split=4", None),
+    ("check --pool=5", None),
+    ("check --cert 1", None),
+    ("check --cert=1", None),
+    ("check --number 4", None),
+];
+
 fn read(alloc: Global, line: &str) -> Result<Option<Request>, NoMemory> {
     let mut words = Vec::new(alloc);
     for word in line.split(' ') {
@@ -544,5 +602,14 @@ fn words_ask_for_what_is_promised(rt: HostRuntime) -> Result<(), Fail> {
     }
     let none = Vec::new(rt.alloc());
     assert_eq!(rt; read_words(rt.alloc(), &none)?, None);
+    Ok(())
+}
+
+#[test]
+fn check_asks_for_its_workers(rt: HostRuntime) -> Result<(), Fail> {
+    for (line, workers) in CHECKS.iter() {
+        let wanted = workers.map(|workers| Request::Check(CheckOptions { workers }));
+        assert_eq!(rt; read(rt.alloc(), line)?, wanted, "at {line}");
+    }
     Ok(())
 }

@@ -2,7 +2,7 @@ ghost use Rattle.fapp_run.specs.Answers.{AreOptions};
 
 use fapp_gate::{Gate, HoldGate};
 use fapp_io::{MemSink, MemSource};
-use fapp_run::{OpenGate, answer, judge, run};
+use fapp_run::{CheckOptions, OpenGate, answer, judge, run};
 use fapp_words::SolveOptions;
 use std::alloc::Global;
 use std::test::Fail;
@@ -57,7 +57,7 @@ fn checked<R: Threads + Sync>(
     let mut input = Vec::from_slice(alloc, text.as_bytes())?;
     input.extend_from_slice(b"--\n")?;
     input.extend_from_slice(&outcome.text)?;
-    let judged = judge(alloc, &input)?;
+    let judged = judge(rt, alloc, &input, &CheckOptions { workers: 1 })?;
     Ok((outcome.status.code(), judged.text))
 }
 

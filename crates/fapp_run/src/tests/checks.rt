@@ -402,16 +402,8 @@ const CHECKS: [(&str, &str, u8, &str); 74] = [
 fn each_input_of_a_check_has_its_end(rt: HostRuntime) -> Result<(), Fail> {
     for (instance, rest, code, output) in CHECKS.iter() {
         let input = format!(in rt.alloc(); "{instance}{rest}")?;
-        for pieces in [1, 4096] {
-            let (status, written) = end_of(
-                &rt,
-                rt.alloc(),
-                "check",
-                input.as_bytes(),
-                pieces,
-                0,
-                0,
-            )?;
+        for (words, pieces) in [("check", 1), ("check", 4096), ("check --workers 4", 4096)] {
+            let (status, written) = end_of(&rt, rt.alloc(), words, input.as_bytes(), pieces, 0, 0)?;
             assert_eq!(rt; status.code(), *code, "at {input}");
             assert_eq!(rt; written.as_slice(), output.as_bytes(), "at {input}");
         }

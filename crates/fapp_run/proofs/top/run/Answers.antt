@@ -16,9 +16,9 @@ returns-in-Ok-write_all-clause-completes g c = λ bytes instance options named l
     left options named short read sound.0 c.in-Ok.ensures.outcome
 
 pub returns-in-Ok-write_all-clause-completes_check : goal.returns-in-Ok-write_all-clause-completes_check
-returns-in-Ok-write_all-clause-completes_check g c = λ bytes instance answer named left short given accepts sound.
+returns-in-Ok-write_all-clause-completes_check g c = λ bytes instance answer options named left short given accepts sound.
     inl (check_ends c.args.words.now (g.S.Source.moment c.args.source.now) (g.S.Source.moment c.outcome_of.new.source) bytes instance c.in-Ok.outcome.status
-    c.in-Ok.outcome.text.items left answer named short given accepts sound.0 c.in-Ok.ensures.outcome)
+    c.in-Ok.outcome.text.items left answer options named short given accepts sound.0 c.in-Ok.ensures.outcome)
 
 pub returns-in-Ok-write_all-clause-completes_gen : goal.returns-in-Ok-write_all-clause-completes_gen
 returns-in-Ok-write_all-clause-completes_gen g c = λ seed named sound.

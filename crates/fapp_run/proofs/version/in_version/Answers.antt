@@ -4,7 +4,6 @@ use Rattle.fapp_model.specs.Instances.{IsNumber}
 use Rattle.cert_lines.specs.declared.answer.Answer.{Answer}
 use Rattle.cert_lines.specs.declared.answer.Line.{Line}
 use Rattle.accept_laws.specs.Compacting.{IsCompactable, compacted}
-use Rattle.accept_laws.specs.Deletion.{compacted_answer}
 use Rattle.fapp_run.proofs.Written.{first-written, may-compact, second-written}
 use Rattle.fapp_run.proofs.version.in_version.Goals as goal
 
