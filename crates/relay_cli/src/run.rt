@@ -110,7 +110,7 @@ fn refused<K: Sink>(alloc: Global, status: Status, sink: &mut K) -> Status
 }
 
 /// Writes an answer by so many senders. `NoMemory` also comes, before anything is written, where there are more than
-/// `MAX_NUMBER` certificate lines, which no answer of `solve_input` has.
+/// `MAX_NUMBER` certificate lines, which no merge makes, although no clause says so.
 fn relayed<R: Threads + Wait + Sync, K: Sink>(
     rt: &R,
     alloc: Global,
