@@ -10,7 +10,7 @@ use Rattle.cert_lines.specs.declared.answer.Verdict.{Verdict}
 use Rattle.fapp_plan.specs.Outcomes.{Placed}
 use Rattle.fapp_plan.specs.Plans.{Split}
 use Rattle.fapp_plan.specs.VerdictRule.{IsVerdictOf}
-use Rattle.log_laws.specs.Contents.{KnownRow}
+use Rattle.search_log.specs.Contents.{KnownRow}
 use Rattle.search_log.specs.LogStates.{LogState}
 use Rattle.search_log.specs.NumberedRows.{numbered_rows}
 use Rattle.nogood.specs.declared.row.Row.{Row}
@@ -18,10 +18,10 @@ use Rattle.merge_laws.specs.declared.piece.Piece.{Piece}
 use Rattle.merge_laws.specs.Conditions.{AreOld, IsMergeableAfter}
 use Rattle.merge_laws.specs.GoodLogs.{IsHome, IsPlacedIn, pieces_of}
 use Rattle.merge_laws.specs.OldRoots.{old_root}
-use Rattle.home_laws.specs.Laws.{AreGoodLogsOver}
-use Rattle.home_laws.proofs.Merging.{outcomes-are}
-use Rattle.outcome_laws.specs.Gathered.{AreSettled, IsLeastWord}
-use Rattle.outcome_laws.proofs.Words.{word-shown}
+use Rattle.fapp_workers.specs.SharingLaws.{AreGoodLogsOver}
+use Rattle.fapp_workers.proofs.Merging.{outcomes-are}
+use Rattle.fapp_workers.specs.Gathered.{AreSettled, IsLeastWord}
+use Rattle.fapp_workers.proofs.LeastWords.{word-shown}
 use Rattle.after_rows.specs.Placing.{ArePaired, AreSaid}
 use Rattle.after_rows.proofs.Saying.{placed-at, placed-in, placed-once}
 

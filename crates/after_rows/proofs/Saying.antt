@@ -13,7 +13,7 @@ use Rattle.cert_lines.specs.WellFormed.{IsEntry, IsLine}
 use Rattle.cert_lines.specs.acceptance.Excluded.{line_at, no_line}
 use Rattle.accept_laws.specs.Lines.{AreGood, IsImplied}
 use Rattle.accept_laws.proofs.GoodLines.{good-lines}
-use Rattle.log_laws.specs.Contents.{Content, KnownRow, known_row}
+use Rattle.search_log.specs.Contents.{Content, KnownRow, known_row}
 use Rattle.merge_laws.specs.Conditions.{AreOld}
 use Rattle.merge_laws.specs.GoodLogs.{IsPlacedIn}
 use Rattle.nogood.specs.declared.row.Row.{Row}

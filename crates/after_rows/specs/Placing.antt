@@ -1,7 +1,7 @@
 -- Rows that say what old lines say, and their numbers.
 use Rattle.std.specs.Prelude.{◌≡◌, ℕ, ◌<◌, List, length, slice_index_or}
 use Rattle.cert_lines.specs.declared.answer.Line.{Line}
-use Rattle.log_laws.specs.Contents.{Content}
+use Rattle.search_log.specs.Contents.{Content}
 use Rattle.merge_laws.specs.Fates.{Stands}
 use Rattle.nogood.specs.declared.row.Row.{Row}
 use Rattle.search_log.specs.Shares.{row_content}

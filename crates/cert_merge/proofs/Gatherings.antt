@@ -8,8 +8,8 @@ use Rattle.std.proofs.lemmas.List.Elements.{All-append, All-contains, All-map, A
 use Rattle.std.proofs.lemmas.List.Sorted.{Contains-permutation, IsPermutation-sym}
 use Rattle.fapp_model.proofs.Members.{All-from_members}
 use Rattle.cert_lines.specs.declared.answer.Line.{Line}
-use Rattle.log_laws.specs.declared.line.LogLine.{LogLine}
-use Rattle.log_laws.specs.declared.line.Segment.{Segment}
+use Rattle.search_log.specs.declared.line.LogLine.{LogLine}
+use Rattle.search_log.specs.declared.line.Segment.{Segment}
 use Rattle.search_log.specs.LogStates.{LogState}
 use Rattle.merge_laws.specs.declared.piece.Piece.{Piece}
 use Rattle.merge_laws.specs.GoodLogs.{AreByRow, all_lines, piece_of, pieces_from, pieces_of}

@@ -6,7 +6,7 @@ use Rattle.fapp_model.specs.declared.literal.Literal.{Literal}
 use Rattle.fapp_model.specs.Assignments.{count_at}
 use Rattle.cert_lines.specs.declared.answer.Child.{Child}
 use Rattle.cert_lines.specs.declared.answer.Line.{Line}
-use Rattle.log_laws.specs.declared.line.LogLine.{LogLine}
+use Rattle.search_log.specs.declared.line.LogLine.{LogLine}
 use Rattle.search_log.specs.LogStates.{LogState}
 use Rattle.fapp_plan.specs.declared.steps.Step.{Step}
 use Rattle.merge_laws.specs.declared.piece.Piece.{Piece}

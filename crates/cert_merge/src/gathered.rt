@@ -1,7 +1,7 @@
 // The lines of the logs, in their order: segments by row, then what is left of each log.
 ghost use Rattle.std.specs.Prelude.{◌≡◌, ◌<◌, List, length, take, drop, All, IfOk, OnOk};
 ghost use Rattle.std.specs.List.{range_with_len};
-ghost use Rattle.log_laws.specs.declared.line.LogLine.{LogLine};
+ghost use Rattle.search_log.specs.declared.line.LogLine.{LogLine};
 ghost use Rattle.merge_laws.specs.Pieces.{emit_piece, emit_pieces, emit_rests};
 ghost use Rattle.merge_laws.specs.Stages.{emit_all};
 ghost use Rattle.cert_merge.specs.Growth.{AreLeft, IsGathered, IsSameRoom, IsWithin};

@@ -9,7 +9,7 @@ use crate::copies::copy_of;
 use crate::old_rows::rows_with;
 use cert_lines::{Child, Line, Rule};
 use fapp_model::{Items, MAX_NUMBER, NoMemory};
-use log_laws::{ChoiceRef, LogLine, Ref};
+use search_log::{ChoiceRef, LogLine, Ref};
 use std::alloc::Global;
 use std::marker::Model;
 

@@ -1,7 +1,7 @@
 // What is left of a log.
 ghost use Rattle.std.specs.Prelude.{◌≡◌, [], ◌∷◌, length, MatchOption};
 
-use log_laws::LogLine;
+use search_log::LogLine;
 use std::collections::VecDeque;
 use std::marker::Model;
 
@@ -13,7 +13,7 @@ pub(crate) struct Remainder {
 
 impl Model for Remainder {
     ghost use Rattle.std.specs.Prelude.{List};
-    ghost use Rattle.log_laws.specs.declared.line.LogLine.{LogLine as Noted};
+    ghost use Rattle.search_log.specs.declared.line.LogLine.{LogLine as Noted};
 
     ghost Value = { List Noted };
 

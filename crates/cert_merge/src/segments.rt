@@ -7,7 +7,7 @@ ghost use Rattle.cert_merge.specs.Growth.{IsNotAfter};
 
 use crate::remainder::Remainder;
 use fapp_model::NoMemory;
-use log_laws::Segment;
+use search_log::Segment;
 use merge_laws::Piece;
 use search_log::Log;
 use std::alloc::Global;

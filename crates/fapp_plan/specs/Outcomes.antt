@@ -6,7 +6,7 @@ use Rattle.fapp_model.specs.InstanceTags.{IsTagFor}
 use Rattle.fapp_model.specs.Levels.{levels_of}
 use Rattle.fapp_model.specs.search.Jobs.{prefixes}
 use Rattle.cert_lines.specs.acceptance.LineFaults.{first_of}
-use Rattle.log_laws.specs.declared.line.Ref.{Ref}
+use Rattle.search_log.specs.declared.line.Ref.{Ref}
 use Rattle.search_log.specs.declared.job.Outcome.{Outcome}
 use Rattle.search_log.specs.declared.job.Outcome.TheVariants.{Refuted, Moot, Spent}
 

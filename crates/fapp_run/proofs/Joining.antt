@@ -12,9 +12,9 @@ use Rattle.fapp_model.proofs.Sums.{range-sum-le, sum_by-same-members}
 use Rattle.fapp_tables.proofs.PairLaws.{sum_by-positions}
 use Rattle.cert_lines.specs.declared.answer.Verdict.{Verdict}
 use Rattle.arc_levels.specs.Outside.{IsRootTag}
-use Rattle.log_laws.specs.declared.line.LogLine.{LogLine}
-use Rattle.log_laws.specs.declared.line.Ref.{Ref}
-use Rattle.log_laws.specs.Contents.{Cites, KnownRow}
+use Rattle.search_log.specs.declared.line.LogLine.{LogLine}
+use Rattle.search_log.specs.declared.line.Ref.{Ref}
+use Rattle.search_log.specs.Contents.{Cites, KnownRow}
 use Rattle.search_log.specs.declared.job.Outcome.{Outcome}
 use Rattle.search_log.specs.declared.job.Outcome.TheVariants.{Refuted, Moot, Spent}
 use Rattle.search_log.specs.Logs.{empty_log}
@@ -26,9 +26,9 @@ use Rattle.merge_laws.specs.Conditions.{AreOutcomes, IsMergeable, IsPut}
 use Rattle.merge_laws.specs.GoodLogs.{AreGoodLogs, all_lines}
 use Rattle.merge_laws.specs.MergedLines.{branch_total, is_branch_path}
 use Rattle.merge_laws.specs.Refuted.{IsRefutedBy}
-use Rattle.outcome_laws.specs.Gathered.{AreSettled, IsLeastWord, IsPlacedBy, log_at}
-use Rattle.outcome_laws.specs.Outcomes.{AreTicksOf, IsJobSettledBy}
-use Rattle.outcome_laws.proofs.Words.{word-shown}
+use Rattle.fapp_workers.specs.Gathered.{AreSettled, IsLeastWord, IsPlacedBy, log_at}
+use Rattle.fapp_workers.specs.Outcomes.{AreTicksOf, IsJobSettledBy}
+use Rattle.fapp_workers.proofs.LeastWords.{word-shown}
 use Rattle.fapp_workers.specs.Works.{branches_in}
 
 -- ---- the outcomes

@@ -23,7 +23,7 @@ use Rattle.fapp_words.specs.declared.request.Seed.{Seed}
 use Rattle.fapp_words.specs.Options.{ranged}
 use Rattle.fapp_words.specs.Promises.{IsSeed}
 use Rattle.fapp_gen.specs.Generated.{network_text}
-use Rattle.outcome_laws.specs.Laws.{IsEnough}
+use Rattle.fapp_workers.specs.VerdictLaws.{IsEnough}
 use Rattle.fapp_run.specs.declared.command.Command.{Command}
 use Rattle.fapp_run.specs.declared.command.Command.TheVariants.{Solve, Check}
 use Rattle.fapp_run.specs.declared.judgement.TheConstants.{MAX_CHECK_INPUT}

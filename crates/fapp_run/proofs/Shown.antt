@@ -16,8 +16,8 @@ use Rattle.settle_laws.specs.Worlds.{IsKeptRight}
 use Rattle.settle_laws.proofs.FullPrefixes.{cost-back}
 use Rattle.settle_laws.proofs.TagCodes.{code-back}
 use Rattle.fapp_plan.specs.VerdictRule.{top_code}
-use Rattle.outcome_laws.specs.Gathered.{IsLeastWord, KeepsCost}
-use Rattle.outcome_laws.proofs.Words.{cost-level}
+use Rattle.fapp_workers.specs.Gathered.{IsLeastWord, KeepsCost}
+use Rattle.fapp_workers.proofs.LeastWords.{cost-level}
 use Rattle.accept_laws.specs.ShownPlans.{shown}
 use Rattle.fapp_run.specs.Solving.{IsKeptPlan, NoneKept}
 

@@ -20,7 +20,7 @@ use Rattle.cert_lines.proofs.Deleting.{lines-in}
 use Rattle.accept_laws.specs.ShownPlans.{IsWellShown, shown}
 use Rattle.accept_laws.proofs.Accepting.{accepted-right}
 use Rattle.accept_laws.proofs.Showing.{no-plan, well-shown}
-use Rattle.log_laws.specs.Contents.{KnownRow}
+use Rattle.search_log.specs.Contents.{KnownRow}
 use Rattle.search_log.specs.LogStates.{LogState}
 use Rattle.fapp_plan.specs.Outcomes.{Placed}
 use Rattle.fapp_plan.specs.Plans.{split_of}
@@ -28,11 +28,11 @@ use Rattle.fapp_plan.specs.VerdictRule.{IsVerdictOf, top_code}
 use Rattle.fapp_plan.proofs.Rules.{code-most, shown-is_tag}
 use Rattle.merge_laws.specs.MergedLines.{IsMerged}
 use Rattle.merge_laws.proofs.Merging.{answer-accepted}
-use Rattle.outcome_laws.specs.Gathered.{AreSettled, IsLeastWord}
-use Rattle.outcome_laws.specs.Laws.{IsEnough, IsSolved}
-use Rattle.outcome_laws.specs.Outcomes.{AreTicksOf}
-use Rattle.outcome_laws.proofs.OpenVerdicts.{enough, open-for}
-use Rattle.outcome_laws.proofs.Words.{top-back, word-shown}
+use Rattle.fapp_workers.specs.Gathered.{AreSettled, IsLeastWord}
+use Rattle.fapp_workers.specs.VerdictLaws.{IsEnough, IsSolved}
+use Rattle.fapp_workers.specs.Outcomes.{AreTicksOf}
+use Rattle.fapp_workers.proofs.OpenVerdicts.{enough, open-for}
+use Rattle.fapp_workers.proofs.LeastWords.{top-back, word-shown}
 use Rattle.fapp_workers.specs.Works.{branches_in}
 use Rattle.fapp_run.specs.Solving.{IsAnswerFor, IsClosed, IsKeptPlan, SaysOfJobs}
 use Rattle.fapp_run.proofs.Joining.{lines-few}

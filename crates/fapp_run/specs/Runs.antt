@@ -17,7 +17,7 @@ use Rattle.fapp_words.specs.declared.options.CheckOptions.{CheckOptions}
 use Rattle.fapp_words.specs.declared.options.SolveOptions.{SolveOptions}
 use Rattle.fapp_words.specs.declared.request.Request.TheVariants as requests
 use Rattle.fapp_words.specs.declared.request.Seed.{Seed}
-use Rattle.outcome_laws.specs.Laws.{IsEnough}
+use Rattle.fapp_workers.specs.VerdictLaws.{IsEnough}
 use Rattle.fapp_run.specs.declared.judgement.TheConstants.{MAX_CHECK_INPUT}
 use Rattle.fapp_run.specs.declared.outcome.TheConstants.{MAX_INPUT}
 use Rattle.fapp_run.specs.AnswerLaws.{IsProved}

@@ -16,7 +16,7 @@ use Rattle.search_log.specs.declared.log.KeptPlan.{KeptPlan}
 use Rattle.search_log.specs.LogStates.{LogState}
 use Rattle.fapp_plan.specs.Plans.{Split, split_of}
 use Rattle.merge_laws.specs.MergedLines.{HasNoCite}
-use Rattle.outcome_laws.specs.Laws.{IsEnough, IsOpenFor}
+use Rattle.fapp_workers.specs.VerdictLaws.{IsEnough, IsOpenFor}
 use Rattle.accept_laws.specs.ShownPlans.{shown}
 
 -- what an open verdict says of the jobs

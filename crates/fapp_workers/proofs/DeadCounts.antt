@@ -7,12 +7,12 @@ use Rattle.fapp_model.specs.declared.instance.Instance.{Instance}
 use Rattle.fapp_model.specs.Tags.{triple_from}
 use Rattle.fapp_model.specs.search.Dead as Dead
 use Rattle.fapp_model.specs.search.Dead.{Dead}
-use Rattle.log_laws.specs.declared.line.ChoiceRef.{ChoiceRef}
-use Rattle.log_laws.specs.declared.line.LogLine.{LogLine}
-use Rattle.log_laws.specs.Contents.{Cites, KnownRow}
-use Rattle.log_laws.specs.GoodLines.{AreGoodLines, IsGoodLine}
+use Rattle.search_log.specs.declared.line.ChoiceRef.{ChoiceRef}
+use Rattle.search_log.specs.declared.line.LogLine.{LogLine}
+use Rattle.search_log.specs.Contents.{Cites, KnownRow}
+use Rattle.search_log.specs.GoodLines.{AreGoodLines, IsGoodLine}
 use Rattle.search_log.specs.LogStates.{LogState}
-use Rattle.home_laws.specs.Laws.{AreGoodLogsOver}
+use Rattle.fapp_workers.specs.SharingLaws.{AreGoodLogsOver}
 use Rattle.merge_laws.specs.GoodLogs.{IsBare}
 use Rattle.merge_laws.proofs.Beside.{zip-none}
 use Rattle.merge_laws.proofs.WrittenLines.{left-out-dead}

@@ -16,8 +16,8 @@ use Rattle.search_log.specs.LogStates.{LogState}
 use Rattle.settle_laws.specs.Worlds.{IsKeptRight, IsLeastOffered}
 use Rattle.settle_laws.proofs.Adding.{gains-none}
 use Rattle.settle_laws.proofs.TagCodes.{code-back}
-use Rattle.outcome_laws.specs.Gathered.{IsAtMostKept, KeepsCost}
-use Rattle.outcome_laws.proofs.Words.{cost-level}
+use Rattle.fapp_workers.specs.Gathered.{IsAtMostKept, KeepsCost}
+use Rattle.fapp_workers.proofs.LeastWords.{cost-level}
 use Rattle.best_word.specs.declared.seat.BestSeat.{BestSeat}
 use Rattle.best_word.specs.declared.seat.BestWord.{BestWord}
 use Rattle.best_word.specs.Seats.{view_of, IsOfferedByOne, IsTopOfOne}
@@ -25,13 +25,13 @@ use Rattle.nogood_pool.specs.declared.seat.Pool.{Pool}
 use Rattle.nogood_pool.specs.declared.view.PoolView.{PoolView}
 use Rattle.nogood_pool.specs.Seats.{view_of as pool_view}
 use Rattle.pool_rows.specs.Copying.{all_known}
-use Rattle.log_laws.specs.Contents.{KnownRow}
+use Rattle.search_log.specs.Contents.{KnownRow}
 use Rattle.std.specs.List.{AllZip}
 use Rattle.std.proofs.lemmas.List.Elements.{All-cons, All-head, All-nil, All-tail}
-use Rattle.home_laws.specs.Ends.{AreClosed, IsSeatEnd, IsWorkerEnd, WorkerEnd, all_published, logs_of}
-use Rattle.home_laws.proofs.Closing.{closes}
-use Rattle.home_laws.proofs.Homes.{good-after}
-use Rattle.home_laws.specs.Laws.{AreGoodLogsOver}
+use Rattle.fapp_workers.specs.Ends.{AreClosed, IsSeatEnd, IsWorkerEnd, WorkerEnd, all_published, logs_of}
+use Rattle.fapp_workers.proofs.PooledSeats.{closes}
+use Rattle.fapp_workers.proofs.Homes.{good-after}
+use Rattle.fapp_workers.specs.SharingLaws.{AreGoodLogsOver}
 use Rattle.steal_ring.specs.declared.seat.Ring.{Ring}
 use Rattle.steal_ring.specs.Hands.{won_of}
 use Rattle.steal_ring.specs.Jobs.{times}

@@ -11,7 +11,7 @@ use Rattle.nogood.specs.Rows.{row_literals}
 use Rattle.nogood_pool.specs.declared.view.PoolView.{PoolView}
 use Rattle.nogood_pool.specs.Pool.{content, held_row}
 use Rattle.nogood_pool.specs.Seats.{Publishes}
-use Rattle.log_laws.specs.Contents.{known_row}
+use Rattle.search_log.specs.Contents.{known_row}
 use Rattle.pool_rows.specs.Copying.{all_known, held_known}
 use Rattle.search_log.specs.NumberedRows.{numbered_from, numbered_rows}
 use Rattle.search_log.specs.Shares.{row_content}

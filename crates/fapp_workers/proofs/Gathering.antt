@@ -7,17 +7,17 @@ use Rattle.std.proofs.lemmas.List.Sums.{sum_by-append, sum_by-cons}
 use Rattle.fapp_model.specs.search.Jobs.{job_count}
 use Rattle.fapp_plan.specs.Outcomes.{Placed}
 use Rattle.fapp_plan.specs.Plans.{Split}
-use Rattle.log_laws.specs.Contents.{KnownRow}
+use Rattle.search_log.specs.Contents.{KnownRow}
 use Rattle.search_log.specs.Logs.{empty_log}
 use Rattle.search_log.specs.LogStates.{LogState}
-use Rattle.outcome_laws.specs.Gathered.{IsPlacedBy, log_at}
-use Rattle.outcome_laws.specs.Outcomes.{AreTicksOf}
+use Rattle.fapp_workers.specs.Gathered.{IsPlacedBy, log_at}
+use Rattle.fapp_workers.specs.Outcomes.{AreTicksOf}
 use Rattle.steal_ring.specs.Jobs.{times, once}
 use Rattle.fapp_workers.specs.declared.closing.Work.{Work}
 use Rattle.fapp_workers.specs.declared.gather.Put.{Put}
 use Rattle.fapp_workers.specs.declared.job.Done.{Done}
 use Rattle.fapp_workers.specs.declared.solve.Gathered.{Gathered}
-use Rattle.home_laws.specs.Laws.{AreGoodLogsOver}
+use Rattle.fapp_workers.specs.SharingLaws.{AreGoodLogsOver}
 use Rattle.fapp_workers.specs.Collections.{IsDeadCount, IsGathered, IsGatheredOver, IsPutBelow, IsPutByWorkers}
 use Rattle.fapp_workers.specs.Puts.{ArePut, puts_from, put_at, put_ids}
 use Rattle.fapp_workers.specs.Solved.{AreSolved, IsWorkFor, times_done, works_logs}

@@ -1,3 +1,11 @@
+pub mod LeastWords
+pub mod OpenVerdicts
+pub mod Homes
+pub mod Shown
+pub mod WorkingOn
+pub mod Settled
+pub mod PooledSeats
+pub mod Merging
 pub mod Bounds
 pub mod Deciding
 pub mod Working

@@ -11,11 +11,11 @@ use Rattle.fapp_model.specs.declared.literal.Literal.{Literal}
 use Rattle.fapp_model.specs.search.Jobs.{job_level, job_prefix}
 use Rattle.fapp_model.specs.search.Partials.{HasAll}
 use Rattle.fapp_plan.specs.Plans.{Split}
-use Rattle.log_laws.specs.declared.line.LogLine.{LogLine}
-use Rattle.log_laws.specs.declared.line.Ref.TheVariants.{Own, Row}
-use Rattle.log_laws.specs.declared.line.Segment.{Segment}
-use Rattle.log_laws.specs.Contents.{KnownRow}
-use Rattle.log_laws.specs.Segments.{EndsAsRow, IsGoodLog}
+use Rattle.search_log.specs.declared.line.LogLine.{LogLine}
+use Rattle.search_log.specs.declared.line.Ref.TheVariants.{Own, Row}
+use Rattle.search_log.specs.declared.line.Segment.{Segment}
+use Rattle.search_log.specs.Contents.{KnownRow}
+use Rattle.search_log.specs.Segments.{EndsAsRow, IsGoodLog}
 use Rattle.search_log.specs.declared.job.Outcome.{Outcome}
 use Rattle.search_log.specs.declared.job.Outcome.TheVariants.{Refuted, Moot, Spent}
 use Rattle.search_log.specs.Bounds.{BoundState}
@@ -24,8 +24,8 @@ use Rattle.settle_laws.specs.Levels.{level_code}
 use Rattle.settle_laws.specs.Published.{IsShort}
 use Rattle.settle_laws.specs.Settling.{AreHome, IsOutcome}
 use Rattle.settle_laws.specs.Worlds.{World, world}
-use Rattle.home_laws.proofs.Deciding.{used}
-use Rattle.home_laws.proofs.Homes.{number_of, seg_row, some-same}
+use Rattle.fapp_workers.proofs.Settled.{used}
+use Rattle.fapp_workers.proofs.Homes.{number_of, seg_row, some-same}
 use Rattle.fapp_workers.specs.declared.job.Done.{Done}
 use Rattle.fapp_workers.specs.Jobs.{AreDecided, Decides, Held, IsSearched, held}
 use Rattle.fapp_workers.specs.Rows.{ArePlaced, BeginsWith, IsOffersClause, IsRowsClause, IsUsed, can_be_row, ends_segment, is_left_out, own_line}

@@ -3,10 +3,10 @@ use Rattle.std.proofs.Common.{◌≡◌, ℕ, ◌≤◌, List, [], ◌++◌, All
 use Rattle.std.specs.declared.alloc.AllocError.{AllocError}
 use Rattle.std.proofs.lemmas.List.Elements.{All-contains_itself, All-weaker}
 use Rattle.fapp_plan.specs.Plans.{Split}
-use Rattle.log_laws.specs.declared.line.LogLine.{LogLine}
-use Rattle.log_laws.specs.declared.line.Segment.{Segment}
-use Rattle.log_laws.specs.Contents.{KnownRow}
-use Rattle.log_laws.specs.Segments.{IsGoodLog}
+use Rattle.search_log.specs.declared.line.LogLine.{LogLine}
+use Rattle.search_log.specs.declared.line.Segment.{Segment}
+use Rattle.search_log.specs.Contents.{KnownRow}
+use Rattle.search_log.specs.Segments.{IsGoodLog}
 use Rattle.search_log.specs.Bounds.{BoundState, floor}
 use Rattle.search_log.specs.LogStates.{LogState}
 use Rattle.search_log.specs.Shares.{SharedState}

@@ -10,9 +10,9 @@ use Rattle.fapp_model.specs.declared.literal.Literal.{Literal}
 use Rattle.fapp_model.specs.Levels.{levels_of}
 use Rattle.fapp_model.specs.search.Jobs.{job_count, job_level, job_prefix}
 use Rattle.fapp_plan.specs.Plans.{Split}
-use Rattle.log_laws.specs.declared.line.LogLine.{LogLine}
-use Rattle.log_laws.specs.declared.line.Ref.{Ref}
-use Rattle.log_laws.specs.Contents.{KnownRow}
+use Rattle.search_log.specs.declared.line.LogLine.{LogLine}
+use Rattle.search_log.specs.declared.line.Ref.{Ref}
+use Rattle.search_log.specs.Contents.{KnownRow}
 use Rattle.search_log.specs.declared.job.Outcome.{Outcome}
 use Rattle.search_log.specs.declared.job.Outcome.TheVariants.{Refuted, Moot, Spent}
 use Rattle.search_log.specs.Bounds.{BoundState, Tells, floor}
@@ -27,7 +27,7 @@ use Rattle.settle_laws.proofs.TagCodes.{tag-small}
 use Rattle.settle_laws.proofs.Tried.{cites-grow}
 use Rattle.fapp_model.specs.search.Prefixes.{IsPrefix}
 use Rattle.tries_laws.proofs.JobParts.{job-is, prefixes-all}
-use Rattle.outcome_laws.specs.Outcomes.{AreTicksOf, IsPrefixSettledBy}
+use Rattle.fapp_workers.specs.Outcomes.{AreTicksOf, IsPrefixSettledBy}
 use Rattle.fapp_workers.specs.declared.job.Done.{Done}
 use Rattle.fapp_workers.specs.Jobs.{AreDecided, Decides, Held, IsSearched, held}
 use Rattle.fapp_workers.specs.Works.{IsAllTaken, IsDone, IsLogClause, branches_in}
@@ -195,7 +195,7 @@ works-on split fuel old now next done last h d = ⊎_elim
     (λ search. searched-on split fuel old now next d.read done last h d.inside d.tells search.1)
     d.by
 
-pub at-start : (split : Split) (fuel : ℕ) (old : Held) → Rattle.log_laws.specs.Segments.IsGoodLog split.instance (Rattle.search_log.specs.Shares.known old.shared) old.log.lines old.log.segments → IsLeastOffered old.log.best old.bound.least →
+pub at-start : (split : Split) (fuel : ℕ) (old : Held) → Rattle.search_log.specs.Segments.IsGoodLog split.instance (Rattle.search_log.specs.Shares.known old.shared) old.log.lines old.log.segments → IsLeastOffered old.log.best old.bound.least →
     IsLogClause split fuel old old []
 at-start split fuel old good least = record {
   good = good;

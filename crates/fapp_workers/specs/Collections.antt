@@ -6,13 +6,13 @@ use Rattle.fapp_model.specs.search.Dead.{Dead}
 use Rattle.fapp_model.specs.search.Jobs.{job_count}
 use Rattle.fapp_plan.specs.Outcomes.{Placed}
 use Rattle.fapp_plan.specs.Plans.{Split}
-use Rattle.log_laws.specs.declared.line.LogLine.{LogLine}
-use Rattle.log_laws.specs.Contents.{KnownRow}
+use Rattle.search_log.specs.declared.line.LogLine.{LogLine}
+use Rattle.search_log.specs.Contents.{KnownRow}
 use Rattle.search_log.specs.LogStates.{LogState}
 use Rattle.merge_laws.specs.GoodLogs.{AreGoodLogs}
-use Rattle.home_laws.specs.Laws.{AreGoodLogsOver}
-use Rattle.outcome_laws.specs.Gathered.{AreSettled, IsLeastWord}
-use Rattle.outcome_laws.specs.Outcomes.{AreTicksOf}
+use Rattle.fapp_workers.specs.SharingLaws.{AreGoodLogsOver}
+use Rattle.fapp_workers.specs.Gathered.{AreSettled, IsLeastWord}
+use Rattle.fapp_workers.specs.Outcomes.{AreTicksOf}
 use Rattle.fapp_workers.specs.declared.solve.Gathered.{Gathered}
 use Rattle.fapp_workers.specs.Works.{IsAllTaken, branches_in}
 

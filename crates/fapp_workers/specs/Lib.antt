@@ -1,3 +1,8 @@
+pub mod Outcomes
+pub mod Gathered
+pub mod VerdictLaws
+pub mod Ends
+pub mod SharingLaws
 pub mod Ranges
 pub mod SharedBounds
 pub mod States

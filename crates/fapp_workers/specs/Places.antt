@@ -3,7 +3,7 @@ use Rattle.std.specs.Prelude.{◌≡◌, ℕ, ◌≤◌, List, [], All, Contains
 use Rattle.fapp_model.specs.declared.instance.Instance.{Instance}
 use Rattle.fapp_model.specs.Levels.{levels_of}
 use Rattle.fapp_plan.specs.Plans.{Split}
-use Rattle.log_laws.specs.Contents.{KnownRow}
+use Rattle.search_log.specs.Contents.{KnownRow}
 use Rattle.search_log.specs.LogStates.{LogState}
 use Rattle.settle_laws.specs.Worlds.{IsKeptRight, IsLeastOffered}
 use Rattle.best_word.specs.declared.seat.BestSeat.{BestSeat}
@@ -13,7 +13,7 @@ use Rattle.nogood_pool.specs.declared.seat.Pool.{Pool}
 use Rattle.nogood_pool.specs.declared.seat.PoolSeat.{PoolSeat}
 use Rattle.nogood_pool.specs.Seats.{view_of as pool_view, IsSeatOf as IsPoolSeatOf}
 use Rattle.pool_rows.specs.Copying.{all_known}
-use Rattle.home_laws.specs.Ends.{IsWorkerEnd, WorkerEnd}
+use Rattle.fapp_workers.specs.Ends.{IsWorkerEnd, WorkerEnd}
 use Rattle.steal_ring.specs.declared.hand.Hand.{Hand}
 use Rattle.steal_ring.specs.declared.seat.Ring.{Ring}
 use Rattle.steal_ring.specs.Hands.{won_of, IsDone as IsAtEnd, IsHandOf, IsSameHand}

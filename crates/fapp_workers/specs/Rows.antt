@@ -4,11 +4,11 @@ use Rattle.std.specs.List.{list_any}
 use Rattle.fapp_model.specs.search.Jobs.{job_level, job_prefix}
 use Rattle.fapp_model.specs.search.Partials.{HasAll}
 use Rattle.fapp_plan.specs.Plans.{Split}
-use Rattle.log_laws.specs.declared.line.LogLine.{LogLine}
-use Rattle.log_laws.specs.declared.line.Ref.{Ref}
-use Rattle.log_laws.specs.declared.line.Ref.TheVariants.{Own, Row}
-use Rattle.log_laws.specs.declared.line.Segment.{Segment}
-use Rattle.log_laws.specs.Contents.{KnownRow}
+use Rattle.search_log.specs.declared.line.LogLine.{LogLine}
+use Rattle.search_log.specs.declared.line.Ref.{Ref}
+use Rattle.search_log.specs.declared.line.Ref.TheVariants.{Own, Row}
+use Rattle.search_log.specs.declared.line.Segment.{Segment}
+use Rattle.search_log.specs.Contents.{KnownRow}
 use Rattle.search_log.specs.declared.job.Outcome.{Outcome}
 use Rattle.search_log.specs.declared.job.Outcome.TheVariants.{Refuted, Moot, Spent}
 use Rattle.search_log.specs.LogStates.{LogState}

@@ -2,10 +2,10 @@
 use Rattle.std.specs.Prelude.{◌≡◌, ℕ, ◌<◌, ◌≤◌, List, ◌++◌, length, map, sum_by, All}
 use Rattle.fapp_model.specs.search.Jobs.{job_count}
 use Rattle.fapp_plan.specs.Plans.{Split}
-use Rattle.log_laws.specs.Contents.{KnownRow}
+use Rattle.search_log.specs.Contents.{KnownRow}
 use Rattle.search_log.specs.LogStates.{LogState}
-use Rattle.home_laws.specs.Laws.{AreGoodLogsOver}
-use Rattle.outcome_laws.specs.Gathered.{IsLeastWord}
+use Rattle.fapp_workers.specs.SharingLaws.{AreGoodLogsOver}
+use Rattle.fapp_workers.specs.Gathered.{IsLeastWord}
 use Rattle.steal_ring.specs.Jobs.{times}
 use Rattle.fapp_workers.specs.declared.closing.Work.{Work}
 use Rattle.fapp_workers.specs.Works.{IsDone, branches_in, ids_of, ticks_in}

@@ -2,13 +2,13 @@
 use Rattle.std.specs.Prelude.{◌≡◌, ◌⊎◌, ℕ, ◌+◌, ◌<◌, ◌≤◌, List, [], ◌∷◌, ◌++◌, map, sum_by, count_by, is_some, All, AllPairs}
 use Rattle.fapp_model.specs.search.Jobs.{job_count}
 use Rattle.fapp_plan.specs.Plans.{Split}
-use Rattle.log_laws.specs.declared.line.LogLine.{LogLine}
-use Rattle.log_laws.specs.Contents.{KnownRow}
-use Rattle.log_laws.specs.Segments.{IsGoodLog}
+use Rattle.search_log.specs.declared.line.LogLine.{LogLine}
+use Rattle.search_log.specs.Contents.{KnownRow}
+use Rattle.search_log.specs.Segments.{IsGoodLog}
 use Rattle.search_log.specs.Bounds.{floor}
 use Rattle.search_log.specs.Shares.{known}
 use Rattle.settle_laws.specs.Worlds.{Gains, IsKeptRight, IsLeastOffered}
-use Rattle.outcome_laws.specs.Outcomes.{AreTicksOf, IsJobSettledBy}
+use Rattle.fapp_workers.specs.Outcomes.{AreTicksOf, IsJobSettledBy}
 use Rattle.search_log.specs.declared.job.Outcome.{Outcome}
 use Rattle.search_log.specs.declared.job.Outcome.TheVariants.{Refuted, Moot, Spent}
 use Rattle.steal_ring.specs.declared.hand.Hand.{Hand}

@@ -8,6 +8,7 @@ mod dealing;
 mod first_rows;
 mod gather;
 mod job;
+mod laws;
 mod place;
 mod settings;
 mod solve;
@@ -17,6 +18,11 @@ mod worker;
 pub use bound::SharedBound;
 pub use fapp_gate::{Gate, OpenGate};
 pub use job::Done;
+pub use laws::{
+    enough_settles, jobs_are_settled, offers_are_counted, open_says_so, pooled_seats_close,
+    segments_are_used, settled_jobs_stay, shared_logs_are_good, shared_outcomes_are_shown,
+    shared_run_is_settled, work_goes_on,
+};
 pub use pool_rows::{PoolRows, SeatBack};
 pub use settings::Settings;
 pub use solve::{Gathered, solve_jobs, solve_rows};

@@ -1,7 +1,7 @@
 // One worker: its own counts, log and seats, and the jobs that its hand is given.
 ghost use Rattle.std.specs.Prelude.{◌≡◌, ◌<◌, ◌≤◌, [], IfErr, IfOk};
 ghost use Rattle.fapp_model.specs.search.Jobs.{job_count};
-ghost use Rattle.log_laws.specs.Segments.{IsGoodLog};
+ghost use Rattle.search_log.specs.Segments.{IsGoodLog};
 ghost use Rattle.search_log.specs.Shares.{known};
 ghost use Rattle.settle_laws.specs.Worlds.{IsLeastOffered};
 ghost use Rattle.best_word.specs.Seats.{view_of};

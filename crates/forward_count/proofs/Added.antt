@@ -4,8 +4,8 @@ use Rattle.std.specs.List.{range_with_len}
 use Rattle.std.proofs.lemmas.Bool.{cases_eq}
 use Rattle.std.proofs.lemmas.List.{get_or-set_other, get_or-set_same, length-set}
 use Rattle.std.proofs.lemmas.List.FromFn.{fill_by_all}
-use Rattle.count_laws.specs.declared.rows.Row.{Row}
-use Rattle.count_laws.specs.Words.{no_row, row_at, row_by}
+use Rattle.choice_counts.specs.declared.rows.Row.{Row}
+use Rattle.choice_counts.specs.Words.{no_row, row_at, row_by}
 
 -- some rows are made anew, and the others are the old ones
 pub record IsAdded (made : ℕ → List ℕ) (got : ℕ → Bool) (old rows : List Row) : Type 0 where

@@ -17,21 +17,21 @@ use Rattle.fapp_model.specs.search.Weights.{inside, over_open}
 use Rattle.fapp_tables.specs.Indexes.{neighbours_of}
 use Rattle.fapp_tables.specs.Measures.{coded_part}
 use Rattle.nogood.specs.Partials.{choice_given}
-use Rattle.count_laws.specs.Counts.{pair_word, slot_part, word_of, words_of}
-use Rattle.count_laws.specs.declared.rows.TheConstants.{HARD}
-use Rattle.count_laws.specs.CountedSums.{IsBound, IsCalm, RemainsAt}
-use Rattle.count_laws.specs.ForwardStates.{ForwardState}
-use Rattle.count_laws.specs.Words.{least_of, least_part}
-use Rattle.count_laws.proofs.Bounds.{few_literals}
-use Rattle.count_laws.proofs.BySlots.{by_neighbours}
-use Rattle.count_laws.proofs.Least.{least_push}
-use Rattle.count_laws.proofs.Calm.{bound_is, least_sum}
-use Rattle.count_laws.proofs.CalmPaths.{calm_stands, stands_calm, words_inside}
-use Rattle.count_laws.proofs.DeadByBound.{level_few}
-use Rattle.count_laws.proofs.OneMore.{word_sum}
-use Rattle.count_laws.proofs.OpenSums.{range_sum_more}
-use Rattle.count_laws.proofs.Remaining.{least-found, remains-word, some-left, word-remains}
-use Rattle.count_laws.proofs.Slots.{named}
+use Rattle.choice_counts.specs.Counts.{pair_word, slot_part, word_of, words_of}
+use Rattle.choice_counts.specs.declared.rows.TheConstants.{HARD}
+use Rattle.choice_counts.specs.CountedSums.{IsBound, IsCalm, RemainsAt}
+use Rattle.choice_counts.specs.ForwardStates.{ForwardState}
+use Rattle.choice_counts.specs.Words.{least_of, least_part}
+use Rattle.choice_counts.proofs.Bounds.{few_literals}
+use Rattle.choice_counts.proofs.BySlots.{by_neighbours}
+use Rattle.choice_counts.proofs.Least.{least_push}
+use Rattle.choice_counts.proofs.Calm.{bound_is, least_sum}
+use Rattle.choice_counts.proofs.CalmPaths.{calm_stands, stands_calm, words_inside}
+use Rattle.choice_counts.proofs.DeadByBound.{level_few}
+use Rattle.choice_counts.proofs.OneMore.{word_sum}
+use Rattle.choice_counts.proofs.OpenSums.{range_sum_more}
+use Rattle.choice_counts.proofs.Remaining.{least-found, remains-word, some-left, word-remains}
+use Rattle.choice_counts.proofs.Slots.{named}
 use Rattle.forward_count.specs.Forwards.{IsAfresh}
 use Rattle.forward_count.specs.Standing.{AllHaveLeft, AllStand, HasLeft}
 

@@ -13,17 +13,17 @@ use Rattle.fapp_model.specs.search.Pairs.{limit_of}
 use Rattle.fapp_model.specs.search.Partials.{IsPartial}
 use Rattle.fapp_tables.specs.Measures.{pair_code}
 use Rattle.dead_laws.proofs.DeadTests.{arcs-of}
-use Rattle.count_laws.specs.declared.rows.Row.{Row}
-use Rattle.count_laws.specs.declared.totals.Totals.{Totals}
-use Rattle.count_laws.specs.CountedSums.{IsBound, IsCalm}
-use Rattle.count_laws.specs.ForwardStates.{ForwardState}
-use Rattle.count_laws.proofs.Bounds.{inside_small}
-use Rattle.count_laws.proofs.Calm.{bound_is}
-use Rattle.count_laws.proofs.CalmPaths.{calm_kept, kept_bound, kept_calm}
-use Rattle.count_laws.proofs.DeadByBound.{calm_or_dead, dead_is_over_bound, level_few, mode_few}
-use Rattle.count_laws.proofs.OpenSums.{least_most, open_most}
-use Rattle.count_laws.specs.declared.rows.TheConstants.{HARD}
-use Rattle.count_laws.specs.Words.{least_part}
+use Rattle.choice_counts.specs.declared.rows.Row.{Row}
+use Rattle.choice_counts.specs.declared.totals.Totals.{Totals}
+use Rattle.choice_counts.specs.CountedSums.{IsBound, IsCalm}
+use Rattle.choice_counts.specs.ForwardStates.{ForwardState}
+use Rattle.choice_counts.proofs.Bounds.{inside_small}
+use Rattle.choice_counts.proofs.Calm.{bound_is}
+use Rattle.choice_counts.proofs.CalmPaths.{calm_kept, kept_bound, kept_calm}
+use Rattle.choice_counts.proofs.DeadByBound.{calm_or_dead, dead_is_over_bound, level_few, mode_few}
+use Rattle.choice_counts.proofs.OpenSums.{least_most, open_most}
+use Rattle.choice_counts.specs.declared.rows.TheConstants.{HARD}
+use Rattle.choice_counts.specs.Words.{least_part}
 use Rattle.forward_count.specs.Forwards.{IsForward}
 
 -- what is kept of the fields is so of the state that callers see

@@ -7,17 +7,17 @@ use Rattle.fapp_model.specs.Assignments.{count_at}
 use Rattle.fapp_model.specs.search.Partials.{literal}
 use Rattle.fapp_model.specs.search.Weights.{added_pair}
 use Rattle.fapp_tables.specs.Measures.{pair_code}
-use Rattle.count_laws.specs.declared.rows.Row.{Row}
-use Rattle.count_laws.specs.declared.rows.TheConstants.{HARD}
-use Rattle.count_laws.specs.declared.totals.Totals.{Totals}
-use Rattle.count_laws.specs.Counts.{word_of, words_of}
-use Rattle.count_laws.specs.CountedSums.{IsLeastSum, RemainsAt}
-use Rattle.count_laws.specs.ForwardStates.{ForwardState}
-use Rattle.count_laws.specs.Words.{least_of, row_at, word_at}
-use Rattle.count_laws.proofs.Coded.{added_code}
-use Rattle.count_laws.proofs.DeadByBound.{level_few}
-use Rattle.count_laws.proofs.Remaining.{least-found, none-left, remains-word, word-low, word-remains}
-use Rattle.count_laws.proofs.RowMoves.{row_is, word_is}
+use Rattle.choice_counts.specs.declared.rows.Row.{Row}
+use Rattle.choice_counts.specs.declared.rows.TheConstants.{HARD}
+use Rattle.choice_counts.specs.declared.totals.Totals.{Totals}
+use Rattle.choice_counts.specs.Counts.{word_of, words_of}
+use Rattle.choice_counts.specs.CountedSums.{IsLeastSum, RemainsAt}
+use Rattle.choice_counts.specs.ForwardStates.{ForwardState}
+use Rattle.choice_counts.specs.Words.{least_of, row_at, word_at}
+use Rattle.choice_counts.proofs.Coded.{added_code}
+use Rattle.choice_counts.proofs.DeadByBound.{level_few}
+use Rattle.choice_counts.proofs.Remaining.{least-found, none-left, remains-word, word-low, word-remains}
+use Rattle.choice_counts.proofs.RowMoves.{row_is, word_is}
 use Rattle.forward_count.specs.Forwards.{IsForward}
 use Rattle.forward_count.specs.Starts.{AreShaped}
 use Rattle.forward_count.proofs.StepLaws.{forward_rows}

@@ -5,9 +5,9 @@ use Rattle.std.proofs.lemmas.Bool.{cases_eq, cases_lt}
 use Rattle.std.proofs.lemmas.Grind.{get_or_default_zero}
 use Rattle.std.proofs.lemmas.List.{get_or-set_other, get_or-set_same, length-set, take_all, take_more, take_more_set}
 use Rattle.std.proofs.lemmas.List.FromFn.{fill_by_all}
-use Rattle.count_laws.specs.declared.rows.Row.{Row}
-use Rattle.count_laws.specs.Words.{least_of, no_row, row_at, row_by, word_at}
-use Rattle.count_laws.proofs.Least.{least_below, least_push, least_reached, least_small}
+use Rattle.choice_counts.specs.declared.rows.Row.{Row}
+use Rattle.choice_counts.specs.Words.{least_of, no_row, row_at, row_by, word_at}
+use Rattle.choice_counts.proofs.Least.{least_below, least_push, least_reached, least_small}
 use Rattle.forward_count.specs.Floors.{IsFloor}
 
 -- the words so far are made from the old ones, and the others wait

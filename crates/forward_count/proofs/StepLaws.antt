@@ -10,18 +10,18 @@ use Rattle.fapp_model.specs.Assignments.{count_at}
 use Rattle.fapp_model.specs.search.Partials.{IsLiteral, literal, names}
 use Rattle.nogood.specs.Literals.{other_paths}
 use Rattle.nogood.specs.Partials.{choice_given}
-use Rattle.count_laws.specs.declared.rows.Row.{Row}
-use Rattle.count_laws.specs.declared.rows.TheConstants.{HARD}
-use Rattle.count_laws.specs.declared.totals.Totals.{Totals}
-use Rattle.count_laws.specs.ForwardStates.{ForwardState}
-use Rattle.count_laws.specs.Kept.{AreKept}
-use Rattle.count_laws.specs.Moves.{CanMoveAll, moved, rows_with}
-use Rattle.count_laws.specs.Totals.{AreRows, IsOpen}
-use Rattle.count_laws.proofs.Bounds.{distinct_push}
-use Rattle.count_laws.proofs.DeadByBound.{level_few}
-use Rattle.count_laws.proofs.KeptLaws.{drop_can, drop_conflicts, drop_inside, drop_slot, kept_dropped, kept_pushed, own_word, push_can, push_conflicts, push_inside, push_slot}
-use Rattle.count_laws.proofs.RowMoves.{rows_are}
-use Rattle.count_laws.proofs.Slots.{partial_drop, remove_is}
+use Rattle.choice_counts.specs.declared.rows.Row.{Row}
+use Rattle.choice_counts.specs.declared.rows.TheConstants.{HARD}
+use Rattle.choice_counts.specs.declared.totals.Totals.{Totals}
+use Rattle.choice_counts.specs.ForwardStates.{ForwardState}
+use Rattle.choice_counts.specs.Kept.{AreKept}
+use Rattle.choice_counts.specs.Moves.{CanMoveAll, moved, rows_with}
+use Rattle.choice_counts.specs.Totals.{AreRows, IsOpen}
+use Rattle.choice_counts.proofs.Bounds.{distinct_push}
+use Rattle.choice_counts.proofs.DeadByBound.{level_few}
+use Rattle.choice_counts.proofs.KeptLaws.{drop_can, drop_conflicts, drop_inside, drop_slot, kept_dropped, kept_pushed, own_word, push_can, push_conflicts, push_inside, push_slot}
+use Rattle.choice_counts.proofs.RowMoves.{rows_are}
+use Rattle.choice_counts.proofs.Slots.{partial_drop, remove_is}
 use Rattle.forward_count.specs.Forwards.{IsForward}
 use Rattle.forward_count.specs.Steps.{CanCount, slots_after}
 

@@ -10,9 +10,9 @@ use Rattle.fapp_model.specs.search.Partials.{IsLiteral, IsPartial, names}
 use Rattle.fapp_model.specs.Instances.{IsInstance}
 use Rattle.fapp_model.specs.Levels.{levels_of}
 use Rattle.fapp_model.proofs.Anys.{no-member}
-use Rattle.count_laws.specs.declared.rows.Row.{Row}
-use Rattle.count_laws.specs.declared.totals.Totals.{Totals}
-use Rattle.count_laws.specs.Kept.{AreKept}
+use Rattle.choice_counts.specs.declared.rows.Row.{Row}
+use Rattle.choice_counts.specs.declared.totals.Totals.{Totals}
+use Rattle.choice_counts.specs.Kept.{AreKept}
 use Rattle.forward_count.specs.Forwards.{IsForward}
 
 pub partial_take : (instance : Instance) (literals : List Literal) (k : ℕ) → k ≤ length literals → IsPartial instance literals → IsPartial instance (take k literals)

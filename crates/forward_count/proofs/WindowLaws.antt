@@ -14,12 +14,12 @@ use Rattle.fapp_model.specs.Records.{distance}
 use Rattle.fapp_model.specs.search.Partials.{IsLiteral, choice_of, literal}
 use Rattle.fapp_model.proofs.ChoiceLemmas.{fixed_choice, fixed_count, free_choice, free_count}
 use Rattle.arc_levels.proofs.LeftLaws.{own_number}
-use Rattle.distance_words.specs.declared.fill.Link.{Link}
-use Rattle.distance_words.specs.Links.{IsLink}
-use Rattle.distance_words.proofs.LinkLaws.{far_word}
-use Rattle.count_laws.specs.Counts.{pair_word}
-use Rattle.count_laws.specs.Moves.{moved}
-use Rattle.count_laws.specs.Words.{word_at}
+use Rattle.choice_counts.specs.declared.fill.Link.{Link}
+use Rattle.choice_counts.specs.Links.{IsLink}
+use Rattle.choice_counts.proofs.LinkLaws.{far_word}
+use Rattle.choice_counts.specs.Counts.{pair_word}
+use Rattle.choice_counts.specs.Moves.{moved}
+use Rattle.choice_counts.specs.Words.{word_at}
 use Rattle.forward_count.proofs.RowLaws.{IsMapped}
 
 pub rising_by : (freqs : List ℕ) → IsStrictlyIncreasing freqs → IsNonDecreasingBy (λ n. n) freqs

@@ -1,7 +1,7 @@
 -- A bound below the words of a path.
 use Rattle.std.specs.Prelude.{ℕ, ◌<◌, ◌≤◌, List, length}
-use Rattle.count_laws.specs.declared.rows.TheConstants.{NO_WORD}
-use Rattle.count_laws.specs.Words.{word_at}
+use Rattle.choice_counts.specs.declared.rows.TheConstants.{NO_WORD}
+use Rattle.choice_counts.specs.Words.{word_at}
 
 -- no word is below it
 pub record IsFloor (words : List ℕ) (floor : ℕ) : Type 0 where

@@ -5,10 +5,10 @@ use Rattle.fapp_model.specs.declared.literal.Literal.{Literal}
 use Rattle.fapp_model.specs.Instances.{IsInstance}
 use Rattle.fapp_model.specs.Levels.{levels_of}
 use Rattle.fapp_model.specs.search.Partials.{IsPartial}
-use Rattle.count_laws.specs.declared.rows.Row.{Row}
-use Rattle.count_laws.specs.declared.totals.Totals.{Totals}
-use Rattle.count_laws.specs.ForwardStates.{AreSlots}
-use Rattle.count_laws.specs.Kept.{AreKept}
+use Rattle.choice_counts.specs.declared.rows.Row.{Row}
+use Rattle.choice_counts.specs.declared.totals.Totals.{Totals}
+use Rattle.choice_counts.specs.ForwardStates.{AreSlots}
+use Rattle.choice_counts.specs.Kept.{AreKept}
 
 -- the counts of the literals, for a valid instance, and room for a literal of each path
 pub record IsForward (instance : Instance) (level : ℕ) (pushed : List Literal) (slots : List (Option ℕ)) (rows : List Row) (totals : Totals) (room : ℕ) : Type 0 where

@@ -4,7 +4,7 @@ use Rattle.fapp_model.specs.declared.instance.Instance.{Instance}
 use Rattle.fapp_model.specs.declared.literal.Literal.{Literal}
 use Rattle.fapp_model.specs.Assignments.{count_at}
 use Rattle.fapp_model.specs.search.Partials.{literal, names}
-use Rattle.count_laws.specs.CountedSums.{RemainsAt}
+use Rattle.choice_counts.specs.CountedSums.{RemainsAt}
 
 -- each literal remains against all literals
 abbrev pub AllStand : Instance → ℕ → List Literal → Type 0

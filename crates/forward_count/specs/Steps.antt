@@ -1,9 +1,9 @@
 -- What a step does to the slots, and room for what it counts.
 use Rattle.std.specs.Prelude.{ℕ, ◌*◌, ◌/◌, ◌%◌, Bool, true, false, Option, Some, None, List, slice_set}
 use Rattle.fapp_model.specs.declared.literal.Literal.{Literal}
-use Rattle.count_laws.specs.declared.rows.TheConstants.{HARD}
-use Rattle.count_laws.specs.declared.totals.Totals.{Totals}
-use Rattle.count_laws.specs.Moves.{CanMove}
+use Rattle.choice_counts.specs.declared.rows.TheConstants.{HARD}
+use Rattle.choice_counts.specs.declared.totals.Totals.{Totals}
+use Rattle.choice_counts.specs.Moves.{CanMove}
 
 -- a literal's slot after it is taken back, or pushed
 abbrev pub slot_after : Bool → Literal → Option ℕ

@@ -1,8 +1,8 @@
 ghost use Rattle.std.specs.Prelude.{◌≡◌, ◌↔◌, ◌≤◌, ◌<◌, ◌+◌, ◌*◌, ◌^◌, Bool, length, slice_index, sum_by, IsTrue, if◌then◌else◌};
-ghost use Rattle.count_laws.specs.Counts.{pair_word, slot_part, word_of, words_of};
-ghost use Rattle.count_laws.specs.CountedSums.{IsBound, IsCalm, RemainsAt};
-ghost use Rattle.count_laws.specs.ForwardStates.{AreSlots};
-ghost use Rattle.count_laws.specs.Words.{least_of, least_part};
+ghost use Rattle.choice_counts.specs.Counts.{pair_word, slot_part, word_of, words_of};
+ghost use Rattle.choice_counts.specs.CountedSums.{IsBound, IsCalm, RemainsAt};
+ghost use Rattle.choice_counts.specs.ForwardStates.{AreSlots};
+ghost use Rattle.choice_counts.specs.Words.{least_of, least_part};
 ghost use Rattle.dead_laws.specs.ArcLaws.{IsArcs};
 ghost use Rattle.fapp_model.specs.declared.limits.TheConstants.{MAX_PATHS};
 ghost use Rattle.fapp_model.specs.declared.literal.Literal.{Literal};
@@ -17,7 +17,7 @@ ghost use Rattle.nogood.specs.Partials.{Gives, choice_given};
 use crate::start::outside_word;
 use crate::step::{Step, count};
 use arc_levels::ArcTable;
-use count_laws::{HARD, NO_WORD};
+use choice_counts::{HARD, NO_WORD};
 use fapp_model::Literal;
 use fapp_tables::Tables;
 use nogood::Partial;
@@ -58,7 +58,7 @@ pub struct Afresh<'a> {
 
 impl<'a> Model for Afresh<'a> {
     ghost use Rattle.std.specs.Prelude.{◌≡◌};
-    ghost use Rattle.count_laws.specs.ForwardStates.{ForwardState};
+    ghost use Rattle.choice_counts.specs.ForwardStates.{ForwardState};
     ghost use Rattle.forward_count.specs.Forwards.{IsAfresh};
 
     ghost Value = { ForwardState };

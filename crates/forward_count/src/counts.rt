@@ -1,9 +1,9 @@
 ghost use Rattle.std.specs.Prelude.{◌≡◌, ◌≤◌, ◌<◌, ◌*◌, ◌/◌, ◌%◌, ◌^◌, None, Some, Option, ℕ, length, slice_set, if◌then◌else◌};
 ghost use Rattle.std.specs.Option.{is_some};
-ghost use Rattle.count_laws.specs.Moves.{CanMove, CanMoveAll, moved, rows_with};
-ghost use Rattle.count_laws.specs.Totals.{AreRows, IsOpen};
-ghost use Rattle.count_laws.specs.Words.{row_at, word_at};
-ghost use Rattle.distance_words.specs.Tables.{words_at};
+ghost use Rattle.choice_counts.specs.Moves.{CanMove, CanMoveAll, moved, rows_with};
+ghost use Rattle.choice_counts.specs.Totals.{AreRows, IsOpen};
+ghost use Rattle.choice_counts.specs.Words.{row_at, word_at};
+ghost use Rattle.choice_counts.specs.Tables.{words_at};
 ghost use Rattle.fapp_model.specs.Instances.{IsInstance};
 ghost use Rattle.forward_count.specs.Steps.{CanCount, slot_after, slots_after};
 ghost use Rattle.nogood.specs.Partials.{choice_given};
@@ -11,8 +11,8 @@ ghost use Rattle.nogood.specs.Partials.{choice_given};
 use crate::moves::move_all;
 use crate::rows::moved;
 use crate::step::Step;
-use count_laws::{HARD, Open, Row, Totals};
-use distance_words::WordTable;
+use choice_counts::{HARD, Open, Row, Totals};
+use choice_counts::WordTable;
 use nogood::Partial;
 
 /// Sets the literal's slot, or clears it.

@@ -1,8 +1,8 @@
 ghost use Rattle.std.specs.Prelude.{◌≡◌, ◌≢◌, ◌↔◌, ◌<◌, ◌≤◌, false, length, IsTrue, IfOk, slice_index_or};
 ghost use Rattle.std.specs.List.{remove};
-ghost use Rattle.count_laws.specs.CountedSums.{IsBound, IsCalm, IsLeastSum, RemainsAt};
-ghost use Rattle.count_laws.specs.ForwardStates.{AreSlots, at_level, nothing_pushed, with_literals, with_pushed, without_last, without_path};
-ghost use Rattle.count_laws.specs.Words.{row_at, word_at};
+ghost use Rattle.choice_counts.specs.CountedSums.{IsBound, IsCalm, IsLeastSum, RemainsAt};
+ghost use Rattle.choice_counts.specs.ForwardStates.{AreSlots, at_level, nothing_pushed, with_literals, with_pushed, without_last, without_path};
+ghost use Rattle.choice_counts.specs.Words.{row_at, word_at};
 ghost use Rattle.fapp_model.specs.Assignments.{count_at};
 ghost use Rattle.fapp_model.specs.InstanceTags.{IsTagFor};
 ghost use Rattle.fapp_model.specs.Instances.{IsInstance};
@@ -21,8 +21,8 @@ use crate::recount::{clear_slots, count_all};
 use crate::start::{blank_rows, start};
 use crate::step::Step;
 use arc_levels::ArcTable;
-use count_laws::{HARD, Row, Totals};
-use distance_words::WordTable;
+use choice_counts::{HARD, Row, Totals};
+use choice_counts::WordTable;
 use fapp_model::{Literal, NoMemory, S_SPAN, Tag, Triple, level_of, levels, triple_of};
 use fapp_tables::Tables;
 use nogood::Partial;
@@ -45,8 +45,8 @@ pub struct Forward<'a> {
 
 impl<'a> Model for Forward<'a> {
     ghost use Rattle.std.specs.Prelude.{◌≡◌, vec_capacity};
-    ghost use Rattle.count_laws.specs.ForwardStates.{ForwardState};
-    ghost use Rattle.distance_words.specs.Tables.{words_at};
+    ghost use Rattle.choice_counts.specs.ForwardStates.{ForwardState};
+    ghost use Rattle.choice_counts.specs.Tables.{words_at};
     ghost use Rattle.forward_count.specs.Forwards.{IsForward};
 
     ghost Value = { ForwardState };

@@ -1,9 +1,9 @@
 ghost use Rattle.std.specs.Prelude.{◌≡◌, ◌≢◌, ◌≤◌, ◌<◌, length, slice_set};
-ghost use Rattle.count_laws.specs.Moves.{CanMoveAll, CanMoveRow, rows_with, words_with};
-ghost use Rattle.count_laws.specs.Totals.{AreRows, IsOpen};
-ghost use Rattle.count_laws.specs.Words.{row_at, row_by};
-ghost use Rattle.distance_words.specs.Links.{IsLink};
-ghost use Rattle.distance_words.specs.Tables.{words_at};
+ghost use Rattle.choice_counts.specs.Moves.{CanMoveAll, CanMoveRow, rows_with, words_with};
+ghost use Rattle.choice_counts.specs.Totals.{AreRows, IsOpen};
+ghost use Rattle.choice_counts.specs.Words.{row_at, row_by};
+ghost use Rattle.choice_counts.specs.Links.{IsLink};
+ghost use Rattle.choice_counts.specs.Tables.{words_at};
 ghost use Rattle.fapp_model.specs.Assignments.{count_at};
 ghost use Rattle.fapp_model.specs.Instances.{IsInstance};
 ghost use Rattle.fapp_tables.specs.Indexes.{records_of};
@@ -11,8 +11,8 @@ ghost use Rattle.forward_count.specs.Floors.{IsFloor};
 
 use crate::rows::move_row;
 use crate::step::Step;
-use count_laws::{Open, Row};
-use distance_words::{Link, WordTable};
+use choice_counts::{Open, Row};
+use choice_counts::{Link, WordTable};
 use nogood::Partial;
 
 /// A row's least word before a change and after it.

@@ -1,6 +1,6 @@
 ghost use Rattle.std.specs.Prelude.{◌≡◌, ◌≤◌, [], None, length, replicate};
-ghost use Rattle.count_laws.specs.Kept.{AreKept};
-ghost use Rattle.distance_words.specs.Tables.{words_at};
+ghost use Rattle.choice_counts.specs.Kept.{AreKept};
+ghost use Rattle.choice_counts.specs.Tables.{words_at};
 ghost use Rattle.fapp_model.specs.declared.limits.TheConstants.{MAX_PATHS};
 ghost use Rattle.fapp_model.specs.Instances.{IsInstance};
 ghost use Rattle.fapp_model.specs.Levels.{levels_of};
@@ -8,8 +8,8 @@ ghost use Rattle.fapp_model.specs.search.Partials.{IsPartial};
 
 use crate::counts::count_step;
 use crate::step::Step;
-use count_laws::{Row, Totals};
-use distance_words::WordTable;
+use choice_counts::{Row, Totals};
+use choice_counts::WordTable;
 use fapp_model::Literal;
 use fapp_tables::Tables;
 use nogood::Partial;

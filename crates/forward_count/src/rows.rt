@@ -1,7 +1,7 @@
 ghost use Rattle.std.specs.Prelude.{◌≡◌, ◌≢◌, ◌≤◌, ◌<◌, ◌^◌, length, min, slice_set};
-ghost use Rattle.count_laws.specs.Moves.{CanMove, CanMoveRow, moved, words_with};
-ghost use Rattle.count_laws.specs.Words.{least_of, row_by, word_at};
-ghost use Rattle.distance_words.specs.Links.{IsLink};
+ghost use Rattle.choice_counts.specs.Moves.{CanMove, CanMoveRow, moved, words_with};
+ghost use Rattle.choice_counts.specs.Words.{least_of, row_by, word_at};
+ghost use Rattle.choice_counts.specs.Links.{IsLink};
 ghost use Rattle.fapp_model.specs.Assignments.{count_at};
 ghost use Rattle.fapp_model.specs.Instances.{IsInstance};
 ghost use Rattle.fapp_tables.specs.Indexes.{records_of};
@@ -9,8 +9,8 @@ ghost use Rattle.forward_count.specs.Floors.{IsFloor};
 
 use crate::step::Step;
 use crate::window::first_within;
-use count_laws::{NO_WORD, Row, Words};
-use distance_words::Link;
+use choice_counts::{NO_WORD, Row, Words};
+use choice_counts::Link;
 use fapp_model::{choice_at, choice_count};
 
 /// A word with a pair's taken away, or added.

@@ -1,7 +1,7 @@
 ghost use Rattle.std.specs.Prelude.{◌≡◌, ◌≤◌, ◌<◌, [], Bool, None, length, replicate, sum_by, IfOk};
-ghost use Rattle.count_laws.specs.Counts.{rows_of, word_of, words_of};
-ghost use Rattle.count_laws.specs.Kept.{AreKept};
-ghost use Rattle.count_laws.specs.Words.{least_part, row_by, stuck_part};
+ghost use Rattle.choice_counts.specs.Counts.{rows_of, word_of, words_of};
+ghost use Rattle.choice_counts.specs.Kept.{AreKept};
+ghost use Rattle.choice_counts.specs.Words.{least_part, row_by, stuck_part};
 ghost use Rattle.dead_laws.specs.ArcLaws.{IsArcs};
 ghost use Rattle.fapp_model.specs.declared.limits.TheConstants.{MAX_PATHS};
 ghost use Rattle.fapp_model.specs.declared.literal.Literal.{Literal};
@@ -13,7 +13,7 @@ ghost use Rattle.forward_count.specs.Starts.{AreShaped};
 
 use crate::step::count;
 use arc_levels::ArcTable;
-use count_laws::{HARD, NO_WORD, Open, Row, Totals, Words};
+use choice_counts::{HARD, NO_WORD, Open, Row, Totals, Words};
 use fapp_model::{Instance, NoMemory};
 use std::alloc::Global;
 

@@ -1,5 +1,5 @@
 ghost use Rattle.std.specs.Prelude.{◌≡◌, ◌≢◌, ◌≤◌, ◌<◌, ◌^◌, length};
-ghost use Rattle.count_laws.specs.Counts.{pair_word};
+ghost use Rattle.choice_counts.specs.Counts.{pair_word};
 ghost use Rattle.fapp_model.specs.declared.level.TheConstants.{MAX_LEVELS};
 ghost use Rattle.fapp_model.specs.declared.limits.TheConstants.{MAX_PATHS};
 ghost use Rattle.fapp_model.specs.Assignments.{count_at, path_at};
@@ -7,7 +7,7 @@ ghost use Rattle.fapp_model.specs.Instances.{IsInstance, IsPath};
 ghost use Rattle.fapp_model.specs.search.Partials.{IsLiteral, choice_of, literal};
 ghost use Rattle.fapp_tables.specs.Indexes.{records_of};
 
-use distance_words::Pair;
+use choice_counts::Pair;
 use fapp_model::{Choice, Instance, Literal, Path, choice_at, choice_count};
 use fapp_tables::Tables;
 

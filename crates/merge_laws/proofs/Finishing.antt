@@ -27,9 +27,9 @@ use Rattle.cert_lines.specs.acceptance.RootFaults.{verdict_tag}
 use Rattle.cert_lines.specs.acceptance.LineFaults.{line_fault}
 use Rattle.accept_laws.proofs.CodeOrder.{codes-at_most}
 use Rattle.arc_levels.specs.Outside.{HasNoChoice, IsRootTag}
-use Rattle.log_laws.specs.declared.line.LogLine.{LogLine}
-use Rattle.log_laws.specs.declared.line.Ref.{Ref}
-use Rattle.log_laws.specs.Contents.{Cites, Content, KnownRow}
+use Rattle.search_log.specs.declared.line.LogLine.{LogLine}
+use Rattle.search_log.specs.declared.line.Ref.{Ref}
+use Rattle.search_log.specs.Contents.{Cites, Content, KnownRow}
 use Rattle.search_log.specs.declared.job.Outcome.TheVariants.{Refuted}
 use Rattle.fapp_plan.specs.Outcomes.{IsPlacedFor, Placed, outcomes_at, settled_by}
 use Rattle.fapp_plan.specs.Steps.{prefix_paths}

@@ -10,10 +10,10 @@ use Rattle.fapp_model.specs.Instances.{IsInstance}
 use Rattle.fapp_model.proofs.Members.{All-from_members, front_or_behind, from-range, in-range, no_member}
 use Rattle.cert_lines.specs.declared.answer.Line.{Line}
 use Rattle.arc_levels.specs.ArcLines.{AreArcLines}
-use Rattle.log_laws.specs.declared.line.LogLine.{LogLine}
-use Rattle.log_laws.specs.declared.line.Ref.{Ref}
-use Rattle.log_laws.specs.declared.line.Ref.TheVariants.{Own, Row}
-use Rattle.log_laws.specs.Contents.{Cites, Content, KnownRow, known_row}
+use Rattle.search_log.specs.declared.line.LogLine.{LogLine}
+use Rattle.search_log.specs.declared.line.Ref.{Ref}
+use Rattle.search_log.specs.declared.line.Ref.TheVariants.{Own, Row}
+use Rattle.search_log.specs.Contents.{Cites, Content, KnownRow, known_row}
 use Rattle.merge_laws.specs.declared.piece.Piece.{Piece}
 use Rattle.merge_laws.specs.Certificates.{gathered}
 use Rattle.merge_laws.specs.Fates.{IsFate}

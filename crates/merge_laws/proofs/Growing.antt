@@ -14,7 +14,7 @@ use Rattle.cert_lines.specs.acceptance.Excluded.{is_marked, line_at, no_line}
 use Rattle.cert_lines.specs.acceptance.LineFaults.{line_fault, rejected_at}
 use Rattle.accept_laws.specs.Lines.{AreGood}
 use Rattle.accept_laws.proofs.Options.{mapped-none}
-use Rattle.log_laws.specs.Contents.{Content}
+use Rattle.search_log.specs.Contents.{Content}
 use Rattle.merge_laws.specs.Fates.{AreMarked, IsFate, Stands}
 
 pub marked-grows : (instance : Instance) (out : List Line) (line : Line) → is_delete line.rule ≡ false → AreMarked instance out → AreMarked instance (out ++ line ∷ [])

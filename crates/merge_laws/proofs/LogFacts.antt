@@ -9,14 +9,14 @@ use Rattle.fapp_model.specs.declared.instance.Instance.{Instance}
 use Rattle.fapp_model.proofs.Members.{at_front, behind, from-map, in-map, no_member}
 use Rattle.fapp_tables.proofs.RankLaws.{rising_ranks}
 use Rattle.cert_lines.specs.declared.answer.Line.{Line}
-use Rattle.log_laws.specs.declared.line.ChoiceRef.{ChoiceRef}
-use Rattle.log_laws.specs.declared.line.LogLine.{LogLine}
-use Rattle.log_laws.specs.declared.line.Ref.TheVariants.{Row}
-use Rattle.log_laws.specs.declared.line.Segment.{Segment}
-use Rattle.log_laws.specs.Contents.{Cites, KnownRow, content_of, known_row}
-use Rattle.log_laws.specs.GoodLines.{IsGoodLine}
-use Rattle.log_laws.specs.Segments.{CitesLowerRows, EndsAsRow, IsGoodLog}
-use Rattle.log_laws.proofs.Places.{zip-left}
+use Rattle.search_log.specs.declared.line.ChoiceRef.{ChoiceRef}
+use Rattle.search_log.specs.declared.line.LogLine.{LogLine}
+use Rattle.search_log.specs.declared.line.Ref.TheVariants.{Row}
+use Rattle.search_log.specs.declared.line.Segment.{Segment}
+use Rattle.search_log.specs.Contents.{Cites, KnownRow, content_of, known_row}
+use Rattle.search_log.specs.GoodLines.{IsGoodLine}
+use Rattle.search_log.specs.Segments.{CitesLowerRows, EndsAsRow, IsGoodLog}
+use Rattle.search_log.proofs.Places.{zip-left}
 use Rattle.search_log.specs.LogStates.{LogState}
 use Rattle.merge_laws.specs.declared.piece.Piece.{Piece}
 use Rattle.merge_laws.specs.GoodLogs.{AreByRow, AreGoodLogsAfter, IsBare, IsHome, IsPlacedIn, all_lines, piece_of, pieces_from, pieces_of}

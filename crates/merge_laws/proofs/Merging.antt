@@ -31,9 +31,9 @@ use Rattle.accept_laws.specs.Lines.{AreGood}
 use Rattle.accept_laws.proofs.GoodLines.{clean-lines, good-none}
 use Rattle.accept_laws.proofs.Accepting.{parts-accepted}
 use Rattle.arc_levels.specs.ArcLines.{AreArcLines, IsLineOf}
-use Rattle.log_laws.specs.declared.line.LogLine.{LogLine}
-use Rattle.log_laws.specs.declared.line.Ref.{Ref}
-use Rattle.log_laws.specs.Contents.{Cites, Content, KnownRow}
+use Rattle.search_log.specs.declared.line.LogLine.{LogLine}
+use Rattle.search_log.specs.declared.line.Ref.{Ref}
+use Rattle.search_log.specs.Contents.{Cites, Content, KnownRow}
 use Rattle.search_log.specs.LogStates.{LogState}
 use Rattle.fapp_plan.specs.Outcomes.{Placed}
 use Rattle.fapp_plan.specs.VerdictRule.{IsVerdictOf}

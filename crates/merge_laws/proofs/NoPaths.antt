@@ -22,8 +22,8 @@ use Rattle.dead_laws.proofs.CostLaws.{within-cost}
 use Rattle.dead_laws.proofs.DeadImplied.{dead-implied}
 use Rattle.accept_laws.specs.Lines.{AreGood, IsImplied}
 use Rattle.accept_laws.proofs.GoodLines.{good-lines}
-use Rattle.log_laws.specs.Contents.{Content}
-use Rattle.log_laws.proofs.CodeOrder.{below-codes}
+use Rattle.search_log.specs.Contents.{Content}
+use Rattle.search_log.proofs.CodeOrder.{below-codes}
 use Rattle.merge_laws.specs.Fates.{IsFate}
 
 module _ (instance : Instance) (valid : IsInstance instance) (none : length instance.paths ≡ 0) where

@@ -23,7 +23,7 @@ use Rattle.cert_lines.specs.acceptance.LineFaults.{first_of}
 use Rattle.cert_lines.specs.acceptance.RootFaults.{tag_for, verdict_tag}
 use Rattle.accept_laws.proofs.Accepting.{tag_for-code, tag_for-triple}
 use Rattle.arc_levels.specs.Outside.{IsRootTag}
-use Rattle.log_laws.specs.declared.line.Ref.{Ref}
+use Rattle.search_log.specs.declared.line.Ref.{Ref}
 use Rattle.search_log.specs.declared.job.Outcome.TheVariants.{Refuted, Moot, Spent}
 use Rattle.fapp_plan.specs.Outcomes.{IsPlacedFor, Placed, outcomes_at, refuted_at, refuted_code, refuted_everywhere, settling}
 use Rattle.fapp_plan.specs.VerdictRule.{IsVerdictOf, lower_code, top_code}

@@ -6,8 +6,8 @@ use Rattle.std.proofs.lemmas.List.Elements.{All-contains}
 use Rattle.fapp_model.specs.declared.instance.Instance.{Instance}
 use Rattle.fapp_model.proofs.InOrder.{pairs-head, pairs-tail}
 use Rattle.fapp_model.proofs.Members.{at_front, behind, front_or_behind, no_member}
-use Rattle.log_laws.specs.declared.line.LogLine.{LogLine}
-use Rattle.log_laws.specs.Contents.{KnownRow, content_of, known_row}
+use Rattle.search_log.specs.declared.line.LogLine.{LogLine}
+use Rattle.search_log.specs.Contents.{KnownRow, content_of, known_row}
 use Rattle.merge_laws.specs.declared.piece.Piece.{Piece}
 use Rattle.merge_laws.specs.Stages.{lines_of}
 use Rattle.merge_laws.proofs.Beside.{same-some}

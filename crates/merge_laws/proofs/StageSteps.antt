@@ -11,13 +11,13 @@ use Rattle.fapp_model.specs.search.Dead as Dead
 use Rattle.fapp_model.specs.search.Dead.{Dead}
 use Rattle.cert_lines.specs.declared.answer.Line.{Line}
 use Rattle.accept_laws.proofs.Having.{formed-partial}
-use Rattle.log_laws.specs.declared.line.ChoiceRef.{ChoiceRef}
-use Rattle.log_laws.specs.declared.line.LogLine.{LogLine}
-use Rattle.log_laws.specs.declared.line.Ref.{Ref}
-use Rattle.log_laws.specs.declared.line.Ref.TheVariants.{Own, Row}
-use Rattle.log_laws.specs.Contents.{Cites, Content, KnownRow, content_of, known_row}
-use Rattle.log_laws.specs.GoodLines.{IsGoodLine, PassesBy}
-use Rattle.log_laws.proofs.Places.{get-take}
+use Rattle.search_log.specs.declared.line.ChoiceRef.{ChoiceRef}
+use Rattle.search_log.specs.declared.line.LogLine.{LogLine}
+use Rattle.search_log.specs.declared.line.Ref.{Ref}
+use Rattle.search_log.specs.declared.line.Ref.TheVariants.{Own, Row}
+use Rattle.search_log.specs.Contents.{Cites, Content, KnownRow, content_of, known_row}
+use Rattle.search_log.specs.GoodLines.{IsGoodLine, PassesBy}
+use Rattle.search_log.proofs.Places.{get-take}
 use Rattle.merge_laws.specs.Fates.{IsFate}
 use Rattle.merge_laws.specs.GoodLogs.{IsBare}
 use Rattle.merge_laws.specs.Stages.{Merged, done_of, emit, emit_branch, emit_by, land, left_out, lines_of, noted, number_of, own_of}

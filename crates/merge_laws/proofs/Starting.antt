@@ -27,9 +27,9 @@ use Rattle.cert_lines.specs.WellFormed.{IsLine, IsRule}
 use Rattle.cert_lines.specs.acceptance.Excluded.{is_marked, is_only}
 use Rattle.dead_laws.proofs.LowerLevels.{outside_lower}
 use Rattle.arc_levels.specs.ArcLines.{AreArcLines, IsLineOf}
-use Rattle.log_laws.specs.declared.line.LogLine.{LogLine}
-use Rattle.log_laws.specs.Contents.{KnownRow}
-use Rattle.log_laws.proofs.CodeOrder.{below-codes}
+use Rattle.search_log.specs.declared.line.LogLine.{LogLine}
+use Rattle.search_log.specs.Contents.{KnownRow}
+use Rattle.search_log.proofs.CodeOrder.{below-codes}
 use Rattle.merge_laws.specs.Stages.{start, with_placed}
 use Rattle.cert_lines.proofs.Deleting.{IsPlain, formed-plain}
 use Rattle.accept_laws.specs.Lines.{AreGood}

@@ -6,9 +6,9 @@ use Rattle.std.proofs.lemmas.Option.{slice_get_within}
 use Rattle.fapp_model.specs.declared.instance.Instance.{Instance}
 use Rattle.fapp_model.specs.Instances.{IsInstance}
 use Rattle.fapp_model.proofs.Members.{at_front, behind}
-use Rattle.log_laws.specs.declared.line.LogLine.{LogLine}
-use Rattle.log_laws.specs.Contents.{KnownRow, content_of, known_row}
-use Rattle.log_laws.proofs.Places.{get-take}
+use Rattle.search_log.specs.declared.line.LogLine.{LogLine}
+use Rattle.search_log.specs.Contents.{KnownRow, content_of, known_row}
+use Rattle.search_log.proofs.Places.{get-take}
 use Rattle.merge_laws.specs.declared.piece.Piece.{Piece}
 use Rattle.merge_laws.specs.Pieces.{emit_piece, emit_pieces, emit_rest, emit_rests, left_to}
 use Rattle.merge_laws.specs.Stages.{Merged, done_of, emit, emit_all, lines_of}

@@ -24,7 +24,7 @@ use Rattle.fapp_plan.specs.Sorting.{by_path}
 use Rattle.fapp_plan.proofs.ByPath.{from-by_path, in-by_path}
 use Rattle.fapp_plan.proofs.Rules.{by_path-literals}
 use Rattle.accept_laws.proofs.Having.{formed-partial}
-use Rattle.log_laws.specs.Contents.{Content}
+use Rattle.search_log.specs.Contents.{Content}
 use Rattle.merge_laws.specs.Fates.{AreMarked, IsFate, Stands}
 use Rattle.merge_laws.specs.Levels.{all_longer, branch_line, children_from, cites_of, emit_level, emit_prefixes, longer, prefix_line}
 use Rattle.merge_laws.proofs.Growing.{AreFormed, fate-grows, formed-grows, good-grows, marked-grows, stands-grows, stands-last}

@@ -26,7 +26,7 @@ use Rattle.dead_laws.proofs.DeadMore.{dead-more}
 use Rattle.accept_laws.proofs.CodeOrder.{codes-at_most}
 use Rattle.accept_laws.proofs.Judging.{judged-where-excluded}
 use Rattle.accept_laws.proofs.Options.{both-none}
-use Rattle.log_laws.specs.Contents.{Content}
+use Rattle.search_log.specs.Contents.{Content}
 use Rattle.cert_lines.proofs.Deleting.{IsPlain, plain-excluded}
 use Rattle.merge_laws.specs.Fates.{AreMarked, IsFate, Stands}
 use Rattle.merge_laws.specs.Levels.{cites_of}

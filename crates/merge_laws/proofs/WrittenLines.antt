@@ -31,11 +31,11 @@ use Rattle.accept_laws.proofs.CodeOrder.{codes-at_most}
 use Rattle.accept_laws.proofs.Having.{formed-partial, has_all-each}
 use Rattle.accept_laws.proofs.Judging.{judged-where-excluded}
 use Rattle.accept_laws.proofs.Options.{both-none}
-use Rattle.log_laws.specs.declared.line.ChoiceRef.{ChoiceRef}
-use Rattle.log_laws.specs.declared.line.LogLine.{LogLine}
-use Rattle.log_laws.specs.declared.line.Ref.{Ref}
-use Rattle.log_laws.specs.Contents.{Cites, Content, KnownRow}
-use Rattle.log_laws.specs.GoodLines.{AreChildren, IsBranch, IsChildOf, IsCount, IsOutside, is_ruled_out}
+use Rattle.search_log.specs.declared.line.ChoiceRef.{ChoiceRef}
+use Rattle.search_log.specs.declared.line.LogLine.{LogLine}
+use Rattle.search_log.specs.declared.line.Ref.{Ref}
+use Rattle.search_log.specs.Contents.{Cites, Content, KnownRow}
+use Rattle.search_log.specs.GoodLines.{AreChildren, IsBranch, IsChildOf, IsCount, IsOutside, is_ruled_out}
 use Rattle.merge_laws.specs.Fates.{AreMarked, IsFate}
 use Rattle.merge_laws.specs.Written.{child_at, written, written_child}
 use Rattle.merge_laws.proofs.Beside.{above-least, with-literal, zip-both}

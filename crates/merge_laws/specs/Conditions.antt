@@ -9,7 +9,7 @@ use Rattle.cert_lines.specs.declared.answer.Line.{Line}
 use Rattle.cert_lines.specs.WellFormed.{IsLine, is_shown}
 use Rattle.accept_laws.specs.Lines.{AreGood}
 use Rattle.arc_levels.specs.Outside.{IsRootTag}
-use Rattle.log_laws.specs.Contents.{KnownRow}
+use Rattle.search_log.specs.Contents.{KnownRow}
 use Rattle.search_log.specs.LogStates.{LogState}
 use Rattle.fapp_plan.specs.Outcomes.{IsPlacedFor, Placed}
 use Rattle.fapp_plan.specs.VerdictRule.{IsVerdictOf}

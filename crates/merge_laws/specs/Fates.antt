@@ -11,7 +11,7 @@ use Rattle.fapp_model.specs.search.Partials.{IsLiteral, IsPartial}
 use Rattle.cert_lines.specs.declared.answer.Line.{Line}
 use Rattle.cert_lines.specs.acceptance.Deleted.{is_delete}
 use Rattle.cert_lines.specs.acceptance.Excluded.{is_marked, line_at}
-use Rattle.log_laws.specs.Contents.{Content}
+use Rattle.search_log.specs.Contents.{Content}
 
 -- line n of the certificate, from 1, says this
 pub record Stands (out : List Line) (content : Content) (n : ℕ) : Type 0 where

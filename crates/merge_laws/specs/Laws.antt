@@ -17,8 +17,8 @@ use Rattle.cert_lines.specs.acceptance.RootFaults.{verdict_tag}
 use Rattle.accept_laws.specs.Lines.{AreGood}
 use Rattle.arc_levels.specs.ArcLines.{AreArcLines}
 use Rattle.arc_levels.specs.Outside.{IsRootTag}
-use Rattle.log_laws.specs.declared.line.Ref.{Ref}
-use Rattle.log_laws.specs.Contents.{Cites, Content, KnownRow}
+use Rattle.search_log.specs.declared.line.Ref.{Ref}
+use Rattle.search_log.specs.Contents.{Cites, Content, KnownRow}
 use Rattle.search_log.specs.LogStates.{LogState}
 use Rattle.search_log.specs.declared.job.Outcome.TheVariants.{Refuted}
 use Rattle.fapp_plan.specs.Outcomes.{IsPlacedFor, Placed, settled_by}

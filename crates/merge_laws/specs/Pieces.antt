@@ -1,6 +1,6 @@
 -- The order of the logs' lines in a certificate: segments by their rows, then the rests.
 use Rattle.std.specs.Prelude.{ℕ, ◌+◌, ◌-◌, List, [], ◌∷◌, take, drop}
-use Rattle.log_laws.specs.declared.line.LogLine.{LogLine}
+use Rattle.search_log.specs.declared.line.LogLine.{LogLine}
 use Rattle.merge_laws.specs.declared.piece.Piece.{Piece}
 use Rattle.merge_laws.specs.Stages.{Merged, done_of, emit_all, land, lines_of}
 

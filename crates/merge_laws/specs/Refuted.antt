@@ -4,9 +4,9 @@ use Rattle.fapp_model.specs.declared.instance.Instance.{Instance}
 use Rattle.fapp_model.specs.declared.tag.Tag.{Tag}
 use Rattle.fapp_model.specs.search.Jobs.{job_count, job_prefix}
 use Rattle.fapp_model.specs.search.Partials.{HasAll}
-use Rattle.log_laws.specs.declared.line.LogLine.{LogLine}
-use Rattle.log_laws.specs.declared.line.Ref.{Ref}
-use Rattle.log_laws.specs.Contents.{Cites, Content, KnownRow}
+use Rattle.search_log.specs.declared.line.LogLine.{LogLine}
+use Rattle.search_log.specs.declared.line.Ref.{Ref}
+use Rattle.search_log.specs.Contents.{Cites, Content, KnownRow}
 use Rattle.search_log.specs.declared.job.Outcome.TheVariants.{Refuted}
 use Rattle.fapp_plan.specs.Outcomes.{Placed, settled_by}
 use Rattle.merge_laws.specs.Stages.{Merged, lines_of, number_of}

@@ -1,9 +1,9 @@
 -- How a certificate grows by the lines of logs, and the numbers that those lines and the rows get: 0 for what is left out.
 use Rattle.std.specs.Prelude.{ℕ, ◌+◌, ◌==◌, if◌then◌else◌, List, [], ◌∷◌, ◌++◌, length, slice_index_or, slice_set, replicate, Option, Some, None}
 use Rattle.cert_lines.specs.declared.answer.Line.{Line}
-use Rattle.log_laws.specs.declared.line.LogLine.{LogLine}
-use Rattle.log_laws.specs.declared.line.Ref.{Ref}
-use Rattle.log_laws.specs.declared.line.Ref.TheVariants.{Own, Row}
+use Rattle.search_log.specs.declared.line.LogLine.{LogLine}
+use Rattle.search_log.specs.declared.line.Ref.{Ref}
+use Rattle.search_log.specs.declared.line.Ref.TheVariants.{Own, Row}
 use Rattle.merge_laws.specs.Written.{written}
 
 -- a certificate so far; for each log the numbers of its lines that are done, and the numbers of the rows

@@ -10,7 +10,7 @@ use Rattle.std.proofs.lemmas.List.Elements.{Contains-append_cases, Contains-appe
 use Rattle.std.proofs.lemmas.List.Sums.{sum_by-cons}
 use Rattle.fapp_model.proofs.Members.{at_front, behind, front_or_behind, no_member}
 use Rattle.nogood.specs.declared.row.Row.{Row}
-use Rattle.log_laws.specs.Contents.{KnownRow}
+use Rattle.search_log.specs.Contents.{KnownRow}
 use Rattle.search_log.specs.declared.shared.Cite.{Cite}
 use Rattle.search_log.specs.Shares.{HaveOneContent}
 use Rattle.nogood_pool.specs.declared.view.HeldRow.{HeldRow}

@@ -1,7 +1,7 @@
 -- Rows that a worker copied from a pool, through a seat.
 use Rattle.std.specs.Prelude.{◌≡◌, ◌≢◌, ℕ, ◌+◌, ◌-◌, ◌≤◌, Bool, true, false, cond, nat_lt, ◌==◌, List, [], ◌∷◌, ◌++◌, length, map, drop, filter, sum_by, All, Contains}
 use Rattle.nogood.specs.declared.row.Row.{Row}
-use Rattle.log_laws.specs.Contents.{KnownRow, known_row}
+use Rattle.search_log.specs.Contents.{KnownRow, known_row}
 use Rattle.search_log.specs.declared.shared.Cite.{Cite}
 use Rattle.search_log.specs.Shares.{HaveOneContent, IsServed, SharedState, row_content}
 use Rattle.nogood_pool.specs.declared.view.HeldRow.{HeldRow}

@@ -13,7 +13,7 @@ use Rattle.answer_writer.specs.declared.status.Status.TheVariants.{Open, Usage, 
 use Rattle.answer_writer.specs.Refusals.{refusal_line}
 use Rattle.fapp_plan.specs.Plans.{split_of}
 use Rattle.fapp_words.specs.declared.options.SolveOptions.{SolveOptions}
-use Rattle.outcome_laws.specs.Laws.{IsEnough}
+use Rattle.fapp_workers.specs.VerdictLaws.{IsEnough}
 use Rattle.fapp_run.specs.declared.command.Command.TheVariants.{Solve}
 use Rattle.fapp_run.specs.declared.outcome.TheConstants.{MAX_INPUT}
 use Rattle.fapp_run.specs.Answers.{fuel_of, status_of}

@@ -11,7 +11,7 @@ use Rattle.fapp_model.proofs.Members.{any-some}
 use Rattle.nogood.specs.Partials.{Gives, choice_given}
 use Rattle.search_log.specs.declared.shared.Cite.{Cite}
 use Rattle.search_log.specs.Shares.{Fits, row_content}
-use Rattle.log_laws.specs.Contents.{KnownRow}
+use Rattle.search_log.specs.Contents.{KnownRow}
 use Rattle.row_copies.specs.Filed.{AreFiled, IsFoundIn, bucket, is_empty, known_cite, known_cites, literals_of}
 
 and-right : (a b : Bool) → (a && b) ≡ true → b ≡ true

@@ -2,7 +2,7 @@
 use Rattle.std.specs.Prelude.{◌≡◌, ℕ, ◌+◌, ◌*◌, ◌-◌, ◌%◌, ◌<◌, ◌≤◌, Bool, ◌==◌, ◌&&◌, ◌||◌, List, length, map, slice_index, slice_get, All, IsTrue, Option, Some, None}
 use Rattle.std.specs.List.{list_any}
 use Rattle.fapp_model.specs.declared.literal.Literal.{Literal}
-use Rattle.log_laws.specs.Contents.{KnownRow, known_row}
+use Rattle.search_log.specs.Contents.{KnownRow, known_row}
 use Rattle.search_log.specs.declared.shared.Cite.{Cite}
 use Rattle.search_log.specs.Shares.{Fits, row_content}
 

@@ -1,8 +1,8 @@
 -- Where the last segment ends.
 use Rattle.std.proofs.Common.{◌≡◌, ℕ, zero, suc, ◌+◌, List, [], ◌∷◌, ◌++◌, length, Some, refl, arith}
 use Rattle.std.specs.List.{slice_get}
-use Rattle.log_laws.specs.declared.line.Segment.{Segment}
-use Rattle.log_laws.specs.Segments.{ended}
+use Rattle.search_log.specs.declared.line.Segment.{Segment}
+use Rattle.search_log.specs.Segments.{ended}
 
 pub ended-at : (segments : List Segment) (s : Segment) (n : ℕ) → n + 1 ≡ length segments → slice_get segments n ≡ Some s → ended segments ≡ s.last + 1
 ended-at [] s n e at = absurd (omega arith)

@@ -5,7 +5,7 @@ use Rattle.std.proofs.lemmas.Option.{slice_get-get_or}
 use Rattle.fapp_model.specs.declared.instance.Instance.{Instance}
 use Rattle.fapp_model.proofs.Members.{All-from_members, at_front, behind, front_or_behind, no_member}
 use Rattle.nogood.specs.declared.row.Row.{Row}
-use Rattle.log_laws.specs.Contents.{KnownRow, known_row}
+use Rattle.search_log.specs.Contents.{KnownRow, known_row}
 use Rattle.search_log.specs.Shares.{Finds, Fits, IsServed, Looks, SharedState, row_content}
 use Rattle.search_log.specs.declared.shared.Cite.{Cite}
 use Rattle.search_log.specs.NumberedRows.{IsFitting, numbered_from, numbered_rows}

@@ -1,3 +1,8 @@
+pub mod Contents
+pub mod GoodLines
+pub mod Segments
+pub mod LogLaws
+pub mod ExampleLog
 pub mod Fuels
 pub mod Bounds
 pub mod PlainBounds

@@ -1,7 +1,7 @@
 -- What a log holds.
 use Rattle.std.specs.Prelude.{List, Option}
-use Rattle.log_laws.specs.declared.line.LogLine.{LogLine}
-use Rattle.log_laws.specs.declared.line.Segment.{Segment}
+use Rattle.search_log.specs.declared.line.LogLine.{LogLine}
+use Rattle.search_log.specs.declared.line.Segment.{Segment}
 use Rattle.search_log.specs.declared.log.KeptPlan.{KeptPlan}
 
 -- lines and segments in order, and the best assignment, if one was kept

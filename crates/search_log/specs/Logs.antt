@@ -2,8 +2,8 @@
 use Rattle.std.specs.Prelude.{◌≡◌, ◌⊎◌, ℕ, ◌-◌, max, List, [], ◌∷◌, ◌++◌, length, take, Option, Some, None}
 use Rattle.fapp_model.specs.declared.triple.Triple.{Triple}
 use Rattle.fapp_model.specs.Triples.{IsBelow}
-use Rattle.log_laws.specs.declared.line.LogLine.{LogLine}
-use Rattle.log_laws.specs.Segments.{ended}
+use Rattle.search_log.specs.declared.line.LogLine.{LogLine}
+use Rattle.search_log.specs.Segments.{ended}
 use Rattle.search_log.specs.declared.log.KeptPlan.{KeptPlan}
 use Rattle.search_log.specs.LogStates.{LogState}
 

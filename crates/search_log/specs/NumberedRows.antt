@@ -3,7 +3,7 @@ use Rattle.std.specs.Prelude.{◌≡◌, ℕ, ◌+◌, ◌<◌, ◌≤◌, List,
 use Rattle.std.proofs.Common.{⊎_elim, subst, sym, ap, ◌∙◌, arith}
 use Rattle.fapp_model.proofs.Members.{front_or_behind, no_member}
 use Rattle.nogood.specs.declared.row.Row.{Row}
-use Rattle.log_laws.specs.Contents.{KnownRow, known_row}
+use Rattle.search_log.specs.Contents.{KnownRow, known_row}
 use Rattle.search_log.specs.Shares.{Fits, HaveOneContent, row_content}
 
 -- rows with numbers from n on

@@ -10,7 +10,7 @@ use Rattle.nogood.specs.declared.row.Published.{Published}
 use Rattle.nogood.specs.declared.row.Published.TheVariants.{Home, Full, Busy, TooLong}
 use Rattle.nogood.specs.Partials.{Gives}
 use Rattle.nogood.specs.Rows.{row_literals}
-use Rattle.log_laws.specs.Contents.{Content, KnownRow, known_row}
+use Rattle.search_log.specs.Contents.{Content, KnownRow, known_row}
 use Rattle.search_log.specs.declared.shared.Cite.{Cite}
 
 -- the rows that were copied and those that were published, whether offers are taken, and how many were refused

@@ -1,6 +1,6 @@
 // What a job is, and how it ends.
 use fapp_model::{Items, Literal, Tag};
-use log_laws::Ref;
+use crate::Ref;
 
 /// A part of the work: a level on a prefix.
 #[derive(Debug, Drop)]

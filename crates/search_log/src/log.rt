@@ -1,10 +1,10 @@
 // The lines that the jobs of one holder found, in order.
 ghost use Rattle.std.specs.Prelude.{◌≡◌, ◌<◌, ◌≤◌, ◌^◌, length, None, Some, OnErr, OnOk, IfOk, MatchOption};
-ghost use Rattle.log_laws.specs.Segments.{ended};
+ghost use Rattle.search_log.specs.Segments.{ended};
 ghost use Rattle.search_log.specs.Logs.{KeepsBest, cut_behind, empty_log, with_line, with_segment};
 
 use fapp_model::{Items, NoMemory, Triple};
-use log_laws::{LogLine, Segment};
+use crate::{LogLine, Segment};
 use std::alloc::Global;
 use std::marker::Model;
 
@@ -28,7 +28,7 @@ pub struct Log {
 
 impl Model for Log {
     ghost use Rattle.std.specs.Prelude.{◌<◌, ◌≤◌, ◌^◌, length};
-    ghost use Rattle.log_laws.specs.Segments.{ended};
+    ghost use Rattle.search_log.specs.Segments.{ended};
     ghost use Rattle.search_log.specs.LogStates.{LogState};
 
     ghost Value = { LogState };

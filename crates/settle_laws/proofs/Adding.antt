@@ -3,14 +3,14 @@ use Rattle.std.proofs.Common.{◌≡◌, ◌≤◌, ◌<◌, Some, length, subst
 use Rattle.std.proofs.lemmas.List.Elements.{All-append, All-contains, All-cons, All-nil, Contains-append_cases}
 use Rattle.fapp_model.proofs.InOrder.{pairs-append}
 use Rattle.fapp_model.proofs.Members.{All-from_members, at_front, behind}
-use Rattle.log_laws.specs.declared.line.LogLine.{LogLine}
+use Rattle.search_log.specs.declared.line.LogLine.{LogLine}
 use Rattle.std.specs.List.{slice_get}
 use Rattle.std.proofs.lemmas.Bool.{cases_lt}
 use Rattle.std.proofs.lemmas.Option.{slice_get_within}
 use Rattle.fapp_model.specs.declared.instance.Instance.{Instance}
 use Rattle.fapp_model.specs.InstanceTags.{IsTagFor}
-use Rattle.log_laws.specs.Contents.{content_of}
-use Rattle.log_laws.proofs.Places.{front-or-last, get-front, last-is}
+use Rattle.search_log.specs.Contents.{content_of}
+use Rattle.search_log.proofs.Places.{front-or-last, get-front, last-is}
 use Rattle.search_log.specs.Shares.{IsServed}
 use Rattle.settle_laws.specs.Worlds.{AreServed, Gains, IsPlain}
 

@@ -17,9 +17,9 @@ use Rattle.fapp_model.specs.search.Partials.{IsPartial, literal, names}
 use Rattle.fapp_model.specs.search.Prefixes.{IsPrefix}
 use Rattle.fapp_model.proofs.Members.{at_front}
 use Rattle.dead_laws.proofs.DeadImplied.{dead-implied}
-use Rattle.log_laws.specs.declared.line.ChoiceRef.{ChoiceRef}
-use Rattle.log_laws.specs.Contents.{Content, known_row}
-use Rattle.log_laws.specs.GoodLines.{IsSettled}
+use Rattle.search_log.specs.declared.line.ChoiceRef.{ChoiceRef}
+use Rattle.search_log.specs.Contents.{Content, known_row}
+use Rattle.search_log.specs.GoodLines.{IsSettled}
 use Rattle.search_log.specs.LogStates.{LogState}
 use Rattle.settle_laws.specs.declared.found.Found.{Found}
 use Rattle.settle_laws.specs.declared.node.Node.{Node}

@@ -22,13 +22,13 @@ use Rattle.fapp_model.proofs.Members.{All-from_members}
 use Rattle.fapp_model.proofs.WorkOrders.{order-length}
 use Rattle.dead_laws.proofs.DeadImplied.{dead-implied}
 use Rattle.dead_laws.proofs.ImpliedLemmas.{Implied-branch, Implied-more}
-use Rattle.log_laws.specs.declared.line.ChoiceRef.{ChoiceRef}
-use Rattle.log_laws.specs.declared.line.LogLine.{LogLine}
-use Rattle.log_laws.specs.declared.line.Ref.TheVariants.{Own}
-use Rattle.log_laws.specs.Contents.{content_of}
-use Rattle.log_laws.specs.GoodLines.{IsGoodLine}
-use Rattle.log_laws.specs.Segments.{IsGoodLog}
-use Rattle.log_laws.proofs.Segmenting.{log-push}
+use Rattle.search_log.specs.declared.line.ChoiceRef.{ChoiceRef}
+use Rattle.search_log.specs.declared.line.LogLine.{LogLine}
+use Rattle.search_log.specs.declared.line.Ref.TheVariants.{Own}
+use Rattle.search_log.specs.Contents.{content_of}
+use Rattle.search_log.specs.GoodLines.{IsGoodLine}
+use Rattle.search_log.specs.Segments.{IsGoodLog}
+use Rattle.search_log.proofs.Segmenting.{log-push}
 use Rattle.search_log.specs.Bounds.{BoundState, floor}
 use Rattle.search_log.specs.LogStates.{LogState}
 use Rattle.search_log.specs.Logs.{with_line}

@@ -12,9 +12,9 @@ use Rattle.fapp_model.specs.search.Partials.{HasAll}
 use Rattle.fapp_model.specs.search.Prefixes.{IsPrefix}
 use Rattle.fapp_model.proofs.Members.{All-from_members}
 use Rattle.nogood.specs.Partials.{Gives}
-use Rattle.log_laws.specs.declared.line.Ref.TheVariants.{Row}
-use Rattle.log_laws.specs.Contents.{KnownRow}
-use Rattle.log_laws.proofs.Segmenting.{log-more}
+use Rattle.search_log.specs.declared.line.Ref.TheVariants.{Row}
+use Rattle.search_log.specs.Contents.{KnownRow}
+use Rattle.search_log.proofs.Segmenting.{log-more}
 use Rattle.search_log.specs.declared.log.KeptPlan.{KeptPlan}
 use Rattle.search_log.specs.declared.shared.Cite.{Cite}
 use Rattle.search_log.specs.Bounds.{BoundState, Tells, floor, lowest}

@@ -14,12 +14,12 @@ use Rattle.fapp_model.proofs.Anys.{passing}
 use Rattle.fapp_model.proofs.Members.{All-from_members, at_front, behind, front_or_behind}
 use Rattle.dead_laws.proofs.DeadImplied.{dead-implied}
 use Rattle.dead_laws.proofs.ImpliedLemmas.{Implied-more}
-use Rattle.log_laws.specs.declared.line.ChoiceRef.{ChoiceRef}
-use Rattle.log_laws.specs.declared.line.LogLine.{LogLine}
-use Rattle.log_laws.specs.declared.line.Ref.{Ref}
-use Rattle.log_laws.specs.declared.line.Ref.TheVariants.{Own, Row}
-use Rattle.log_laws.specs.Contents.{Cites, Content, KnownRow, content_of, known_row}
-use Rattle.log_laws.specs.GoodLines.{IsSettled}
+use Rattle.search_log.specs.declared.line.ChoiceRef.{ChoiceRef}
+use Rattle.search_log.specs.declared.line.LogLine.{LogLine}
+use Rattle.search_log.specs.declared.line.Ref.{Ref}
+use Rattle.search_log.specs.declared.line.Ref.TheVariants.{Own, Row}
+use Rattle.search_log.specs.Contents.{Cites, Content, KnownRow, content_of, known_row}
+use Rattle.search_log.specs.GoodLines.{IsSettled}
 use Rattle.search_log.specs.declared.shared.Cite.{Cite}
 use Rattle.search_log.specs.Shares.{HaveOneContent, SharedState, known, row_content}
 use Rattle.settle_laws.specs.Explained.{AreContents, AreCopied, StaysFor}

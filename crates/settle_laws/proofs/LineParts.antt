@@ -19,11 +19,11 @@ use Rattle.cert_lines.specs.acceptance.Contained.{has, has_all, has_all_but_one,
 use Rattle.dead_laws.proofs.DeadMore.{dead-more}
 use Rattle.dead_laws.proofs.DeadTests.{dead_by-along}
 use Rattle.dead_laws.proofs.ExampleTests.{one-more}
-use Rattle.log_laws.specs.declared.line.ChoiceRef.{ChoiceRef}
-use Rattle.log_laws.specs.declared.line.LogLine.{LogLine}
-use Rattle.log_laws.specs.Contents.{Cites, Content, KnownRow}
-use Rattle.log_laws.specs.GoodLines.{AreRefs, IsBranch, IsChildOf, IsCount, IsGoodLine, IsOutside, PassesBy}
-use Rattle.log_laws.proofs.Implying.{lits-partial}
+use Rattle.search_log.specs.declared.line.ChoiceRef.{ChoiceRef}
+use Rattle.search_log.specs.declared.line.LogLine.{LogLine}
+use Rattle.search_log.specs.Contents.{Cites, Content, KnownRow}
+use Rattle.search_log.specs.GoodLines.{AreRefs, IsBranch, IsChildOf, IsCount, IsGoodLine, IsOutside, PassesBy}
+use Rattle.search_log.proofs.Implying.{lits-partial}
 use Rattle.settle_laws.specs.Lines.{AreSorted}
 use Rattle.settle_laws.specs.Trying.{AreTriedChoices, IsChild}
 use Rattle.settle_laws.proofs.Adding.{has-cons, has-trans}

@@ -12,8 +12,8 @@ use Rattle.fapp_model.specs.search.Implied.{Implied}
 use Rattle.fapp_model.specs.search.Partials.{IsPartial}
 use Rattle.dead_laws.proofs.DeadImplied.{dead-implied}
 use Rattle.dead_laws.proofs.ImpliedLemmas.{Implied-more}
-use Rattle.log_laws.specs.declared.line.Ref.{Ref}
-use Rattle.log_laws.specs.declared.line.Ref.TheVariants.{Own, Row}
+use Rattle.search_log.specs.declared.line.Ref.{Ref}
+use Rattle.search_log.specs.declared.line.Ref.TheVariants.{Own, Row}
 use Rattle.search_log.specs.LogStates.{LogState}
 use Rattle.search_log.specs.Shares.{known}
 use Rattle.settle_laws.specs.declared.found.Found.{Found}

@@ -17,8 +17,8 @@ use Rattle.fapp_model.proofs.Members.{at_front}
 use Rattle.cert_lines.proofs.Codes.{tag_within}
 use Rattle.dead_laws.proofs.CostLaws.{cost-tag}
 use Rattle.dead_laws.proofs.ImpliedLemmas.{IsBelow-trans}
-use Rattle.log_laws.specs.Segments.{IsGoodLog}
-use Rattle.log_laws.proofs.CodeOrder.{below-codes, codes-at_most}
+use Rattle.search_log.specs.Segments.{IsGoodLog}
+use Rattle.search_log.proofs.CodeOrder.{below-codes, codes-at_most}
 use Rattle.search_log.specs.declared.log.KeptPlan.{KeptPlan}
 use Rattle.search_log.specs.Bounds.{BoundState, Offers, floor, lowest, with_offer}
 use Rattle.search_log.specs.LogStates.{LogState}

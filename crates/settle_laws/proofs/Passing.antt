@@ -14,11 +14,11 @@ use Rattle.fapp_model.specs.search.Partials.{HasAll, IsPartial, literal, names}
 use Rattle.fapp_model.specs.search.Prefixes.{IsPrefix}
 use Rattle.fapp_model.proofs.Members.{All-from_members}
 use Rattle.dead_laws.proofs.DeadImplied.{dead-implied}
-use Rattle.log_laws.specs.declared.line.ChoiceRef.{ChoiceRef}
-use Rattle.log_laws.specs.declared.line.LogLine.{LogLine}
-use Rattle.log_laws.specs.declared.line.Ref.TheVariants.{Own}
-use Rattle.log_laws.specs.Contents.{content_of}
-use Rattle.log_laws.specs.GoodLines.{IsSettled}
+use Rattle.search_log.specs.declared.line.ChoiceRef.{ChoiceRef}
+use Rattle.search_log.specs.declared.line.LogLine.{LogLine}
+use Rattle.search_log.specs.declared.line.Ref.TheVariants.{Own}
+use Rattle.search_log.specs.Contents.{content_of}
+use Rattle.search_log.specs.GoodLines.{IsSettled}
 use Rattle.std.specs.List.{slice_get}
 use Rattle.fapp_model.specs.InstanceTags.{IsTagFor}
 use Rattle.settle_laws.specs.declared.node.Node.{Node}

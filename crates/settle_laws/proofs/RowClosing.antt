@@ -15,12 +15,12 @@ use Rattle.fapp_model.specs.search.Prefixes.{IsPrefix}
 use Rattle.fapp_model.proofs.Anys.{any-member}
 use Rattle.fapp_model.proofs.Members.{All-from_members, behind}
 use Rattle.dead_laws.proofs.ImpliedLemmas.{Implied-more}
-use Rattle.log_laws.specs.declared.line.ChoiceRef.{ChoiceRef}
-use Rattle.log_laws.specs.declared.line.Ref.{Ref}
-use Rattle.log_laws.specs.declared.line.Ref.TheVariants.{Row}
-use Rattle.log_laws.specs.Contents.{Content, known_row}
-use Rattle.log_laws.specs.GoodLines.{IsSettled}
-use Rattle.log_laws.proofs.Implying.{lits-partial}
+use Rattle.search_log.specs.declared.line.ChoiceRef.{ChoiceRef}
+use Rattle.search_log.specs.declared.line.Ref.{Ref}
+use Rattle.search_log.specs.declared.line.Ref.TheVariants.{Row}
+use Rattle.search_log.specs.Contents.{Content, known_row}
+use Rattle.search_log.specs.GoodLines.{IsSettled}
+use Rattle.search_log.proofs.Implying.{lits-partial}
 use Rattle.nogood.specs.Rows.{row_literals}
 use Rattle.search_log.specs.declared.shared.Cite.{Cite}
 use Rattle.search_log.specs.LogStates.{LogState}

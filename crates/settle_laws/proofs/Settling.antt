@@ -17,12 +17,12 @@ use Rattle.fapp_model.specs.search.Prefixes.{GoesOn, IsAlong, IsPrefix, extensio
 use Rattle.fapp_model.specs.search.Tries.{IsTries}
 use Rattle.fapp_model.specs.search.WorkOrder.{work_order}
 use Rattle.fapp_model.proofs.Members.{All-from_members, at_front, behind as member-behind, front_or_behind, no_member}
-use Rattle.log_laws.specs.declared.line.LogLine.{LogLine}
-use Rattle.log_laws.specs.declared.line.Ref.TheVariants.{Own, Row}
-use Rattle.log_laws.specs.declared.line.Segment.{Segment}
-use Rattle.log_laws.specs.Contents.{Content, KnownRow, content_of, known_row}
-use Rattle.log_laws.specs.Segments.{IsGoodLog, ended}
-use Rattle.log_laws.proofs.Segmenting.{log-cut, log-home, log-more}
+use Rattle.search_log.specs.declared.line.LogLine.{LogLine}
+use Rattle.search_log.specs.declared.line.Ref.TheVariants.{Own, Row}
+use Rattle.search_log.specs.declared.line.Segment.{Segment}
+use Rattle.search_log.specs.Contents.{Content, KnownRow, content_of, known_row}
+use Rattle.search_log.specs.Segments.{IsGoodLog, ended}
+use Rattle.search_log.proofs.Segmenting.{log-cut, log-home, log-more}
 use Rattle.search_log.specs.declared.job.Outcome.{Outcome}
 use Rattle.search_log.specs.declared.job.Outcome.TheVariants.{Refuted, Moot as OutcomeMoot, Spent as OutcomeSpent}
 use Rattle.search_log.specs.Bounds.{floor}

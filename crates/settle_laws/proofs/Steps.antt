@@ -6,9 +6,9 @@ use Rattle.std.proofs.lemmas.List.{length-append}
 use Rattle.std.proofs.lemmas.List.Elements.{All-contains, Contains-append_cases}
 use Rattle.fapp_model.proofs.Anys.{none-member}
 use Rattle.fapp_model.proofs.Members.{All-from_members, front_or_behind, no_member}
-use Rattle.log_laws.specs.declared.line.LogLine.{LogLine}
-use Rattle.log_laws.specs.declared.line.Ref.TheVariants.{Own}
-use Rattle.log_laws.specs.Contents.{Cites, Content}
+use Rattle.search_log.specs.declared.line.LogLine.{LogLine}
+use Rattle.search_log.specs.declared.line.Ref.TheVariants.{Own}
+use Rattle.search_log.specs.Contents.{Cites, Content}
 use Rattle.fapp_model.specs.declared.instance.Instance.{Instance}
 use Rattle.fapp_model.specs.declared.literal.Literal.{Literal}
 use Rattle.fapp_model.specs.declared.tag.Tag.{Tag}
@@ -17,8 +17,8 @@ use Rattle.fapp_model.specs.Instances.{IsInstance}
 use Rattle.fapp_model.specs.Levels.{levels_of}
 use Rattle.fapp_model.specs.search.Partials.{HasAll, IsPartial, literal, names}
 use Rattle.fapp_model.specs.search.Prefixes.{IsPrefix}
-use Rattle.log_laws.specs.declared.line.ChoiceRef.{ChoiceRef}
-use Rattle.log_laws.specs.declared.line.Ref.{Ref}
+use Rattle.search_log.specs.declared.line.ChoiceRef.{ChoiceRef}
+use Rattle.search_log.specs.declared.line.Ref.{Ref}
 use Rattle.search_log.specs.Bounds.{floor}
 use Rattle.settle_laws.specs.declared.found.Found.{Found}
 use Rattle.settle_laws.specs.declared.found.Found.TheVariants.{Dead as FoundDead, Settled, Moot, Spent}

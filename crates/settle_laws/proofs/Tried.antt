@@ -16,13 +16,13 @@ use Rattle.fapp_model.proofs.Members.{All-from_members}
 use Rattle.dead_laws.proofs.DeadImplied.{dead-implied}
 use Rattle.dead_laws.proofs.DeadMore.{dead-more}
 use Rattle.dead_laws.proofs.ImpliedLemmas.{Implied-more}
-use Rattle.log_laws.specs.declared.line.ChoiceRef.{ChoiceRef}
-use Rattle.log_laws.specs.declared.line.LogLine.{LogLine}
-use Rattle.log_laws.specs.declared.line.Ref.{Ref}
-use Rattle.log_laws.specs.declared.line.Ref.TheVariants.{Own, Row}
-use Rattle.log_laws.specs.Contents.{Cites, Content, KnownRow, known_row}
-use Rattle.log_laws.specs.GoodLines.{IsSettled}
-use Rattle.log_laws.proofs.Places.{get-append}
+use Rattle.search_log.specs.declared.line.ChoiceRef.{ChoiceRef}
+use Rattle.search_log.specs.declared.line.LogLine.{LogLine}
+use Rattle.search_log.specs.declared.line.Ref.{Ref}
+use Rattle.search_log.specs.declared.line.Ref.TheVariants.{Own, Row}
+use Rattle.search_log.specs.Contents.{Cites, Content, KnownRow, known_row}
+use Rattle.search_log.specs.GoodLines.{IsSettled}
+use Rattle.search_log.proofs.Places.{get-append}
 use Rattle.settle_laws.specs.Founds.{IsRefuted}
 use Rattle.settle_laws.specs.Noted.{by_choice}
 use Rattle.settle_laws.specs.Trying.{AreTriedChoices, IsChild}

@@ -5,10 +5,10 @@ use Rattle.fapp_model.specs.declared.literal.Literal.{Literal}
 use Rattle.fapp_model.specs.Tags.{IsTagOf, triple_from}
 use Rattle.fapp_model.specs.search.Dead.{Dead}
 use Rattle.fapp_model.specs.search.Partials.{HasAll}
-use Rattle.log_laws.specs.declared.line.LogLine.{LogLine}
-use Rattle.log_laws.specs.declared.line.Ref.{Ref}
-use Rattle.log_laws.specs.declared.line.Ref.TheVariants.{Own, Row}
-use Rattle.log_laws.specs.Contents.{Cites, Content, KnownRow}
+use Rattle.search_log.specs.declared.line.LogLine.{LogLine}
+use Rattle.search_log.specs.declared.line.Ref.{Ref}
+use Rattle.search_log.specs.declared.line.Ref.TheVariants.{Own, Row}
+use Rattle.search_log.specs.Contents.{Cites, Content, KnownRow}
 use Rattle.search_log.specs.Bounds.{BoundState, floor}
 use Rattle.search_log.specs.Shares.{IsServed}
 use Rattle.settle_laws.specs.declared.found.Found.{Found}

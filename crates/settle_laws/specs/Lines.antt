@@ -7,9 +7,9 @@ use Rattle.fapp_model.specs.Costs.{cost}
 use Rattle.fapp_model.specs.Least.{IsFeasible}
 use Rattle.fapp_model.specs.Tags.{code_of}
 use Rattle.fapp_model.specs.search.Partials.{AreLiterals, Extends, HasAll}
-use Rattle.log_laws.specs.declared.line.ChoiceRef.{ChoiceRef}
-use Rattle.log_laws.specs.declared.line.LogLine.{LogLine}
-use Rattle.log_laws.specs.declared.line.Ref.TheVariants.{Own}
+use Rattle.search_log.specs.declared.line.ChoiceRef.{ChoiceRef}
+use Rattle.search_log.specs.declared.line.LogLine.{LogLine}
+use Rattle.search_log.specs.declared.line.Ref.TheVariants.{Own}
 use Rattle.search_log.specs.Bounds.{BoundState, Offers}
 use Rattle.search_log.specs.LogStates.{LogState}
 use Rattle.search_log.specs.Logs.{KeepsBest, with_line}

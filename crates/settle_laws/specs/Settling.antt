@@ -6,11 +6,11 @@ use Rattle.fapp_model.specs.search.Jobs.{target}
 use Rattle.fapp_model.specs.search.Partials.{HasAll}
 use Rattle.fapp_model.specs.search.Prefixes.{extensions}
 use Rattle.fapp_model.specs.search.Tries.{IsTries}
-use Rattle.log_laws.specs.declared.line.LogLine.{LogLine}
-use Rattle.log_laws.specs.declared.line.Ref.{Ref}
-use Rattle.log_laws.specs.declared.line.Ref.TheVariants.{Own, Row}
-use Rattle.log_laws.specs.declared.line.Segment.{Segment}
-use Rattle.log_laws.specs.Contents.{Content, KnownRow, content_of, known_row}
+use Rattle.search_log.specs.declared.line.LogLine.{LogLine}
+use Rattle.search_log.specs.declared.line.Ref.{Ref}
+use Rattle.search_log.specs.declared.line.Ref.TheVariants.{Own, Row}
+use Rattle.search_log.specs.declared.line.Segment.{Segment}
+use Rattle.search_log.specs.Contents.{Content, KnownRow, content_of, known_row}
 use Rattle.search_log.specs.declared.job.Outcome.{Outcome}
 use Rattle.search_log.specs.declared.job.Outcome.TheVariants.{Refuted, Moot, Spent}
 use Rattle.search_log.specs.Bounds.{floor, lowest}

@@ -7,7 +7,7 @@ use Rattle.fapp_model.specs.Least.{IsFeasible}
 use Rattle.fapp_model.specs.Tags.{code_of, triple_from}
 use Rattle.fapp_model.specs.search.Dead.{Dead}
 use Rattle.fapp_model.specs.search.Partials.{Extends, HasAll}
-use Rattle.log_laws.specs.Contents.{KnownRow}
+use Rattle.search_log.specs.Contents.{KnownRow}
 use Rattle.search_log.specs.Bounds.{floor}
 use Rattle.search_log.specs.Shares.{known}
 use Rattle.settle_laws.specs.Levels.{level_code, target_code}

@@ -8,8 +8,8 @@ use Rattle.fapp_model.specs.search.Jobs.{target}
 use Rattle.fapp_model.specs.search.Partials.{HasAll, literal}
 use Rattle.fapp_model.specs.search.Prefixes.{GoesOn}
 use Rattle.tries_laws.specs.TriesLaws.{AreTried}
-use Rattle.log_laws.specs.declared.line.LogLine.{LogLine}
-use Rattle.log_laws.specs.Contents.{KnownRow}
+use Rattle.search_log.specs.declared.line.LogLine.{LogLine}
+use Rattle.search_log.specs.Contents.{KnownRow}
 use Rattle.settle_laws.specs.Levels.{level_code}
 use Rattle.settle_laws.specs.Stops.{AreStops, IsUndecided, IsWhole, NoneFits, stop_at}
 use Rattle.settle_laws.specs.Worlds.{KeepsAtMost, World}

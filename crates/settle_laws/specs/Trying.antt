@@ -7,10 +7,10 @@ use Rattle.fapp_model.specs.Tags.{triple_from}
 use Rattle.fapp_model.specs.search.Implied.{Implied}
 use Rattle.fapp_model.specs.search.Partials.{HasAll, literal}
 use Rattle.fapp_model.specs.search.WorkOrder.{work_order}
-use Rattle.log_laws.specs.declared.line.ChoiceRef.{ChoiceRef}
-use Rattle.log_laws.specs.declared.line.LogLine.{LogLine}
-use Rattle.log_laws.specs.Contents.{Cites, Content, KnownRow}
-use Rattle.log_laws.specs.GoodLines.{IsSettled}
+use Rattle.search_log.specs.declared.line.ChoiceRef.{ChoiceRef}
+use Rattle.search_log.specs.declared.line.LogLine.{LogLine}
+use Rattle.search_log.specs.Contents.{Cites, Content, KnownRow}
+use Rattle.search_log.specs.GoodLines.{IsSettled}
 use Rattle.search_log.specs.Bounds.{floor}
 use Rattle.search_log.specs.Shares.{IsServed}
 use Rattle.settle_laws.specs.declared.node.Node.{Node}

@@ -6,9 +6,9 @@ use Rattle.fapp_model.specs.InstanceTags.{IsTagFor}
 use Rattle.fapp_model.specs.Least.{IsFeasible}
 use Rattle.fapp_model.specs.Tags.{triple_from}
 use Rattle.fapp_model.specs.Triples.{IsAtMost}
-use Rattle.log_laws.specs.declared.line.LogLine.{LogLine}
-use Rattle.log_laws.specs.Contents.{content_of}
-use Rattle.log_laws.specs.Segments.{IsGoodLog}
+use Rattle.search_log.specs.declared.line.LogLine.{LogLine}
+use Rattle.search_log.specs.Contents.{content_of}
+use Rattle.search_log.specs.Segments.{IsGoodLog}
 use Rattle.search_log.specs.declared.log.KeptPlan.{KeptPlan}
 use Rattle.search_log.specs.Bounds.{BoundState, floor, lowest}
 use Rattle.search_log.specs.LogStates.{LogState}

@@ -1,5 +1,5 @@
 use fapp_model::Tag;
-use log_laws::Ref;
+use search_log::Ref;
 
 /// What the search found of some literals.
 #[derive(Clone, Copy, Debug, PartialEq, Eq)]

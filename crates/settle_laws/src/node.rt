@@ -1,5 +1,5 @@
 use fapp_model::{Items, Tag};
-use log_laws::ChoiceRef;
+use search_log::ChoiceRef;
 
 /// Literals of which a further path is being tried, choice by choice.
 #[derive(Debug, Drop)]

@@ -8,10 +8,10 @@ use Rattle.fapp_model.specs.Tags.{triple_from}
 use Rattle.fapp_model.specs.search.Implied.{Implied}
 use Rattle.fapp_model.specs.search.Partials.{AreLiterals, HasAll}
 use Rattle.fapp_model.proofs.Members.{no_member}
-use Rattle.log_laws.specs.declared.line.LogLine.{LogLine}
-use Rattle.log_laws.specs.declared.line.Ref.{Ref}
-use Rattle.log_laws.specs.declared.line.Ref.TheVariants.{Own}
-use Rattle.log_laws.specs.Contents.{Content, KnownRow, content_of}
+use Rattle.search_log.specs.declared.line.LogLine.{LogLine}
+use Rattle.search_log.specs.declared.line.Ref.{Ref}
+use Rattle.search_log.specs.declared.line.Ref.TheVariants.{Own}
+use Rattle.search_log.specs.Contents.{Content, KnownRow, content_of}
 use Rattle.search_log.specs.declared.job.Outcome.{Outcome}
 use Rattle.search_log.specs.declared.job.Outcome.TheVariants.{Refuted}
 use Rattle.search_log.specs.Shares.{IsServed}

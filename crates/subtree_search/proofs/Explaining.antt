@@ -18,14 +18,14 @@ use Rattle.fapp_model.proofs.InOrder.{pairs-filter, pairs-head, pairs-tail}
 use Rattle.fapp_model.proofs.Members.{All-from_members, at_front, behind, front_or_behind, no_member}
 use Rattle.dead_laws.proofs.DeadMore.{dead-more}
 use Rattle.cert_lines.proofs.ListLaws.{few_choices}
-use Rattle.log_laws.specs.declared.line.ChoiceRef.{ChoiceRef}
-use Rattle.log_laws.specs.declared.line.LogLine.{LogLine}
-use Rattle.log_laws.specs.declared.line.Ref.{Ref}
-use Rattle.log_laws.specs.declared.line.Ref.TheVariants.{Own, Row}
-use Rattle.log_laws.specs.GoodLines.{IsSettled}
+use Rattle.search_log.specs.declared.line.ChoiceRef.{ChoiceRef}
+use Rattle.search_log.specs.declared.line.LogLine.{LogLine}
+use Rattle.search_log.specs.declared.line.Ref.{Ref}
+use Rattle.search_log.specs.declared.line.Ref.TheVariants.{Own, Row}
+use Rattle.search_log.specs.GoodLines.{IsSettled}
 use Rattle.nogood.specs.Literals.{other_paths}
-use Rattle.count_laws.specs.CountedSums.{IsCalm, RemainsAt}
-use Rattle.count_laws.proofs.DeadByBound.{calm_or_dead}
+use Rattle.choice_counts.specs.CountedSums.{IsCalm, RemainsAt}
+use Rattle.choice_counts.proofs.DeadByBound.{calm_or_dead}
 use Rattle.nogood.specs.Rows.{row_literals}
 use Rattle.search_log.specs.declared.shared.Cite.{Cite}
 use Rattle.search_log.specs.LogStates.{LogState}

@@ -4,7 +4,7 @@ use Rattle.std.specs.Result.{IsErr}
 use Rattle.fapp_model.specs.declared.instance.Instance.{Instance}
 use Rattle.fapp_model.specs.declared.literal.Literal.{Literal}
 use Rattle.fapp_model.specs.search.Prefixes.{IsPrefix}
-use Rattle.count_laws.specs.ForwardStates.{ForwardState, with_literals}
+use Rattle.choice_counts.specs.ForwardStates.{ForwardState, with_literals}
 use Rattle.settle_laws.specs.declared.found.Found.{Found}
 use Rattle.settle_laws.specs.declared.node.Node.{Node}
 use Rattle.settle_laws.specs.Founds.{Searched}

@@ -8,9 +8,9 @@ use Rattle.fapp_model.specs.declared.tag.Tag.{Tag}
 use Rattle.fapp_model.specs.Levels.{levels_of}
 use Rattle.fapp_model.specs.search.Partials.{names}
 use Rattle.fapp_model.specs.search.Prefixes.{IsPrefix}
-use Rattle.count_laws.specs.ForwardStates.{ForwardState, with_literals, without_last}
-use Rattle.log_laws.specs.declared.line.LogLine.{LogLine}
-use Rattle.log_laws.specs.declared.line.Ref.TheVariants.{Own}
+use Rattle.choice_counts.specs.ForwardStates.{ForwardState, with_literals, without_last}
+use Rattle.search_log.specs.declared.line.LogLine.{LogLine}
+use Rattle.search_log.specs.declared.line.Ref.TheVariants.{Own}
 use Rattle.search_log.specs.LogStates.{LogState}
 use Rattle.settle_laws.specs.declared.found.Found.{Found}
 use Rattle.settle_laws.specs.declared.found.Found.TheVariants.{Settled}

@@ -8,7 +8,7 @@ use Rattle.fapp_model.specs.InstanceTags.{IsTagFor}
 use Rattle.fapp_model.specs.Tags.{triple_from}
 use Rattle.fapp_model.specs.search.Dead.{Dead}
 use Rattle.fapp_model.specs.search.Partials.{literal, names}
-use Rattle.log_laws.specs.declared.line.Ref.TheVariants.{Own}
+use Rattle.search_log.specs.declared.line.Ref.TheVariants.{Own}
 use Rattle.search_log.specs.LogStates.{LogState}
 use Rattle.settle_laws.specs.declared.node.Node.{Node}
 use Rattle.settle_laws.specs.Noted.{by_choice}
@@ -17,7 +17,7 @@ use Rattle.settle_laws.specs.Worlds.{AreServed}
 use Rattle.settle_laws.proofs.Passing.{cited-next, dead-next}
 use Rattle.subtree_search.specs.Explaining.{IsAsked}
 use Rattle.subtree_search.specs.Recalling.{IsRecalled}
-use Rattle.log_laws.specs.declared.line.LogLine.{LogLine}
+use Rattle.search_log.specs.declared.line.LogLine.{LogLine}
 use Rattle.std.specs.List.{slice_get}
 
 pub passes-none : (instance : Instance) (first : ℕ) (literals : List Literal) (log : LogState) (node : Node) → node.choice ≤ node.count → Passes instance first literals log node node

@@ -15,7 +15,7 @@ use Rattle.fapp_model.specs.search.Prefixes.{IsPrefix}
 use Rattle.fapp_model.specs.search.WorkOrder.{work_order}
 use Rattle.fapp_model.proofs.Members.{All-from_members}
 use Rattle.fapp_tables.proofs.RankLaws.{rising_ranks}
-use Rattle.count_laws.specs.ForwardStates.{AreSlots}
+use Rattle.choice_counts.specs.ForwardStates.{AreSlots}
 use Rattle.settle_laws.specs.Lines.{AreSorted}
 use Rattle.settle_laws.proofs.FullPrefixes.{full-has}
 use Rattle.subtree_search.specs.Plans.{IsNotAfter, IsPlanOf}

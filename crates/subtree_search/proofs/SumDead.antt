@@ -24,12 +24,12 @@ use Rattle.dead_laws.proofs.DeadTests.{arcs-of}
 use Rattle.dead_laws.proofs.Growing.{added-grows, names-more, pair-grows}
 use Rattle.dead_laws.proofs.PairSums.{parts-at_most}
 use Rattle.dead_laws.proofs.Picks.{head-not-named}
-use Rattle.count_laws.specs.CountedSums.{IsBound, IsCalm, IsLeastAt, IsLeastSum}
-use Rattle.count_laws.proofs.Bounds.{further_most, open_part, total_most}
-use Rattle.count_laws.proofs.Calm.{bound_is, one_least}
-use Rattle.count_laws.proofs.Coded.{code-at_most}
-use Rattle.count_laws.proofs.DeadByBound.{calm_or_dead, level_few, mode_few}
-use Rattle.count_laws.proofs.OpenSums.{change_at}
+use Rattle.choice_counts.specs.CountedSums.{IsBound, IsCalm, IsLeastAt, IsLeastSum}
+use Rattle.choice_counts.proofs.Bounds.{further_most, open_part, total_most}
+use Rattle.choice_counts.proofs.Calm.{bound_is, one_least}
+use Rattle.choice_counts.proofs.Coded.{code-at_most}
+use Rattle.choice_counts.proofs.DeadByBound.{calm_or_dead, level_few, mode_few}
+use Rattle.choice_counts.proofs.OpenSums.{change_at}
 
 -- ---- the second part of such a sum is small
 

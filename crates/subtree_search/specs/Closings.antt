@@ -5,7 +5,7 @@ use Rattle.fapp_model.specs.declared.literal.Literal.{Literal}
 use Rattle.fapp_model.specs.Instances.{IsInstance}
 use Rattle.fapp_model.specs.Levels.{levels_of}
 use Rattle.fapp_model.specs.search.Prefixes.{IsPrefix}
-use Rattle.log_laws.specs.Segments.{ended}
+use Rattle.search_log.specs.Segments.{ended}
 use Rattle.settle_laws.specs.declared.found.Found.{Found}
 use Rattle.settle_laws.specs.Lined.{Lined}
 use Rattle.settle_laws.specs.Worlds.{World}

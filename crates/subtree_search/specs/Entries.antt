@@ -5,8 +5,8 @@ use Rattle.fapp_model.specs.declared.instance.Instance.{Instance}
 use Rattle.fapp_model.specs.declared.literal.Literal.{Literal}
 use Rattle.subtree_search.specs.declared.enter.Entry.{Entry}
 use Rattle.subtree_search.specs.declared.enter.Entry.TheVariants.{Cited, Decided, Ticked}
-use Rattle.log_laws.specs.declared.line.Ref.TheVariants.{Row}
-use Rattle.log_laws.specs.Contents.{known_row}
+use Rattle.search_log.specs.declared.line.Ref.TheVariants.{Row}
+use Rattle.search_log.specs.Contents.{known_row}
 use Rattle.search_log.specs.Shares.{row_content}
 use Rattle.settle_laws.specs.declared.found.Found.TheVariants.{Settled}
 use Rattle.settle_laws.specs.Founds.{Searched}

@@ -2,7 +2,7 @@
 use Rattle.std.specs.Prelude.{◌≡◌, ℕ, ◌≤◌, List, slice_get, Contains, Some}
 use Rattle.fapp_model.specs.declared.literal.Literal.{Literal}
 use Rattle.fapp_model.specs.search.Partials.{HasAll}
-use Rattle.log_laws.specs.declared.line.LogLine.{LogLine}
+use Rattle.search_log.specs.declared.line.LogLine.{LogLine}
 use Rattle.search_log.specs.declared.shared.Cite.{Cite}
 
 -- a line that stands at a place has at least the tag and only these literals

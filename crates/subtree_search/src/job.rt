@@ -4,7 +4,7 @@ ghost use Rattle.fapp_model.specs.declared.instance.Instance.{Instance};
 ghost use Rattle.fapp_model.specs.declared.literal.Literal.{Literal};
 ghost use Rattle.fapp_model.specs.Levels.{levels_of};
 ghost use Rattle.fapp_model.specs.search.Prefixes.{IsPrefix};
-ghost use Rattle.count_laws.specs.ForwardStates.{at_level, with_literals};
+ghost use Rattle.choice_counts.specs.ForwardStates.{at_level, with_literals};
 ghost use Rattle.search_log.specs.Bounds.{BoundState};
 ghost use Rattle.settle_laws.specs.Lined.{Lined};
 ghost use Rattle.settle_laws.specs.Settling.{Settles};

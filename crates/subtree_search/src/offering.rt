@@ -1,7 +1,7 @@
 // The line that settles a job, made known.
 ghost use Rattle.std.specs.Prelude.{◌≡◌, ◌↔◌, ◌+◌, ◌≤◌, length};
 ghost use Rattle.fapp_model.specs.declared.instance.Instance.{Instance};
-ghost use Rattle.log_laws.specs.Segments.{ended};
+ghost use Rattle.search_log.specs.Segments.{ended};
 ghost use Rattle.settle_laws.specs.Published.{IsOfferable, IsPublished};
 
 use fapp_model::NoMemory;

@@ -1,7 +1,7 @@
 // Prefixes, pushed and taken back.
 ghost use Rattle.std.specs.Prelude.{◌≡◌, ◌≤◌, [], length, take};
 ghost use Rattle.fapp_model.specs.search.Prefixes.{IsPrefix};
-ghost use Rattle.count_laws.specs.ForwardStates.{with_literals};
+ghost use Rattle.choice_counts.specs.ForwardStates.{with_literals};
 
 use fapp_model::Literal;
 use forward_count::Forward;

@@ -5,7 +5,7 @@ ghost use Rattle.fapp_model.specs.declared.instance.Instance.{Instance};
 ghost use Rattle.fapp_model.specs.declared.literal.Literal.{Literal};
 ghost use Rattle.fapp_model.specs.search.Partials.{names};
 ghost use Rattle.fapp_model.specs.search.Prefixes.{IsPrefix};
-ghost use Rattle.count_laws.specs.ForwardStates.{with_literals};
+ghost use Rattle.choice_counts.specs.ForwardStates.{with_literals};
 ghost use Rattle.settle_laws.specs.Explained.{AreContents, AreCopied};
 ghost use Rattle.settle_laws.specs.Founds.{Searched};
 ghost use Rattle.settle_laws.specs.OpenNodes.{IsTrying};

@@ -11,8 +11,8 @@ use Rattle.fapp_model.specs.search.Jobs.{job_count}
 use Rattle.cert_lines.specs.declared.answer.Verdict.{Verdict}
 use Rattle.cert_lines.specs.WellFormed.{is_shown}
 use Rattle.arc_levels.specs.Outside.{IsRootTag}
-use Rattle.log_laws.specs.declared.line.Ref.{Ref}
-use Rattle.log_laws.specs.Contents.{KnownRow}
+use Rattle.search_log.specs.declared.line.Ref.{Ref}
+use Rattle.search_log.specs.Contents.{KnownRow}
 use Rattle.search_log.specs.declared.job.Outcome.{Outcome}
 use Rattle.search_log.specs.declared.job.Outcome.TheVariants.{Refuted, Moot, Spent}
 use Rattle.search_log.specs.LogStates.{LogState}

@@ -1,6 +1,6 @@
 ghost use Rattle.std.specs.Prelude.{◌≡◌, ◌≤◌, [], length, IfOk};
 ghost use Rattle.fapp_model.specs.Levels.{levels_of};
-ghost use Rattle.count_laws.specs.ForwardStates.{at_level};
+ghost use Rattle.choice_counts.specs.ForwardStates.{at_level};
 ghost use Rattle.search_log.specs.Shares.{IsServed, row_content};
 
 use super::falling::FallingBound;

@@ -5,7 +5,7 @@ use Rattle.fapp_model.specs.Tags.{triple_from}
 use Rattle.arc_levels.specs.Outside.{IsRootTag}
 use Rattle.cert_lines.specs.declared.answer.Line.{Line}
 use Rattle.search_log.specs.LogStates.{LogState}
-use Rattle.outcome_laws.proofs.Words.{word-shown}
+use Rattle.fapp_workers.proofs.LeastWords.{word-shown}
 use Rattle.fapp_run.specs.Solving.{IsAnswerFor, IsKeptPlan}
 use Rattle.fapp_run.proofs.Joining.{mergeable, tags-for}
 use Rattle.fapp_run.proofs.Solved.{answer-for}

@@ -1,6 +1,6 @@
 use Rattle.std.proofs.Common.{◌≡◌, ◌+◌, List, ◌++◌, ◌∷◌, [], take, ap, sym, ◌∙◌, arith}
 use Rattle.std.proofs.lemmas.List.{take_more}
-use Rattle.log_laws.specs.Contents.{KnownRow, known_row}
+use Rattle.search_log.specs.Contents.{KnownRow, known_row}
 use Rattle.nogood.specs.declared.row.Row.{Row}
 use Rattle.nogood_pool.specs.Seats.{view_of}
 use Rattle.search_log.specs.NumberedRows.{numbered_rows}

@@ -4,7 +4,7 @@ use Rattle.fapp_model.specs.Instances.{IsInstance}
 use Rattle.fapp_model.specs.Levels.{levels_of}
 use Rattle.fapp_model.specs.Tags.{code_of}
 use Rattle.best_word.specs.Bound.{top_code}
-use Rattle.outcome_laws.proofs.Words.{cost-level}
+use Rattle.fapp_workers.proofs.LeastWords.{cost-level}
 use Rattle.settle_laws.proofs.Offering.{cost-tag-code}
 use Rattle.fapp_workers.proofs.start.begin.Goals as goal
 

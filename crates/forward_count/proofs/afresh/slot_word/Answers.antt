@@ -2,8 +2,8 @@ use Rattle.std.proofs.Common.{◌≡◌, ◌<◌, ◌∙◌, ℕ, List, Some, ap
 use Rattle.fapp_model.specs.Assignments.{count_at}
 use Rattle.fapp_model.specs.search.Partials.{literal}
 use Rattle.nogood.specs.Partials.{choice_given}
-use Rattle.count_laws.specs.Counts.{pair_word, slot_part}
-use Rattle.count_laws.proofs.Clash.{pair_turned}
+use Rattle.choice_counts.specs.Counts.{pair_word, slot_part}
+use Rattle.choice_counts.proofs.Clash.{pair_turned}
 use Rattle.forward_count.proofs.Neighbours.{near_below, near_shares, shares_apart}
 use Rattle.forward_count.proofs.afresh.slot_word.Goals as goal
 

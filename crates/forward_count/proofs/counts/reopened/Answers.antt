@@ -1,11 +1,11 @@
 use Rattle.std.proofs.Common.{◌≡◌, ◌<◌, Bool, true, false, length, sym, ap, ◌∙◌, subst, arith}
 use Rattle.std.specs.Option.{is_some}
 use Rattle.nogood.specs.Partials.{choice_given}
-use Rattle.count_laws.specs.declared.rows.Row.{Row}
-use Rattle.count_laws.specs.declared.rows.TheConstants.{HARD}
-use Rattle.count_laws.specs.Totals.{IsOpen}
-use Rattle.count_laws.specs.Words.{least_part, stuck_part}
-use Rattle.count_laws.proofs.OpenSums.{least_most, open_freed, open_most, open_part, open_taken, stuck_most}
+use Rattle.choice_counts.specs.declared.rows.Row.{Row}
+use Rattle.choice_counts.specs.declared.rows.TheConstants.{HARD}
+use Rattle.choice_counts.specs.Totals.{IsOpen}
+use Rattle.choice_counts.specs.Words.{least_part, stuck_part}
+use Rattle.choice_counts.proofs.OpenSums.{least_most, open_freed, open_most, open_part, open_taken, stuck_most}
 use Rattle.forward_count.specs.Steps.{slots_after}
 use Rattle.forward_count.proofs.counts.reopened.Goals as goal
 

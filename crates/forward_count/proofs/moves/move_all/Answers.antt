@@ -3,9 +3,9 @@ use Rattle.std.proofs.lemmas.List.{take_all}
 use Rattle.fapp_model.specs.Assignments.{count_at}
 use Rattle.fapp_model.specs.search.Clashes.{shares_record}
 use Rattle.fapp_tables.specs.Indexes.{neighbours_of}
-use Rattle.count_laws.specs.declared.rows.Row.{Row}
-use Rattle.count_laws.specs.Moves.{CanMoveRow, words_with}
-use Rattle.count_laws.specs.Words.{row_at, row_by}
+use Rattle.choice_counts.specs.declared.rows.Row.{Row}
+use Rattle.choice_counts.specs.Moves.{CanMoveRow, words_with}
+use Rattle.choice_counts.specs.Words.{row_at, row_by}
 use Rattle.forward_count.proofs.Added.{IsAdded, added_all, added_more, waits}
 use Rattle.forward_count.specs.Floors.{IsFloor}
 use Rattle.forward_count.proofs.RowLaws.{row_floor}

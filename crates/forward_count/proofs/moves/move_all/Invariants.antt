@@ -1,8 +1,8 @@
 use Rattle.std.proofs.Common.{take}
 use Rattle.fapp_tables.specs.Indexes.{neighbours_of}
-use Rattle.count_laws.specs.Moves.{words_with}
-use Rattle.count_laws.specs.Totals.{IsOpen}
-use Rattle.count_laws.specs.Words.{row_at}
+use Rattle.choice_counts.specs.Moves.{words_with}
+use Rattle.choice_counts.specs.Totals.{IsOpen}
+use Rattle.choice_counts.specs.Words.{row_at}
 use Rattle.forward_count.proofs.Added.{IsAdded}
 use Rattle.forward_count.proofs.Neighbours.{leads}
 use Rattle.forward_count.proofs.moves.move_all.Given as goal

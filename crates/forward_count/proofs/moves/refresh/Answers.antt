@@ -2,12 +2,12 @@ use Rattle.std.proofs.Common.{◌≡◌, false, true, List, set, sym, ap, ◌∙
 use Rattle.std.specs.Option.{is_some}
 use Rattle.std.proofs.lemmas.List.{get_or-set_same}
 use Rattle.nogood.specs.Partials.{choice_given}
-use Rattle.count_laws.specs.declared.rows.Row.{Row}
-use Rattle.count_laws.specs.declared.rows.TheConstants.{HARD}
-use Rattle.count_laws.specs.Moves.{words_with}
-use Rattle.count_laws.specs.Totals.{open_sum}
-use Rattle.count_laws.specs.Words.{least_part, no_row, row_at, row_by, stuck_part}
-use Rattle.count_laws.proofs.OpenSums.{least_most, open_changed, open_kept, open_most, open_part, stuck_most}
+use Rattle.choice_counts.specs.declared.rows.Row.{Row}
+use Rattle.choice_counts.specs.declared.rows.TheConstants.{HARD}
+use Rattle.choice_counts.specs.Moves.{words_with}
+use Rattle.choice_counts.specs.Totals.{open_sum}
+use Rattle.choice_counts.specs.Words.{least_part, no_row, row_at, row_by, stuck_part}
+use Rattle.choice_counts.proofs.OpenSums.{least_most, open_changed, open_kept, open_most, open_part, stuck_most}
 use Rattle.forward_count.proofs.moves.refresh.Goals as goal
 
 pub without-requires-clause-stuck : goal.without-requires-clause-stuck

@@ -1,6 +1,6 @@
 use Rattle.std.proofs.Common.{◌∙◌, None, sym, arith}
 use Rattle.std.proofs.lemmas.List.{ext_get_or, length-replicate}
-use Rattle.count_laws.proofs.Slots.{blank_slot, blanks}
+use Rattle.choice_counts.proofs.Slots.{blank_slot, blanks}
 use Rattle.forward_count.proofs.recount.clear_slots.Goals as goal
 
 pub returns : goal.returns

@@ -4,12 +4,12 @@ use Rattle.std.proofs.lemmas.List.{take_more}
 use Rattle.nogood.specs.Partials.{choice_given}
 use Rattle.fapp_model.specs.declared.literal.Literal.{Literal}
 use Rattle.fapp_model.specs.search.Partials.{literal}
-use Rattle.count_laws.specs.declared.rows.TheConstants.{HARD}
-use Rattle.count_laws.specs.Kept.{AreKept}
-use Rattle.count_laws.specs.Moves.{CanMoveAll, moved, rows_with}
-use Rattle.count_laws.specs.Totals.{AreRows}
-use Rattle.count_laws.proofs.DeadByBound.{level_few}
-use Rattle.count_laws.proofs.KeptLaws.{own_word}
+use Rattle.choice_counts.specs.declared.rows.TheConstants.{HARD}
+use Rattle.choice_counts.specs.Kept.{AreKept}
+use Rattle.choice_counts.specs.Moves.{CanMoveAll, moved, rows_with}
+use Rattle.choice_counts.specs.Totals.{AreRows}
+use Rattle.choice_counts.proofs.DeadByBound.{level_few}
+use Rattle.choice_counts.proofs.KeptLaws.{own_word}
 use Rattle.forward_count.specs.Steps.{CanCount, slots_after}
 use Rattle.forward_count.proofs.StepLaws.{IsCounted, forward_rows, pushes, pushes_can, pushes_fit, pushes_slot, same_step}
 use Rattle.forward_count.proofs.TakeLaws.{forward_take, fresh_at}

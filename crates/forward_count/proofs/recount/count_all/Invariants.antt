@@ -1,5 +1,5 @@
 use Rattle.std.proofs.Common.{take}
-use Rattle.count_laws.specs.Kept.{AreKept}
+use Rattle.choice_counts.specs.Kept.{AreKept}
 use Rattle.forward_count.proofs.recount.count_all.Given as goal
 
 abbrev pub invariant-loop-index : goal.invariant-loop-index

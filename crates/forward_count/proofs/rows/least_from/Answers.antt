@@ -1,7 +1,7 @@
 use Rattle.std.proofs.Common.{◌≡◌, ◌<◌, ◌≤◌, ◌∙◌, ℕ, List, ap, length, refl, sym, arith}
 use Rattle.std.proofs.lemmas.List.{get_or_default, take_all}
-use Rattle.count_laws.specs.Words.{least_of, word_at}
-use Rattle.count_laws.proofs.Least.{least_none}
+use Rattle.choice_counts.specs.Words.{least_of, word_at}
+use Rattle.choice_counts.proofs.Least.{least_none}
 use Rattle.forward_count.proofs.RowLaws.{floor_found, least_more}
 use Rattle.forward_count.proofs.rows.least_from.Goals.{then-word-least, else-word-least}
 use Rattle.forward_count.proofs.rows.least_from.Goals as goal

@@ -1,5 +1,5 @@
 use Rattle.std.proofs.Common.{◌≡◌, take}
-use Rattle.count_laws.specs.Words.{least_of}
+use Rattle.choice_counts.specs.Words.{least_of}
 use Rattle.forward_count.proofs.rows.least_from.Given as goal
 
 abbrev pub invariant-loop-index : goal.invariant-loop-index

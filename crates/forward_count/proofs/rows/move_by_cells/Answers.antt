@@ -5,10 +5,10 @@ use Rattle.fapp_model.specs.Assignments.{count_at, path_at}
 use Rattle.fapp_model.specs.Choices.{choice, choices}
 use Rattle.fapp_model.specs.Instances.{IsPath}
 use Rattle.fapp_model.specs.search.Partials.{choice_of, literal}
-use Rattle.distance_words.proofs.LinkLaws.{pair_small, word_found}
-use Rattle.count_laws.specs.Counts.{pair_word}
-use Rattle.count_laws.specs.Moves.{CanMove, moved}
-use Rattle.count_laws.specs.Words.{word_at}
+use Rattle.choice_counts.proofs.LinkLaws.{pair_small, word_found}
+use Rattle.choice_counts.specs.Counts.{pair_word}
+use Rattle.choice_counts.specs.Moves.{CanMove, moved}
+use Rattle.choice_counts.specs.Words.{word_at}
 use Rattle.forward_count.specs.Floors.{IsFloor}
 use Rattle.forward_count.proofs.RowLaws.{IsMapped, floor_write, mapped_all, mapped_more, mapped_none}
 use Rattle.forward_count.proofs.WindowLaws.{before_stays, choices_rise, mapped_skip, past_stays}

@@ -1,6 +1,6 @@
 use Rattle.fapp_model.specs.search.Partials.{literal}
-use Rattle.count_laws.specs.Counts.{pair_word}
-use Rattle.count_laws.specs.Moves.{moved}
+use Rattle.choice_counts.specs.Counts.{pair_word}
+use Rattle.choice_counts.specs.Moves.{moved}
 use Rattle.forward_count.specs.Floors.{IsFloor}
 use Rattle.forward_count.proofs.RowLaws.{IsMapped}
 use Rattle.forward_count.proofs.rows.move_by_cells.Given as goal

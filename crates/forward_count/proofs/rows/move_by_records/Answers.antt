@@ -1,8 +1,8 @@
 use Rattle.std.proofs.Common.{◌≡◌, ◌+◌, ◌<◌, ◌≤◌, ◌∙◌, ℕ, List, refl, ap, length, min, set, subst, sym, arith}
 use Rattle.fapp_model.specs.search.Partials.{literal}
-use Rattle.count_laws.specs.Counts.{pair_word}
-use Rattle.count_laws.specs.Moves.{CanMove, moved}
-use Rattle.count_laws.specs.Words.{word_at}
+use Rattle.choice_counts.specs.Counts.{pair_word}
+use Rattle.choice_counts.specs.Moves.{CanMove, moved}
+use Rattle.choice_counts.specs.Words.{word_at}
 use Rattle.forward_count.specs.Floors.{IsFloor}
 use Rattle.forward_count.proofs.RowLaws.{IsMapped, floor_write, mapped_all, mapped_more, mapped_none}
 use Rattle.forward_count.proofs.rows.move_by_records.Goals as goal

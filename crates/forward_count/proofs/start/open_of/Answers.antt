@@ -1,10 +1,10 @@
 use Rattle.std.proofs.Common.{get_or, take, arith}
 use Rattle.std.proofs.lemmas.List.{length-take-le}
 use Rattle.std.proofs.lemmas.List.Sums.{sum_by-le}
-use Rattle.count_laws.specs.declared.rows.Row.{Row}
-use Rattle.count_laws.specs.declared.rows.TheConstants.{HARD}
-use Rattle.count_laws.specs.Words.{least_part, stuck_part}
-use Rattle.count_laws.proofs.OpenSums.{least_most, stuck_most}
+use Rattle.choice_counts.specs.declared.rows.Row.{Row}
+use Rattle.choice_counts.specs.declared.rows.TheConstants.{HARD}
+use Rattle.choice_counts.specs.Words.{least_part, stuck_part}
+use Rattle.choice_counts.proofs.OpenSums.{least_most, stuck_most}
 use Rattle.forward_count.proofs.start.open_of.Goals as goal
 
 pub with-open_paths-requires-clause-stuck : goal.with-open_paths-requires-clause-stuck

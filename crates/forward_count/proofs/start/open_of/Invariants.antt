@@ -1,6 +1,6 @@
 use Rattle.std.proofs.Common.{◌≡◌, sum_by, take}
-use Rattle.count_laws.specs.Words.{least_part, stuck_part}
-use Rattle.count_laws.specs.declared.rows.Row.{Row}
+use Rattle.choice_counts.specs.Words.{least_part, stuck_part}
+use Rattle.choice_counts.specs.declared.rows.Row.{Row}
 use Rattle.forward_count.proofs.start.open_of.Given as goal
 
 abbrev pub invariant-loop-row : goal.invariant-loop-row

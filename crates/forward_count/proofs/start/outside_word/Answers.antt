@@ -1,7 +1,7 @@
 use Rattle.std.proofs.Common.{ap, arith}
 use Rattle.std.proofs.lemmas.Bool.{both_ways}
 use Rattle.fapp_model.specs.search.Partials.{literal}
-use Rattle.count_laws.proofs.Remaining.{away, kept-inside, outside-away}
+use Rattle.choice_counts.proofs.Remaining.{away, kept-inside, outside-away}
 use Rattle.forward_count.proofs.start.outside_word.Goals as goal
 
 pub returns-then-is_outside-clause-word : goal.returns-then-is_outside-clause-word

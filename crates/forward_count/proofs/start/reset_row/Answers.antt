@@ -6,9 +6,9 @@ use Rattle.dead_laws.specs.ArcLaws.{IsArcs}
 use Rattle.fapp_model.specs.declared.instance.Instance.{Instance}
 use Rattle.fapp_model.specs.Assignments.{count_at}
 use Rattle.fapp_model.specs.search.Partials.{literal}
-use Rattle.count_laws.specs.Counts.{word_of, words_of}
-use Rattle.count_laws.specs.Words.{least_of, word_at}
-use Rattle.count_laws.proofs.Least.{least_none}
+use Rattle.choice_counts.specs.Counts.{word_of, words_of}
+use Rattle.choice_counts.specs.Words.{least_of, word_at}
+use Rattle.choice_counts.proofs.Least.{least_none}
 use Rattle.forward_count.proofs.RowLaws.{least_all, least_write, row_made}
 use Rattle.forward_count.proofs.start.reset_row.Goals as goal
 

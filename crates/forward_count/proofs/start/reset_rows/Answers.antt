@@ -1,7 +1,7 @@
 use Rattle.std.proofs.Common.{◌∙◌, [], length, arith}
 use Rattle.std.proofs.lemmas.List.FromFn.{fill_by_all}
-use Rattle.count_laws.specs.Counts.{words_of}
-use Rattle.count_laws.specs.Words.{no_row, row_by}
+use Rattle.choice_counts.specs.Counts.{words_of}
+use Rattle.choice_counts.specs.Words.{no_row, row_by}
 use Rattle.forward_count.proofs.start.reset_rows.Goals as goal
 
 pub returns : goal.returns

@@ -1,8 +1,8 @@
 use Rattle.std.proofs.Common.{◌≡◌, ◌<◌, ◌≤◌, [], ℕ, Bool, length}
 use Rattle.dead_laws.specs.ArcLaws.{IsArcs}
 use Rattle.fapp_model.specs.declared.literal.Literal.{Literal}
-use Rattle.count_laws.specs.Counts.{words_of}
-use Rattle.count_laws.specs.Words.{row_at, row_by}
+use Rattle.choice_counts.specs.Counts.{words_of}
+use Rattle.choice_counts.specs.Words.{row_at, row_by}
 use Rattle.forward_count.proofs.start.reset_rows.Given as goal
 
 abbrev pub invariant-loop-path : goal.invariant-loop-path

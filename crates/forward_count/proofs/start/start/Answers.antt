@@ -1,5 +1,5 @@
 use Rattle.std.proofs.Common.{◌∙◌, refl}
-use Rattle.count_laws.proofs.KeptLaws.{kept_none}
+use Rattle.choice_counts.proofs.KeptLaws.{kept_none}
 use Rattle.forward_count.proofs.start.start.Goals as goal
 
 pub returns : goal.returns

@@ -1,6 +1,6 @@
 use Rattle.std.proofs.Common.{sym, subst}
 use Rattle.tries_laws.proofs.PrefixParts.{prefix-is_partial}
-use Rattle.count_laws.specs.ForwardStates.{ForwardState}
+use Rattle.choice_counts.specs.ForwardStates.{ForwardState}
 use Rattle.settle_laws.specs.Explained.{IsClosedBy}
 use Rattle.subtree_search.proofs.Looking.{closes-shut}
 use Rattle.subtree_search.proofs.ahead.look_ahead.Goals as goal

@@ -1,6 +1,6 @@
 use Rattle.std.proofs.Common.{◌≡◌, ◌<◌, length, get_or, sym, ap, subst, ◌∙◌}
 use Rattle.fapp_model.specs.search.WorkOrder.{work_order}
-use Rattle.count_laws.specs.ForwardStates.{ForwardState}
+use Rattle.choice_counts.specs.ForwardStates.{ForwardState}
 use Rattle.subtree_search.proofs.Looking.{order-small}
 use Rattle.subtree_search.proofs.ahead.shut_behind.Goals as goal
 

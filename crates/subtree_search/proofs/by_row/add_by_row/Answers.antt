@@ -1,6 +1,6 @@
 use Rattle.std.proofs.Common.{◌≡◌, List, Some, refl, sym, ap, subst, ◌∙◌}
 use Rattle.fapp_model.specs.declared.literal.Literal.{Literal}
-use Rattle.log_laws.specs.declared.line.Ref.TheVariants.{Own}
+use Rattle.search_log.specs.declared.line.Ref.TheVariants.{Own}
 use Rattle.nogood.specs.Rows.{row_literals}
 use Rattle.settle_laws.specs.declared.found.Found.TheVariants.{Settled}
 use Rattle.settle_laws.specs.Lines.{AreSorted}

@@ -1,7 +1,7 @@
 use Rattle.std.proofs.Common.{eqb, arith}
 use Rattle.std.proofs.lemmas.List.Elements.{Contains-get_or}
 use Rattle.fapp_model.proofs.Anys.{any-member}
-use Rattle.log_laws.specs.declared.line.ChoiceRef.{ChoiceRef}
+use Rattle.search_log.specs.declared.line.ChoiceRef.{ChoiceRef}
 use Rattle.subtree_search.proofs.explain.is_at.Goals as goal
 
 pub returns-clause-listed : goal.returns-clause-listed

@@ -1,6 +1,6 @@
 use Rattle.std.proofs.Common.{below_more, ℕ, subst, ◌∙◌, arith}
-use Rattle.count_laws.specs.ForwardStates.{ForwardState}
-use Rattle.log_laws.specs.GoodLines.{IsSettled}
+use Rattle.choice_counts.specs.ForwardStates.{ForwardState}
+use Rattle.search_log.specs.GoodLines.{IsSettled}
 use Rattle.subtree_search.proofs.Explaining.{asked-few}
 use Rattle.subtree_search.proofs.explain.is_closed.Goals as goal
 

@@ -1,5 +1,5 @@
 use Rattle.std.specs.Prelude.{◌≡◌, ℕ, ◌<◌}
-use Rattle.log_laws.specs.GoodLines.{IsSettled}
+use Rattle.search_log.specs.GoodLines.{IsSettled}
 use Rattle.subtree_search.proofs.explain.is_closed.Given as goal
 
 -- the choices before this one are settled, and the literals are as they were

@@ -1,7 +1,7 @@
 use Rattle.std.proofs.Common.{◌≡◌, subst}
 use Rattle.fapp_model.specs.Tags.{triple_from}
 use Rattle.fapp_model.specs.search.Dead.{Dead}
-use Rattle.count_laws.specs.ForwardStates.{ForwardState}
+use Rattle.choice_counts.specs.ForwardStates.{ForwardState}
 use Rattle.subtree_search.proofs.Explaining.{dead-with}
 use Rattle.subtree_search.proofs.explain.is_dead_with.Goals as goal
 

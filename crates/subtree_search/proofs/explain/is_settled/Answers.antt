@@ -1,6 +1,6 @@
 use Rattle.std.proofs.Common.{◌≡◌, IsTrue, eqb, inl, inr, sym, subst, ◌∙◌}
 use Rattle.std.specs.List.{list_any}
-use Rattle.log_laws.specs.declared.line.ChoiceRef.{ChoiceRef}
+use Rattle.search_log.specs.declared.line.ChoiceRef.{ChoiceRef}
 use Rattle.subtree_search.proofs.explain.is_settled.Goals as goal
 
 pub returns-then-is_at-clause-settled : goal.returns-then-is_at-clause-settled

@@ -1,6 +1,6 @@
 use Rattle.std.proofs.Common.{below_more, ℕ, get_or, subst, arith}
 use Rattle.std.proofs.lemmas.List.{get_or_default}
-use Rattle.log_laws.specs.declared.line.ChoiceRef.{ChoiceRef}
+use Rattle.search_log.specs.declared.line.ChoiceRef.{ChoiceRef}
 use Rattle.subtree_search.specs.Explaining.{IsFree}
 use Rattle.subtree_search.proofs.explain.is_used.Goals as goal
 

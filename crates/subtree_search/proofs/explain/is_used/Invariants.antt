@@ -1,5 +1,5 @@
 use Rattle.std.proofs.Common.{ℕ, ◌<◌, get_or}
-use Rattle.log_laws.specs.declared.line.ChoiceRef.{ChoiceRef}
+use Rattle.search_log.specs.declared.line.ChoiceRef.{ChoiceRef}
 use Rattle.subtree_search.specs.Explaining.{IsFree}
 use Rattle.subtree_search.proofs.explain.is_used.Given as goal
 

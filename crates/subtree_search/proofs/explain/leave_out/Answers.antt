@@ -1,8 +1,8 @@
 use Rattle.std.proofs.Common.{◌≡◌, false, List, All, get_or, sym, ap, subst, ◌∙◌}
 use Rattle.std.proofs.lemmas.List.Elements.{Contains-get_or}
 use Rattle.fapp_model.specs.search.Partials.{literal, names}
-use Rattle.count_laws.specs.ForwardStates.{ForwardState, with_pushed}
-use Rattle.log_laws.specs.declared.line.ChoiceRef.{ChoiceRef}
+use Rattle.choice_counts.specs.ForwardStates.{ForwardState, with_pushed}
+use Rattle.search_log.specs.declared.line.ChoiceRef.{ChoiceRef}
 use Rattle.settle_laws.specs.Explained.{Explains, IsClosedBy}
 use Rattle.subtree_search.specs.Explaining.{IsAsked, IsFree}
 use Rattle.subtree_search.proofs.Explaining.{asked-without, explains-again, explains-without, others-apart}

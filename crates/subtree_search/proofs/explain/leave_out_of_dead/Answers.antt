@@ -3,7 +3,7 @@ use Rattle.std.proofs.lemmas.List.Elements.{Contains-get_or}
 use Rattle.fapp_model.specs.Tags.{triple_from}
 use Rattle.fapp_model.specs.search.Dead.{Dead}
 use Rattle.fapp_model.specs.search.Partials.{literal, names}
-use Rattle.count_laws.specs.ForwardStates.{ForwardState, with_pushed}
+use Rattle.choice_counts.specs.ForwardStates.{ForwardState, with_pushed}
 use Rattle.settle_laws.specs.Explained.{IsDeadPart}
 use Rattle.subtree_search.proofs.Explaining.{others-apart, part-again, part-without}
 use Rattle.subtree_search.proofs.explain.leave_out_of_dead.Goals as goal

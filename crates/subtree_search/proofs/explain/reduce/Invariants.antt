@@ -1,5 +1,5 @@
 use Rattle.std.specs.Prelude.{◌≡◌}
-use Rattle.count_laws.specs.ForwardStates.{with_literals}
+use Rattle.choice_counts.specs.ForwardStates.{with_literals}
 use Rattle.settle_laws.specs.Explained.{Explains}
 use Rattle.subtree_search.proofs.explain.reduce.Given as goal
 

@@ -1,6 +1,6 @@
 use Rattle.std.proofs.Common.{◌≡◌, None, Ok, ap, subst}
 use Rattle.std.specs.declared.alloc.AllocError.{AllocError}
-use Rattle.count_laws.specs.ForwardStates.{ForwardState}
+use Rattle.choice_counts.specs.ForwardStates.{ForwardState}
 use Rattle.tries_laws.proofs.PrefixParts.{prefix-is_partial}
 use Rattle.settle_laws.specs.Founds.{Searched}
 use Rattle.settle_laws.specs.Lines.{IsLined}

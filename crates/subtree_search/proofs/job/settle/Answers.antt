@@ -1,5 +1,5 @@
 use Rattle.std.proofs.Common.{◌≡◌, ap, subst, ◌∙◌, arith}
-use Rattle.count_laws.specs.ForwardStates.{ForwardState, at_level, with_literals}
+use Rattle.choice_counts.specs.ForwardStates.{ForwardState, at_level, with_literals}
 use Rattle.fapp_model.specs.Instances.{IsInstance}
 use Rattle.settle_laws.specs.Lined.{Lined}
 use Rattle.settle_laws.specs.Worlds.{world}

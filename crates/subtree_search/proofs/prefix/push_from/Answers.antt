@@ -1,7 +1,7 @@
 use Rattle.std.proofs.Common.{◌≡◌, ◌<◌, false, length, get_or, sym, subst}
 use Rattle.fapp_model.specs.Assignments.{count_at}
 use Rattle.fapp_model.specs.search.Partials.{names}
-use Rattle.count_laws.specs.ForwardStates.{ForwardState}
+use Rattle.choice_counts.specs.ForwardStates.{ForwardState}
 use Rattle.tries_laws.proofs.PrefixParts.{prefix-is_partial}
 use Rattle.subtree_search.proofs.Fronts.{front-apart}
 use Rattle.subtree_search.proofs.prefix.push_from.Goals as goal

@@ -1,5 +1,5 @@
 use Rattle.std.proofs.Common.{◌≡◌, take}
-use Rattle.count_laws.specs.ForwardStates.{with_literals}
+use Rattle.choice_counts.specs.ForwardStates.{with_literals}
 use Rattle.subtree_search.proofs.prefix.push_from.Given as goal
 
 -- the first few literals are pushed

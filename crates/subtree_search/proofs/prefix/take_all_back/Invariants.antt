@@ -1,5 +1,5 @@
 use Rattle.std.proofs.Common.{◌≡◌, length}
-use Rattle.count_laws.specs.ForwardStates.{with_literals}
+use Rattle.choice_counts.specs.ForwardStates.{with_literals}
 use Rattle.subtree_search.proofs.prefix.take_all_back.Given as goal
 
 -- only the literals change

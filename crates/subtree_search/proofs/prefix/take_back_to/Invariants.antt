@@ -1,5 +1,5 @@
 use Rattle.std.proofs.Common.{◌≡◌, ◌≤◌, length, take}
-use Rattle.count_laws.specs.ForwardStates.{with_literals}
+use Rattle.choice_counts.specs.ForwardStates.{with_literals}
 use Rattle.subtree_search.proofs.prefix.take_back_to.Given as goal
 
 -- the first few literals are left

@@ -2,7 +2,7 @@ use Rattle.std.proofs.Common.{◌≡◌, List, ◌≤◌, Ok, Err, Some, refl, s
 use Rattle.std.specs.declared.alloc.AllocError.{AllocError}
 use Rattle.fapp_model.specs.declared.instance.Instance.{Instance}
 use Rattle.fapp_model.specs.search.Prefixes.{IsPrefix}
-use Rattle.count_laws.specs.ForwardStates.{ForwardState}
+use Rattle.choice_counts.specs.ForwardStates.{ForwardState}
 use Rattle.settle_laws.specs.declared.node.Node.{Node}
 use Rattle.settle_laws.specs.Explained.{AreCopied}
 use Rattle.settle_laws.specs.Worlds.{world}

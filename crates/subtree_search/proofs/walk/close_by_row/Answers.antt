@@ -1,8 +1,8 @@
 use Rattle.std.proofs.Common.{◌≡◌, List, Ok, refl, sym, ap, subst, ◌∙◌, arith, append-nil}
 use Rattle.std.specs.declared.alloc.AllocError.{AllocError}
 use Rattle.fapp_model.specs.declared.literal.Literal.{Literal}
-use Rattle.count_laws.specs.ForwardStates.{ForwardState}
-use Rattle.log_laws.specs.declared.line.Ref.TheVariants.{Row}
+use Rattle.choice_counts.specs.ForwardStates.{ForwardState}
+use Rattle.search_log.specs.declared.line.Ref.TheVariants.{Row}
 use Rattle.nogood.specs.Rows.{row_literals}
 use Rattle.search_log.specs.LogStates.{LogState}
 use Rattle.settle_laws.specs.declared.found.Found.TheVariants.{Settled}

@@ -1,12 +1,12 @@
 use Rattle.std.proofs.Common.{◌<◌, ◌≤◌, Contains, Ok, Err, sym, ap, subst, ◌∙◌, arith}
 use Rattle.std.specs.declared.alloc.AllocError.{AllocError}
 use Rattle.std.proofs.lemmas.List.Elements.{All-nil}
-use Rattle.log_laws.specs.Contents.{known_row}
+use Rattle.search_log.specs.Contents.{known_row}
 use Rattle.search_log.specs.declared.shared.Cite.{Cite}
 use Rattle.search_log.specs.Shares.{row_content}
 use Rattle.settle_laws.specs.Explained.{AreCopied}
 use Rattle.subtree_search.specs.declared.seen.SeenRows.{SeenRows}
-use Rattle.count_laws.specs.ForwardStates.{ForwardState, with_literals}
+use Rattle.choice_counts.specs.ForwardStates.{ForwardState, with_literals}
 use Rattle.settle_laws.specs.OpenNodes.{IsTrying}
 use Rattle.settle_laws.specs.Worlds.{world}
 use Rattle.subtree_search.specs.Steps.{IsAdvanced, IsNoted, IsVisited, Lightens, NotesLess}

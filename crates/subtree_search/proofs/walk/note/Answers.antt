@@ -1,6 +1,6 @@
 use Rattle.std.proofs.Common.{ap, subst}
 use Rattle.std.specs.declared.alloc.AllocError.{AllocError}
-use Rattle.count_laws.specs.ForwardStates.{ForwardState}
+use Rattle.choice_counts.specs.ForwardStates.{ForwardState}
 use Rattle.settle_laws.specs.Noted.{Notes}
 use Rattle.subtree_search.proofs.Advancing.{noted-err, notes-end, notes-fail, notes-go, notes-lighter, small-choice, some-pushed}
 use Rattle.subtree_search.proofs.walk.note.Goals as goal

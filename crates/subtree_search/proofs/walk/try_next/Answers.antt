@@ -1,6 +1,6 @@
 use Rattle.std.proofs.Common.{◌≡◌, Err, Ok, sym, ap, subst, arith}
 use Rattle.cert_lines.proofs.ListLaws.{few_choices}
-use Rattle.count_laws.specs.ForwardStates.{ForwardState}
+use Rattle.choice_counts.specs.ForwardStates.{ForwardState}
 use Rattle.fapp_model.specs.search.Prefixes.{IsPrefix}
 use Rattle.settle_laws.specs.Worlds.{world}
 use Rattle.settle_laws.proofs.Fewer.{copied-contents}

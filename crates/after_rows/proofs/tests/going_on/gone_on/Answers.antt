@@ -6,8 +6,8 @@ use Rattle.arc_levels.specs.Outside.{IsRootTag}
 use Rattle.fapp_plan.specs.Plans.{Split}
 use Rattle.fapp_plan.specs.VerdictRule.{IsVerdictOf}
 use Rattle.merge_laws.specs.Conditions.{AreOld}
-use Rattle.home_laws.proofs.Merging.{tags-for}
-use Rattle.outcome_laws.proofs.Words.{word-shown}
+use Rattle.fapp_workers.proofs.Merging.{tags-for}
+use Rattle.fapp_workers.proofs.LeastWords.{word-shown}
 use Rattle.search_log.specs.NumberedRows.{numbered_rows}
 use Rattle.fapp_workers.specs.FirstRows.{ArePublishable}
 use Rattle.after_rows.specs.Placing.{ArePaired, AreSaid}

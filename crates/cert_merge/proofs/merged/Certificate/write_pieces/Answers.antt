@@ -1,5 +1,5 @@
 use Rattle.std.proofs.Common.{List}
-use Rattle.log_laws.specs.declared.line.LogLine.{LogLine}
+use Rattle.search_log.specs.declared.line.LogLine.{LogLine}
 use Rattle.merge_laws.specs.declared.piece.Piece.{Piece}
 use Rattle.cert_merge.specs.Growth.{AreLeft}
 use Rattle.cert_merge.proofs.Lefts.{written-more}

@@ -1,5 +1,5 @@
 use Rattle.std.proofs.Common.{List}
-use Rattle.log_laws.specs.declared.line.LogLine.{LogLine}
+use Rattle.search_log.specs.declared.line.LogLine.{LogLine}
 use Rattle.cert_merge.specs.Growth.{AreLeft, IsSameRoom}
 use Rattle.cert_merge.proofs.Lefts.{AreWritten}
 use Rattle.cert_merge.proofs.merged.Certificate.write_pieces.Given as goal

@@ -1,6 +1,6 @@
 use Rattle.std.proofs.Common.{◌≡◌, ◌<◌, List, [], length, take, drop, ap, ◌∙◌, arith}
 use Rattle.std.proofs.lemmas.List.{get_or_default}
-use Rattle.log_laws.specs.declared.line.LogLine.{LogLine}
+use Rattle.search_log.specs.declared.line.LogLine.{LogLine}
 use Rattle.merge_laws.specs.Stages.{emit_all}
 use Rattle.cert_merge.specs.Growth.{AreLeft}
 use Rattle.cert_merge.proofs.Lefts.{rests-more}

@@ -3,8 +3,8 @@ use Rattle.std.proofs.lemmas.Bool.{cases_eq, cases_lt}
 use Rattle.std.proofs.lemmas.List.{get_or_default}
 use Rattle.fapp_model.specs.declared.literal.Literal.{Literal}
 use Rattle.fapp_model.specs.search.Partials.{literal}
-use Rattle.count_laws.specs.CountedSums.{RemainsAt}
-use Rattle.count_laws.specs.ForwardStates.{ForwardState}
+use Rattle.choice_counts.specs.CountedSums.{RemainsAt}
+use Rattle.choice_counts.specs.ForwardStates.{ForwardState}
 use Rattle.forward_count.proofs.afresh.Afresh.all_stand.Goals as goal
 
 pub loop-index-preserved : goal.loop-index-preserved

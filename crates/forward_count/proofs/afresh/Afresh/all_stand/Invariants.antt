@@ -1,6 +1,6 @@
 use Rattle.std.proofs.Common.{◌<◌, ℕ, get_or}
 use Rattle.fapp_model.specs.search.Partials.{literal}
-use Rattle.count_laws.specs.CountedSums.{RemainsAt}
+use Rattle.choice_counts.specs.CountedSums.{RemainsAt}
 use Rattle.forward_count.proofs.afresh.Afresh.all_stand.Given as goal
 
 abbrev pub invariant-loop-index : goal.invariant-loop-index

@@ -1,7 +1,7 @@
 use Rattle.std.proofs.Common.{sym}
 use Rattle.fapp_model.specs.search.Partials.{literal}
-use Rattle.count_laws.specs.Counts.{word_of}
-use Rattle.count_laws.proofs.Least.{least_none}
+use Rattle.choice_counts.specs.Counts.{word_of}
+use Rattle.choice_counts.proofs.Least.{least_none}
 use Rattle.forward_count.proofs.AfreshLaws.{least_map}
 use Rattle.forward_count.proofs.afresh.Afresh.least.Goals as goal
 

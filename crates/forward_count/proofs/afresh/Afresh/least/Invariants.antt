@@ -3,8 +3,8 @@ use Rattle.std.specs.List.{range_with_len}
 use Rattle.dead_laws.specs.ArcLaws.{IsArcs}
 use Rattle.fapp_model.specs.declared.literal.Literal.{Literal}
 use Rattle.fapp_model.specs.search.Partials.{literal}
-use Rattle.count_laws.specs.Counts.{word_of}
-use Rattle.count_laws.specs.Words.{least_of}
+use Rattle.choice_counts.specs.Counts.{word_of}
+use Rattle.choice_counts.specs.Words.{least_of}
 use Rattle.forward_count.proofs.afresh.Afresh.least.Given as goal
 
 abbrev pub invariant-loop-choice : goal.invariant-loop-choice

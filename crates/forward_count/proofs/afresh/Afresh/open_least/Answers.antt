@@ -1,7 +1,7 @@
 use Rattle.std.proofs.Common.{arith, cond}
 use Rattle.fapp_model.specs.search.Partials.{names}
-use Rattle.count_laws.specs.Counts.{words_of}
-use Rattle.count_laws.specs.Words.{least_of, least_part}
+use Rattle.choice_counts.specs.Counts.{words_of}
+use Rattle.choice_counts.specs.Words.{least_of, least_part}
 use Rattle.forward_count.proofs.AfreshLaws.{range_next}
 use Rattle.forward_count.proofs.afresh.Afresh.open_least.Goals as goal
 

@@ -3,8 +3,8 @@ use Rattle.std.specs.List.{range_with_len}
 use Rattle.dead_laws.specs.ArcLaws.{IsArcs}
 use Rattle.fapp_model.specs.declared.literal.Literal.{Literal}
 use Rattle.fapp_model.specs.search.Partials.{names}
-use Rattle.count_laws.specs.Counts.{words_of}
-use Rattle.count_laws.specs.Words.{least_of, least_part}
+use Rattle.choice_counts.specs.Counts.{words_of}
+use Rattle.choice_counts.specs.Words.{least_of, least_part}
 use Rattle.forward_count.proofs.afresh.Afresh.open_least.Given as goal
 
 abbrev pub invariant-loop-path : goal.invariant-loop-path

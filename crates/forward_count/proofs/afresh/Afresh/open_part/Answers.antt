@@ -1,9 +1,9 @@
 use Rattle.std.proofs.Common.{ap, sym, ◌∙◌}
 use Rattle.std.specs.Option.{is_some}
 use Rattle.fapp_model.specs.search.Partials.{names}
-use Rattle.count_laws.specs.Counts.{words_of}
-use Rattle.count_laws.specs.Words.{least_of, least_part}
-use Rattle.count_laws.proofs.Slots.{named}
+use Rattle.choice_counts.specs.Counts.{words_of}
+use Rattle.choice_counts.specs.Words.{least_of, least_part}
+use Rattle.choice_counts.proofs.Slots.{named}
 use Rattle.forward_count.proofs.AfreshLaws.{open_low, open_taken, seen}
 use Rattle.forward_count.proofs.afresh.Afresh.open_part.Goals as goal
 

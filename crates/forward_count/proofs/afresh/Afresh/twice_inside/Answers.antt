@@ -1,8 +1,8 @@
 use Rattle.std.proofs.Common.{◌<◌, ◌+◌, ◌∙◌, Fits, List, ap, arith, get_or, length, subst, w64}
 use Rattle.fapp_model.specs.declared.literal.Literal.{Literal}
 use Rattle.fapp_model.specs.search.Partials.{literal}
-use Rattle.count_laws.specs.Counts.{word_of}
-use Rattle.count_laws.specs.ForwardStates.{ForwardState}
+use Rattle.choice_counts.specs.Counts.{word_of}
+use Rattle.choice_counts.specs.ForwardStates.{ForwardState}
 use Rattle.forward_count.proofs.AfreshLaws.{calm_small, few_pushed, seen, take_next}
 use Rattle.forward_count.proofs.afresh.Afresh.twice_inside.Goals as goal
 

@@ -1,7 +1,7 @@
 use Rattle.std.proofs.Common.{◌≡◌, ◌*◌, ◌^◌, ◌≤◌, Bool, sum_by, take}
 use Rattle.dead_laws.specs.ArcLaws.{IsArcs}
 use Rattle.fapp_model.specs.declared.literal.Literal.{Literal}
-use Rattle.count_laws.specs.Counts.{word_of}
+use Rattle.choice_counts.specs.Counts.{word_of}
 use Rattle.forward_count.proofs.afresh.Afresh.twice_inside.Given as goal
 
 abbrev pub invariant-loop-index : goal.invariant-loop-index

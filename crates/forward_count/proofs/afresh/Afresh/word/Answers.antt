@@ -3,8 +3,8 @@ use Rattle.std.proofs.lemmas.List.{take_all}
 use Rattle.fapp_model.specs.search.Partials.{literal}
 use Rattle.fapp_tables.specs.Indexes.{neighbours_of}
 use Rattle.nogood.specs.Partials.{choice_given}
-use Rattle.count_laws.specs.Counts.{pair_word, slot_part, word_of}
-use Rattle.count_laws.proofs.DeadByBound.{level_few}
+use Rattle.choice_counts.specs.Counts.{pair_word, slot_part, word_of}
+use Rattle.choice_counts.proofs.DeadByBound.{level_few}
 use Rattle.forward_count.proofs.AfreshLaws.{word_is}
 use Rattle.forward_count.proofs.Neighbours.{near_few}
 use Rattle.forward_count.proofs.afresh.Afresh.word.Goals as goal

@@ -4,7 +4,7 @@ use Rattle.fapp_model.specs.declared.literal.Literal.{Literal}
 use Rattle.fapp_model.specs.search.Partials.{literal}
 use Rattle.fapp_tables.specs.Indexes.{neighbours_of}
 use Rattle.nogood.specs.Partials.{choice_given}
-use Rattle.count_laws.specs.Counts.{pair_word, slot_part, word_of}
+use Rattle.choice_counts.specs.Counts.{pair_word, slot_part, word_of}
 use Rattle.forward_count.proofs.afresh.Afresh.word.Given as goal
 
 abbrev pub invariant-loop-place : goal.invariant-loop-place

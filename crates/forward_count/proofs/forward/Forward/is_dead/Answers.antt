@@ -4,7 +4,7 @@ use Rattle.fapp_model.specs.declared.triple.Triple.{Triple}
 use Rattle.fapp_model.specs.Tags.{mode_level, triple_from}
 use Rattle.fapp_model.specs.search.Pairs.{limit_of}
 use Rattle.fapp_tables.specs.Measures.{pair_code}
-use Rattle.count_laws.specs.CountedSums.{IsBound, IsCalm}
+use Rattle.choice_counts.specs.CountedSums.{IsBound, IsCalm}
 use Rattle.forward_count.proofs.DeadLaws.{dead_free, dead_over, dead_restless, seen}
 use Rattle.forward_count.proofs.forward.Forward.is_dead.Goals as goal
 

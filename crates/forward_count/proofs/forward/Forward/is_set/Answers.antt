@@ -1,8 +1,8 @@
 use Rattle.std.proofs.Common.{◌∙◌, ap}
 use Rattle.std.specs.Option.{is_some}
 use Rattle.fapp_model.specs.search.Partials.{names}
-use Rattle.count_laws.specs.ForwardStates.{ForwardState}
-use Rattle.count_laws.proofs.Slots.{named}
+use Rattle.choice_counts.specs.ForwardStates.{ForwardState}
+use Rattle.choice_counts.proofs.Slots.{named}
 use Rattle.forward_count.proofs.forward.Forward.is_set.Goals as goal
 
 pub returns : goal.returns

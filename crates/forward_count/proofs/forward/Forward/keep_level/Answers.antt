@@ -1,7 +1,7 @@
 use Rattle.std.proofs.Common.{List, length, subst, sym}
 use Rattle.fapp_model.specs.declared.instance.Instance.{Instance}
-use Rattle.count_laws.specs.declared.rows.Row.{Row}
-use Rattle.count_laws.proofs.DeadByBound.{level_few}
+use Rattle.choice_counts.specs.declared.rows.Row.{Row}
+use Rattle.choice_counts.proofs.DeadByBound.{level_few}
 use Rattle.forward_count.specs.Starts.{AreShaped}
 use Rattle.forward_count.proofs.ReadLaws.{shaped}
 use Rattle.forward_count.proofs.forward.Forward.keep_level.Goals as goal

@@ -1,6 +1,6 @@
 use Rattle.std.proofs.Common.{◌<◌, ◌∙◌, List, ap, length, subst, sym}
-use Rattle.count_laws.specs.declared.rows.Row.{Row}
-use Rattle.count_laws.specs.Words.{row_at}
+use Rattle.choice_counts.specs.declared.rows.Row.{Row}
+use Rattle.choice_counts.specs.Words.{row_at}
 use Rattle.forward_count.proofs.ReadLaws.{least_none, least_some, row_there}
 use Rattle.forward_count.proofs.forward.Forward.least_sum.Goals as goal
 

@@ -7,14 +7,14 @@ use Rattle.std.proofs.lemmas.List.Elements.{All-push}
 use Rattle.nogood.specs.Partials.{choice_given}
 use Rattle.fapp_model.specs.declared.literal.Literal.{Literal}
 use Rattle.fapp_model.specs.search.Partials.{literal, IsLiteral}
-use Rattle.count_laws.specs.declared.rows.Row.{Row}
-use Rattle.count_laws.specs.ForwardStates.{ForwardState, with_pushed}
-use Rattle.count_laws.specs.Moves.{CanMoveAll, moved, rows_with}
-use Rattle.count_laws.specs.Totals.{AreRows}
-use Rattle.count_laws.specs.declared.rows.TheConstants.{HARD}
-use Rattle.count_laws.proofs.Bounds.{distinct_push, few_literals}
-use Rattle.count_laws.proofs.DeadByBound.{level_few}
-use Rattle.count_laws.proofs.KeptLaws.{own_word}
+use Rattle.choice_counts.specs.declared.rows.Row.{Row}
+use Rattle.choice_counts.specs.ForwardStates.{ForwardState, with_pushed}
+use Rattle.choice_counts.specs.Moves.{CanMoveAll, moved, rows_with}
+use Rattle.choice_counts.specs.Totals.{AreRows}
+use Rattle.choice_counts.specs.declared.rows.TheConstants.{HARD}
+use Rattle.choice_counts.proofs.Bounds.{distinct_push, few_literals}
+use Rattle.choice_counts.proofs.DeadByBound.{level_few}
+use Rattle.choice_counts.proofs.KeptLaws.{own_word}
 use Rattle.forward_count.specs.Forwards.{IsForward}
 use Rattle.forward_count.specs.Steps.{CanCount, slots_after}
 use Rattle.forward_count.proofs.StepLaws.{IsCounted, forward_rows, home_of, pushes, pushes_can, pushes_fit, pushes_slot, same_step, unset_of}

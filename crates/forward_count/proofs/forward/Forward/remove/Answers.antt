@@ -3,8 +3,8 @@ use Rattle.fapp_model.specs.declared.literal.Literal.{Literal}
 use Rattle.fapp_model.specs.search.Partials.{literal}
 use Rattle.dead_laws.proofs.Picks.{AreDistinct}
 use Rattle.nogood.specs.Literals.{other_paths}
-use Rattle.count_laws.specs.ForwardStates.{ForwardState, with_literals}
-use Rattle.count_laws.proofs.Slots.{remove_is}
+use Rattle.choice_counts.specs.ForwardStates.{ForwardState, with_literals}
+use Rattle.choice_counts.proofs.Slots.{remove_is}
 use Rattle.forward_count.proofs.forward.Forward.remove.Goals as goal
 
 pub returns : goal.returns

@@ -1,5 +1,5 @@
 use Rattle.fapp_model.specs.search.Partials.{literal}
-use Rattle.distance_words.proofs.LinkLaws.{word_by_choices}
+use Rattle.choice_counts.proofs.LinkLaws.{word_by_choices}
 use Rattle.forward_count.proofs.step.Step.pair_word.Goals as goal
 
 pub returns-clause-word : goal.returns-clause-word

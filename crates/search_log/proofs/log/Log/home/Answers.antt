@@ -1,6 +1,6 @@
 use Rattle.std.proofs.Common.{length, [], ◌∷◌, ap, ◌∙◌, arith}
 use Rattle.std.proofs.lemmas.List.{length-append}
-use Rattle.log_laws.specs.Segments.{ended}
+use Rattle.search_log.specs.Segments.{ended}
 use Rattle.search_log.specs.LogStates.{LogState}
 use Rattle.search_log.proofs.Ended.{ended-push}
 use Rattle.search_log.proofs.log.Log.home.Goals as goal

@@ -1,0 +1,141 @@
+-- What a word says of its choice, and the least word of its path.
+use Rattle.std.proofs.Common.{◌≡◌, ◌⊎◌, ◌↔◌, ℕ, ◌+◌, ◌*◌, ◌/◌, ◌%◌, ◌<◌, ◌≤◌, Bool, true, false, cond, List, length, get_or, refl, sym, ap, ◌∙◌, subst, inl, inr, arith, sum_by, Option, Some, None, IsTrue}
+use Rattle.std.proofs.Math.Nat.{mul-add-mod_self_right, mod-eq_of_lt}
+use Rattle.std.proofs.lemmas.Bool.{both_ways, cases_Bool, cases_lt, false_from_ne_true, true_from_ne_false}
+use Rattle.std.proofs.lemmas.Nat.{div-mul-add}
+use Rattle.dead_laws.specs.ArcLaws.{IsArcs}
+use Rattle.fapp_model.specs.declared.instance.Instance.{Instance}
+use Rattle.fapp_model.specs.declared.limits.TheConstants.{S_SPAN}
+use Rattle.fapp_model.specs.declared.literal.Literal.{Literal}
+use Rattle.fapp_model.specs.Assignments.{count_at}
+use Rattle.fapp_model.specs.Instances.{IsInstance}
+use Rattle.fapp_model.specs.search.Arcs.{OutsideArc}
+use Rattle.fapp_model.specs.search.Clashes.{clashes, clashes_with}
+use Rattle.fapp_model.specs.search.Pairs.{Pair, IsPairAtMost}
+use Rattle.fapp_model.specs.search.Partials.{IsPartial, literal}
+use Rattle.fapp_model.specs.search.Weights.{added, added_pair}
+use Rattle.fapp_tables.specs.Measures.{coded_part, pair_code}
+use Rattle.choice_counts.specs.declared.rows.TheConstants.{HARD, NO_WORD}
+use Rattle.choice_counts.specs.Counts.{clash_part, hard_of, outside_part, word_of, words_of}
+use Rattle.choice_counts.specs.CountedSums.{IsLeastAt, IsLeastSum, RemainsAt}
+use Rattle.choice_counts.specs.Words.{least_of, word_at}
+use Rattle.choice_counts.proofs.Bounds.{further_small, sum_small}
+use Rattle.choice_counts.proofs.Clash.{any_zero, flag, flag_zero, zero_any}
+use Rattle.choice_counts.proofs.Coded.{added_code, at_most-code, code-at_most}
+use Rattle.choice_counts.proofs.Least.{Reached, least_below, least_reached}
+use Rattle.choice_counts.proofs.RowMoves.{word_in, words_count}
+
+abbrev pub away : Bool → ℕ
+away b = cond b 0 1
+
+pub away_zero : (b : Bool) → away b ≡ 0 → b ≡ true
+away_zero true e = refl
+away_zero false e = absurd (omega (arith, e))
+
+pub zero_away : (b : Bool) → b ≡ true → away b ≡ 0
+zero_away true e = refl
+zero_away false e = absurd (let bad : false ≡ true = e in cc)
+
+-- a choice that passes the test of the arcs is not outside them, and one that is not outside passes
+module _ (instance : Instance) (level : ℕ) (arc : Literal → Bool) (arcs : IsArcs instance level arc) where
+  pub inside-kept : (a : Literal) → arc a ≡ true → OutsideArc instance level a → ⊥
+  inside-kept a e out = out ((arcs.members a).0 e)
+
+  pub kept-inside : (a : Literal) → (OutsideArc instance level a → ⊥) → arc a ≡ true
+  kept-inside a kept = true_from_ne_false (arc a) (λ e. kept (λ within. both_ways (arc a) e ((arcs.members a).1 within)))
+
+  pub outside-away : (a : Literal) → OutsideArc instance level a → arc a ≡ false
+  outside-away a out = false_from_ne_true (arc a) (λ e. inside-kept a e out)
+
+  -- no literal clashes with a choice that is in the arcs
+  pub hard-remains : (literals : List Literal) (a : Literal) → hard_of instance level arc literals a ≡ 0 → RemainsAt instance level literals a
+  hard-remains literals a none = record {
+    kept = inside-kept a (away_zero (arc a) (omega (arith, none)));
+    free = zero_any (clash_part instance level a) (clashes instance level a) (λ b e. flag_zero (clashes instance level a b) e) literals (omega (arith, none));
+  }
+
+  pub remains-hard : (literals : List Literal) (a : Literal) → RemainsAt instance level literals a → hard_of instance level arc literals a ≡ 0
+  remains-hard literals a r =
+      let away = zero_away (arc a) (kept-inside a r.kept) in
+      let none = any_zero (clash_part instance level a) (clashes instance level a) (λ b e. ap flag e) literals r.free in
+      omega (arith, away, none)
+
+  module _ (valid : IsInstance instance) (within : level ≤ 11) (literals : List Literal) (partial : IsPartial instance literals) where
+    small : (a : Literal) → added instance (coded_part level) literals a < HARD
+    small a = omega (arith, sum_small instance valid level within literals partial.distinct a)
+
+    -- a choice remains where its word is below HARD, and then the word is its sum
+    pub word-remains : (a : Literal) → word_of instance level arc literals a < HARD → RemainsAt instance level literals a
+    word-remains a below = hard-remains literals a (omega (arith, below))
+
+    pub remains-word : (a : Literal) → RemainsAt instance level literals a → word_of instance level arc literals a < HARD
+    remains-word a r = omega (arith, remains-hard literals a r, small a)
+
+    pub word-sum : (a : Literal) → RemainsAt instance level literals a → word_of instance level arc literals a ≡ pair_code (added_pair instance level literals a)
+    word-sum a r = omega (arith, remains-hard literals a r, added_code instance level literals a)
+
+    -- the two parts of a word
+    pub word-high : (a : Literal) → word_of instance level arc literals a / HARD ≡ hard_of instance level arc literals a
+    word-high a = div-mul-add (hard_of instance level arc literals a) HARD (added instance (coded_part level) literals a) (small a)
+
+    pub word-low : (a : Literal) → word_of instance level arc literals a % HARD ≡ added instance (coded_part level) literals a
+    word-low a = mul-add-mod_self_right (hard_of instance level arc literals a) HARD (added instance (coded_part level) literals a) ∙ mod-eq_of_lt (small a)
+
+    abbrev words : ℕ → List ℕ
+    words path = words_of instance level arc literals path
+
+    s_small : (a : Literal) → (added_pair instance level literals a).s < S_SPAN
+    s_small a = further_small instance valid level within literals partial.distinct a
+
+    -- the least word of a path with a choice left is its least pair
+    pub least-found : (path : ℕ) → least_of (words path) < HARD → (pair : Pair) × IsLeastAt instance level literals path pair × (least_of (words path) ≡ pair_code pair)
+    least-found path below = elim (least_reached (words path)) [
+      | inl none ↦ absurd (omega (arith, none, below))
+      | inr reached ↦
+          let k = reached.index in
+          let inside : k < count_at instance path = omega (arith, reached.inside, words_count instance level arc literals path) in
+          let word = word_in instance level arc literals path k inside in
+          let remains = word-remains (literal path k) (omega (arith, word, reached.is, below)) in
+          let sum = word-sum (literal path k) remains in (
+            added_pair instance level literals (literal path k),
+            record {
+              index = k;
+              in_range = inside;
+              remains = remains;
+              reached = refl;
+              least = λ other small_other r.
+                  let lower = least_below (words path) other (omega (arith, small_other, words_count instance level arc literals path)) in
+                  let there = word_in instance level arc literals path other small_other in
+                  code-at_most (added_pair instance level literals (literal path k)) (added_pair instance level literals (literal path other)) (s_small (literal path k)) (s_small (literal path other))
+                  (omega (arith, lower, there, word-sum (literal path other) r, reached.is, word, sum));
+            },
+            omega (arith, reached.is, word, sum),
+          )
+    ]
+
+    -- and the other way round
+    pub found-least : (path : ℕ) (pair : Pair) → IsLeastAt instance level literals path pair → (least_of (words path) ≡ pair_code pair) × (least_of (words path) < HARD)
+    found-least path pair found =
+        let a = literal path found.index in
+        let here = word_in instance level arc literals path found.index found.in_range in
+        let lower = least_below (words path) found.index (omega (arith, found.in_range, words_count instance level arc literals path)) in
+        let low = remains-word a found.remains in
+        let best = least-found path (omega (arith, lower, here, low)) in
+        let sum : word_of instance level arc literals a ≡ pair_code pair = word-sum a found.remains ∙ ap pair_code found.reached in
+        let order = found.least best.1.index best.1.in_range best.1.remains in
+        let s_pair : pair.s < S_SPAN = subst (λ (p : Pair). p.s < S_SPAN) found.reached (s_small a) in
+        let above = at_most-code pair (added_pair instance level literals (literal path best.1.index)) s_pair (s_small (literal path best.1.index)) order in
+        let there : pair_code (added_pair instance level literals (literal path best.1.index)) ≡ pair_code best.0 = ap pair_code best.1.reached in
+        (omega (arith, lower, here, sum, above, there, best.2), omega (arith, lower, here, low))
+
+    -- no choice of a path with a great least word remains
+    pub none-left : (path : ℕ) → HARD ≤ least_of (words path) → (index : ℕ) → index < count_at instance path → RemainsAt instance level literals (literal path index) → ⊥
+    none-left path high index inside r =
+        let lower = least_below (words path) index (omega (arith, inside, words_count instance level arc literals path)) in
+        omega (arith, lower, high, word_in instance level arc literals path index inside, remains-word (literal path index) r)
+
+    pub some-left : (path index : ℕ) → index < count_at instance path → RemainsAt instance level literals (literal path index) → least_of (words path) < HARD
+    some-left path index inside r = elim (cases_lt (least_of (words path)) HARD) [
+      | inl low ↦ low
+      | inr high ↦ absurd (none-left path high index inside r)
+    ]

@@ -1,0 +1,13 @@
+pub mod Distances
+pub mod Breaks
+pub mod Cells
+pub mod Links
+pub mod Tables
+pub mod Words
+pub mod Counts
+pub mod Moves
+pub mod Totals
+pub mod Kept
+pub mod ForwardStates
+pub mod CountedSums
+pub mod Laws

@@ -1,0 +1,40 @@
+-- The words of all neighbours at a level.
+use Rattle.std.specs.Prelude.{◌≡◌, ℕ, ◌<◌, List, [], length, slice_index, slice_index_or}
+use Rattle.fapp_model.specs.declared.instance.Instance.{Instance}
+use Rattle.fapp_tables.specs.Indexes.{neighbours_of}
+use Rattle.choice_counts.specs.declared.breaks.TheConstants.{NO_REACH}
+use Rattle.choice_counts.specs.declared.fill.Link.{Link}
+use Rattle.choice_counts.specs.Links.{IsLink}
+
+-- an instance, and the level that its words are of
+pub record WordState : Type 0 where
+  pub instance : Instance
+  pub level : ℕ
+
+abbrev pub words_at : Instance → ℕ → WordState
+words_at instance level = record { instance = instance; level = level }
+
+abbrev pub no_link : Link
+no_link = record { cells = []; far = NO_REACH }
+
+abbrev pub link_at : List Link → ℕ → Link
+link_at links place = slice_index_or links place no_link
+
+-- a link for each neighbour of a path
+pub record AreLinksOf (instance : Instance) (level path : ℕ) (links : List Link) : Type 0 where
+  pub count : length links ≡ length (neighbours_of instance path)
+  pub each : (place : ℕ) → place < length (neighbours_of instance path) →
+      IsLink instance level path (slice_index (neighbours_of instance path) place) (link_at links place)
+
+abbrev pub links_of : List (List Link) → ℕ → List Link
+links_of table path = slice_index_or table path []
+
+-- a link for each path and neighbour
+pub record AreLinks (instance : Instance) (level : ℕ) (table : List (List Link)) : Type 0 where
+  pub count : length table ≡ length instance.paths
+  pub each : (path : ℕ) → path < length instance.paths → AreLinksOf instance level path (links_of table path)
+
+-- as many links as neighbours, for each of so many paths
+pub record HasLinks (instance : Instance) (table : List (List Link)) (paths : ℕ) : Type 0 where
+  pub count : length table ≡ paths
+  pub each : (path : ℕ) → path < paths → length (links_of table path) ≡ length (neighbours_of instance path)

@@ -1,9 +1,0 @@
-use Rattle.std.proofs.Common.{◌≡◌}
-use Rattle.distance_words.specs.Cells.{AreCells, end_of}
-use Rattle.distance_words.proofs.fill.add_cells.Given as goal
-
-abbrev pub invariant-loop-step : goal.invariant-loop-step
-invariant-loop-step l = record {
-  cells : AreCells l.pair.instance.now l.pair.level l.pair.path l.pair.other l.cells;
-  reached : end_of l.cells ≡ l.distance;
-}

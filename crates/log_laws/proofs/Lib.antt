@@ -1,6 +1,0 @@
-pub mod Places
-pub mod CodeOrder
-pub mod Implying
-pub mod Growing
-pub mod Segmenting
-pub mod Examples

@@ -1,5 +1,0 @@
-use Rattle.log_laws.proofs.Implying.{lines-implied}
-use Rattle.log_laws.proofs.laws.good_lines_are_implied.Goals as goal
-
-pub returns : goal.returns
-returns c = λ instance rows lines segments valid implied good. lines-implied instance valid rows implied lines good.good_lines

@@ -1,5 +1,0 @@
-use Rattle.outcome_laws.proofs.OpenVerdicts.{enough}
-use Rattle.outcome_laws.proofs.enough_settles.Goals as goal
-
-pub returns : goal.returns
-returns c split fuel rows logs word arcs outcomes best lower level prefix h s = enough split fuel rows logs word arcs outcomes best lower level prefix s h
