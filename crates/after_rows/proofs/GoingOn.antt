@@ -14,12 +14,13 @@ use Rattle.search_log.specs.Contents.{KnownRow}
 use Rattle.search_log.specs.LogStates.{LogState}
 use Rattle.search_log.specs.NumberedRows.{numbered_rows}
 use Rattle.nogood.specs.declared.row.Row.{Row}
-use Rattle.merge_laws.specs.declared.piece.Piece.{Piece}
+use Rattle.search_log.specs.declared.piece.Piece.{Piece}
 use Rattle.merge_laws.specs.Conditions.{AreOld, IsMergeableAfter}
-use Rattle.merge_laws.specs.GoodLogs.{IsHome, IsPlacedIn, pieces_of}
+use Rattle.merge_laws.specs.GoodLogs.{IsPlacedIn}
+use Rattle.search_log.specs.GoodLogs.{IsHome, pieces_of}
 use Rattle.merge_laws.specs.OldRoots.{old_root}
 use Rattle.fapp_workers.specs.SharingLaws.{AreGoodLogsOver}
-use Rattle.fapp_workers.proofs.Merging.{outcomes-are}
+use Rattle.fapp_workers.proofs.SharedRuns.{outcomes-are}
 use Rattle.fapp_workers.specs.Gathered.{AreSettled, IsLeastWord}
 use Rattle.fapp_workers.proofs.LeastWords.{word-shown}
 use Rattle.after_rows.specs.Placing.{ArePaired, AreSaid}

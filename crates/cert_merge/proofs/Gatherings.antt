@@ -11,10 +11,11 @@ use Rattle.cert_lines.specs.declared.answer.Line.{Line}
 use Rattle.search_log.specs.declared.line.LogLine.{LogLine}
 use Rattle.search_log.specs.declared.line.Segment.{Segment}
 use Rattle.search_log.specs.LogStates.{LogState}
-use Rattle.merge_laws.specs.declared.piece.Piece.{Piece}
-use Rattle.merge_laws.specs.GoodLogs.{AreByRow, all_lines, piece_of, pieces_from, pieces_of}
+use Rattle.search_log.specs.declared.piece.Piece.{Piece}
+use Rattle.merge_laws.specs.GoodLogs.{AreByRow}
+use Rattle.search_log.specs.GoodLogs.{all_lines, lines_of, piece_of, pieces_from, pieces_of}
 use Rattle.merge_laws.specs.Pieces.{emit_pieces, emit_rests}
-use Rattle.merge_laws.specs.Stages.{Merged, done_of, lines_of, start}
+use Rattle.merge_laws.specs.Stages.{Merged, done_of, start}
 use Rattle.merge_laws.proofs.Starting.{length-placed}
 use Rattle.cert_merge.specs.Growth.{AreLeft, IsGathered, IsWithin}
 

@@ -4,9 +4,10 @@ use Rattle.std.proofs.lemmas.Bool.{cases_eq, cases_lt}
 use Rattle.std.specs.List.{range_with_len}
 use Rattle.std.proofs.lemmas.List.{at_drop_all, at_drop_more, take_all, length-set, length-take, length-drop, get_or-set_same, get_or-set_other, drop-drop, drop_all}
 use Rattle.search_log.specs.declared.line.LogLine.{LogLine}
-use Rattle.merge_laws.specs.declared.piece.Piece.{Piece}
+use Rattle.search_log.specs.declared.piece.Piece.{Piece}
 use Rattle.merge_laws.specs.Pieces.{emit_piece, emit_pieces, emit_rests}
-use Rattle.merge_laws.specs.Stages.{Merged, done_of, emit_all, land, lines_of}
+use Rattle.merge_laws.specs.Stages.{Merged, done_of, emit_all, land}
+use Rattle.search_log.specs.GoodLogs.{lines_of}
 use Rattle.cert_merge.specs.Growth.{AreLeft}
 use Rattle.cert_merge.proofs.Numbers.{done-more, done-other}
 

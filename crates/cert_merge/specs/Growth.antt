@@ -9,11 +9,12 @@ use Rattle.cert_lines.specs.declared.answer.Line.{Line}
 use Rattle.search_log.specs.declared.line.LogLine.{LogLine}
 use Rattle.search_log.specs.LogStates.{LogState}
 use Rattle.fapp_plan.specs.declared.steps.Step.{Step}
-use Rattle.merge_laws.specs.declared.piece.Piece.{Piece}
+use Rattle.search_log.specs.declared.piece.Piece.{Piece}
 use Rattle.merge_laws.specs.Certificates.{gathered}
-use Rattle.merge_laws.specs.GoodLogs.{AreByRow, all_lines}
+use Rattle.merge_laws.specs.GoodLogs.{AreByRow}
+use Rattle.search_log.specs.GoodLogs.{all_lines, lines_of}
 use Rattle.merge_laws.specs.Levels.{all_longer}
-use Rattle.merge_laws.specs.Stages.{Merged, done_of, lines_of}
+use Rattle.merge_laws.specs.Stages.{Merged, done_of}
 
 -- other lines, and the same numbers
 abbrev pub with_out : Merged → List Line → Merged

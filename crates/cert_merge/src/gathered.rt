@@ -12,7 +12,7 @@ use crate::remainder::Remainder;
 use crate::segments::{Parts, parted, room_of, sort_by_row};
 use cert_lines::Line;
 use fapp_model::NoMemory;
-use merge_laws::Piece;
+use search_log::Piece;
 use search_log::Log;
 use std::alloc::Global;
 

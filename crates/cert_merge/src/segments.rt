@@ -2,13 +2,13 @@
 ghost use Rattle.std.specs.Prelude.{◌≡◌, ◌<◌, ◌≤◌, ◌++◌, length, map, All, AllPairs, IfOk, OnOk};
 ghost use Rattle.std.specs.List.{AllAdjacentBelow};
 ghost use Rattle.std.specs.List.Sorted.{IsPermutation};
-ghost use Rattle.merge_laws.specs.GoodLogs.{all_lines, piece_of, pieces_of};
+ghost use Rattle.search_log.specs.GoodLogs.{all_lines, piece_of, pieces_of};
 ghost use Rattle.cert_merge.specs.Growth.{IsNotAfter};
 
 use crate::remainder::Remainder;
 use fapp_model::NoMemory;
 use search_log::Segment;
-use merge_laws::Piece;
+use search_log::Piece;
 use search_log::Log;
 use std::alloc::Global;
 

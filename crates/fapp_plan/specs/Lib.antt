@@ -4,3 +4,4 @@ pub mod Sorting
 pub mod Outcomes
 pub mod VerdictRule
 pub mod Laws
+pub mod Shown

@@ -22,10 +22,10 @@ use Rattle.search_log.specs.LogStates.{LogState}
 use Rattle.fapp_plan.specs.Outcomes.{IsOutcomeFor, IsPlacedFor, Placed}
 use Rattle.fapp_plan.specs.Plans.{Split}
 use Rattle.fapp_plan.specs.VerdictRule.{IsVerdictOf}
-use Rattle.merge_laws.specs.Conditions.{AreOutcomes, IsMergeable, IsPut}
-use Rattle.merge_laws.specs.GoodLogs.{AreGoodLogs, all_lines}
+use Rattle.merge_laws.specs.Conditions.{IsMergeable}
+use Rattle.fapp_plan.specs.Shown.{AreOutcomes, IsPut, IsRefutedBy}
+use Rattle.search_log.specs.GoodLogs.{AreGoodLogs, all_lines}
 use Rattle.merge_laws.specs.MergedLines.{branch_total, is_branch_path}
-use Rattle.merge_laws.specs.Refuted.{IsRefutedBy}
 use Rattle.fapp_workers.specs.Gathered.{AreSettled, IsLeastWord, IsPlacedBy, log_at}
 use Rattle.fapp_workers.specs.Outcomes.{AreTicksOf, IsJobSettledBy}
 use Rattle.fapp_workers.proofs.LeastWords.{word-shown}

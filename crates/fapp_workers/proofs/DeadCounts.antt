@@ -13,9 +13,8 @@ use Rattle.search_log.specs.Contents.{Cites, KnownRow}
 use Rattle.search_log.specs.GoodLines.{AreGoodLines, IsGoodLine}
 use Rattle.search_log.specs.LogStates.{LogState}
 use Rattle.fapp_workers.specs.SharingLaws.{AreGoodLogsOver}
-use Rattle.merge_laws.specs.GoodLogs.{IsBare}
-use Rattle.merge_laws.proofs.Beside.{zip-none}
-use Rattle.merge_laws.proofs.WrittenLines.{left-out-dead}
+use Rattle.search_log.specs.GoodLogs.{IsBare}
+use Rattle.search_log.proofs.BareLines.{left-out-dead, zip-none}
 use Rattle.fapp_workers.specs.Collections.{IsDeadCount}
 
 dead-count : (instance : Instance) (rows : List KnownRow) (earlier : List LogLine) (line : LogLine) → IsGoodLine instance rows earlier line → IsBare line → line.path ≡ None → (0 < line.tag.code) ⊎ (line.tag.code ≤ 0) →

@@ -12,9 +12,8 @@ use Rattle.search_log.specs.Contents.{KnownRow, content_of, known_row}
 use Rattle.search_log.specs.Segments.{EndsAsRow, IsGoodLog}
 use Rattle.search_log.proofs.Segmenting.{log-more}
 use Rattle.search_log.specs.LogStates.{LogState}
-use Rattle.merge_laws.specs.declared.piece.Piece.{Piece}
-use Rattle.merge_laws.specs.GoodLogs.{AreGoodLogs, IsBare, IsHome, all_lines, piece_of, pieces_from, pieces_of}
-use Rattle.merge_laws.specs.Stages.{lines_of}
+use Rattle.search_log.specs.declared.piece.Piece.{Piece}
+use Rattle.search_log.specs.GoodLogs.{AreGoodLogs, IsBare, IsHome, all_lines, lines_of, piece_of, pieces_from, pieces_of}
 use Rattle.fapp_workers.specs.Ends.{AreClosed, IsWorkerEnd, WorkerEnd, all_published, log_of, logs_of}
 use Rattle.fapp_workers.specs.SharingLaws.{AreGoodLogsOver, row_of}
 

@@ -5,7 +5,7 @@ pub mod Shown
 pub mod WorkingOn
 pub mod Settled
 pub mod PooledSeats
-pub mod Merging
+pub mod SharedRuns
 pub mod Bounds
 pub mod Deciding
 pub mod Working

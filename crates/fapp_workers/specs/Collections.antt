@@ -9,7 +9,7 @@ use Rattle.fapp_plan.specs.Plans.{Split}
 use Rattle.search_log.specs.declared.line.LogLine.{LogLine}
 use Rattle.search_log.specs.Contents.{KnownRow}
 use Rattle.search_log.specs.LogStates.{LogState}
-use Rattle.merge_laws.specs.GoodLogs.{AreGoodLogs}
+use Rattle.search_log.specs.GoodLogs.{AreGoodLogs}
 use Rattle.fapp_workers.specs.SharingLaws.{AreGoodLogsOver}
 use Rattle.fapp_workers.specs.Gathered.{AreSettled, IsLeastWord}
 use Rattle.fapp_workers.specs.Outcomes.{AreTicksOf}

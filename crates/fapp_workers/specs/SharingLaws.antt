@@ -6,15 +6,10 @@ use Rattle.search_log.specs.Contents.{KnownRow}
 use Rattle.search_log.specs.Segments.{IsGoodLog}
 use Rattle.search_log.specs.LogStates.{LogState}
 use Rattle.fapp_plan.specs.Outcomes.{Placed}
-use Rattle.merge_laws.specs.declared.piece.Piece.{Piece}
-use Rattle.merge_laws.specs.GoodLogs.{AreGoodLogs, IsBare, IsHome, pieces_of}
-use Rattle.fapp_workers.specs.Gathered.{IsLeastWord, IsPlacedBy}
-use Rattle.fapp_model.specs.Instances.{IsInstance}
-use Rattle.fapp_model.specs.Tags.{triple_from}
-use Rattle.cert_lines.specs.declared.answer.Verdict.{Verdict}
-use Rattle.arc_levels.specs.Outside.{IsRootTag}
-use Rattle.fapp_plan.specs.VerdictRule.{IsVerdictOf}
-use Rattle.merge_laws.specs.Conditions.{IsMergeable}
+use Rattle.search_log.specs.declared.piece.Piece.{Piece}
+use Rattle.search_log.specs.GoodLogs.{AreGoodLogs, IsBare, IsHome, pieces_of}
+use Rattle.fapp_workers.specs.Gathered.{IsPlacedBy}
+use Rattle.fapp_plan.specs.Shown.{AreOutcomes}
 use Rattle.fapp_workers.specs.Outcomes.{IsJobSettledBy}
 use Rattle.fapp_plan.specs.Plans.{Split}
 use Rattle.std.specs.Prelude.{◌⊎◌, true}
@@ -90,12 +85,16 @@ pub record AreShown (split : Split) (fuel : ℕ) (ends : List WorkerEnd) (word :
   pub planned : length outcomes ≡ job_count split.instance split.split
   pub each : (id : ℕ) → id < job_count split.instance split.split → IsShown split fuel ends word id (slice_index_or outcomes id None)
 
--- What workers that shared rows leave behind, once the pool was closed with all seats, may be merged.
-abbrev pub SharedRunIsMergeable : Type 0
-SharedRunIsMergeable = (split : Split) (fuel : ℕ) (first : PoolView) (views : List PoolView) (ends : List WorkerEnd) (word root : ℕ) (outcomes : List Placed) (verdict : Verdict) → IsInstance split.instance →
-    All (IsWorkerEnd split.instance) ends → AllZip IsSeatEnd views ends → first.published ≡ [] → ArePooled (first ∷ views) → AreShown split fuel ends word outcomes →
-    IsLeastWord split.instance (logs_of ends) word → IsRootTag split.instance (triple_from root) → IsVerdictOf split.instance split.split outcomes word root verdict →
-    IsMergeable split.instance split.split (logs_of ends) outcomes word verdict
+-- What workers that shared rows leave behind, once the pool was closed with all seats: their logs are good over the rows
+-- that they published, each of which is home once, and these show the outcomes of all jobs.
+pub record IsSharedRun (split : Split) (rows : List KnownRow) (logs : List LogState) (outcomes : List Placed) : Type 0 where
+  pub logs_are : AreGoodLogs split.instance rows logs
+  pub outcomes_are : AreOutcomes split.instance split.split rows logs outcomes
+
+abbrev pub SharedRunIsSettled : Type 0
+SharedRunIsSettled = (split : Split) (fuel : ℕ) (first : PoolView) (views : List PoolView) (ends : List WorkerEnd) (word : ℕ) (outcomes : List Placed) →
+    All (IsWorkerEnd split.instance) ends → AllZip IsSeatEnd views ends → first.published ≡ [] → ArePooled (first ∷ views) →
+    AreShown split fuel ends word outcomes → IsSharedRun split (all_published ends) (logs_of ends) outcomes
 
 -- What a search answers of a job is settled, for each word that is at most what the bound told last and was offered.
 abbrev pub JobsAreSettled : Type 0

@@ -1,7 +1,7 @@
 //! Laws over what workers that share rows leave behind, and over the outcomes of all jobs. Each stands as the contract of a
 //! function that does nothing; the lemmas that they rest on are in `proofs/`.
 ghost use Rattle.fapp_workers.specs.VerdictLaws.{EnoughSettles, OpenSaysSo};
-ghost use Rattle.fapp_workers.specs.SharingLaws.{JobsAreSettled, OffersAreCounted, PooledSeatsClose, SegmentsAreUsed, SettledJobsStay, SharedLogsAreGood, SharedOutcomesAreShown, SharedRunIsMergeable, WorkGoesOn};
+ghost use Rattle.fapp_workers.specs.SharingLaws.{JobsAreSettled, OffersAreCounted, PooledSeatsClose, SegmentsAreUsed, SettledJobsStay, SharedLogsAreGood, SharedOutcomesAreShown, SharedRunIsSettled, WorkGoesOn};
 
 /// The logs of workers that share rows are good over the rows that they published, each of which is home in one log.
 pub fn shared_logs_are_good()
@@ -28,9 +28,9 @@ pub fn pooled_seats_close()
     ensures { PooledSeatsClose }
 {}
 
-/// What workers that shared rows leave behind may be merged, once the pool was closed.
-pub fn shared_run_is_mergeable()
-    ensures { SharedRunIsMergeable }
+/// What workers that shared rows leave behind is good and shows the outcomes of all jobs, once the pool was closed.
+pub fn shared_run_is_settled()
+    ensures { SharedRunIsSettled }
 {}
 
 /// What a search answers of a job is settled.

@@ -1,5 +1,5 @@
 -- Small facts on lists that stand side by side, on tags and on literals.
-use Rattle.std.proofs.Common.{◌≡◌, ◌≢◌, ℕ, ◌<◌, ◌/◌, ◌%◌, false, List, [], ◌∷◌, length, Contains, Option, Some, refl, sym, ap, subst, ◌∙◌, arith, eqb, ⊎_elim}
+use Rattle.std.proofs.Common.{◌≡◌, ◌≢◌, ℕ, ◌<◌, ◌/◌, ◌%◌, false, List, [], ◌∷◌, length, Contains, Option, Some, sym, ap, subst, ◌∙◌, arith, eqb, ⊎_elim}
 use Rattle.std.specs.List.{AllZip}
 use Rattle.std.proofs.lemmas.Bool.{eq-eqb, true≢false}
 use Rattle.fapp_model.specs.declared.instance.Instance.{Instance}
@@ -21,12 +21,6 @@ zip-both R S (w ∷ xs) (z ∷ ys) h g x m = ⊎_elim
     (λ here. (z, at_front z ys, subst (λ u. R u z) here h.0, subst (λ u. S u z) here g.0))
     (λ later. let r = zip-both R S xs ys h.1 g.1 x later in (r.0, behind z ys r.0 r.1, r.2, r.3))
     (front_or_behind w xs x m)
-
--- beside nothing stands nothing
-pub zip-none : {X Y : Type 0} (R : X → Y → Type 0) (xs : List X) (ys : List Y) → AllZip R xs ys → xs ≡ [] → ys ≡ []
-zip-none R [] [] h e = refl
-zip-none R [] (z ∷ ys) h e = absurd h
-zip-none R (x ∷ xs) ys h e = absurd (cc)
 
 pub same-some : {X : Type 0} (x y : X) (o : Option X) → o ≡ Some x → o ≡ Some y → x ≡ y
 same-some x y o e g = cc

@@ -10,12 +10,12 @@ use Rattle.cert_lines.specs.declared.answer.Line.{Line}
 use Rattle.search_log.specs.declared.line.LogLine.{LogLine}
 use Rattle.search_log.proofs.Places.{get-take}
 use Rattle.search_log.specs.LogStates.{LogState}
-use Rattle.merge_laws.specs.declared.piece.Piece.{Piece}
+use Rattle.search_log.specs.declared.piece.Piece.{Piece}
 use Rattle.merge_laws.specs.Certificates.{gathered}
-use Rattle.merge_laws.specs.GoodLogs.{all_lines}
+use Rattle.search_log.specs.GoodLogs.{all_lines, lines_of}
 use Rattle.merge_laws.specs.MergedLines.{branch_total, is_branch_path}
 use Rattle.merge_laws.specs.Pieces.{emit_piece, emit_pieces, emit_rest, emit_rests, left_to}
-use Rattle.merge_laws.specs.Stages.{Merged, done_of, emit, emit_all, emit_branch, emit_by, left_out, lines_of, noted, number_of, start}
+use Rattle.merge_laws.specs.Stages.{Merged, done_of, emit, emit_all, emit_branch, emit_by, left_out, noted, number_of, start}
 use Rattle.merge_laws.specs.Written.{written}
 use Rattle.merge_laws.proofs.StageSteps.{emit-after}
 use Rattle.merge_laws.proofs.Stretches.{from-dropped}

@@ -38,8 +38,10 @@ use Rattle.fapp_plan.proofs.Rules.{prefix-partial, some-prefix}
 use Rattle.merge_laws.specs.Fates.{AreMarked, IsFate}
 use Rattle.merge_laws.specs.Laws.{IsSettledAt}
 use Rattle.merge_laws.specs.Levels.{root_line}
-use Rattle.merge_laws.specs.Refuted.{AreRefuted, number_by, prefix_number}
-use Rattle.merge_laws.specs.Stages.{Merged, lines_of, number_of}
+use Rattle.merge_laws.specs.Refuted.{number_by, prefix_number}
+use Rattle.fapp_plan.specs.Shown.{AreRefuted}
+use Rattle.merge_laws.specs.Stages.{Merged, number_of}
+use Rattle.search_log.specs.GoodLogs.{lines_of}
 use Rattle.merge_laws.proofs.Beside.{above-least}
 use Rattle.merge_laws.proofs.Ruling.{IsFound, found-everywhere, job-of, root-is_tag, ruled-tag}
 use Rattle.merge_laws.proofs.Tree.{AreSettled, IsSettled}

@@ -14,11 +14,12 @@ use Rattle.search_log.specs.declared.line.LogLine.{LogLine}
 use Rattle.search_log.specs.declared.line.Ref.{Ref}
 use Rattle.search_log.specs.declared.line.Ref.TheVariants.{Own, Row}
 use Rattle.search_log.specs.Contents.{Cites, Content, KnownRow, known_row}
-use Rattle.merge_laws.specs.declared.piece.Piece.{Piece}
+use Rattle.search_log.specs.declared.piece.Piece.{Piece}
 use Rattle.merge_laws.specs.Certificates.{gathered}
 use Rattle.merge_laws.specs.Fates.{IsFate}
 use Rattle.merge_laws.specs.Pieces.{emit_pieces, emit_rest, emit_rests}
-use Rattle.merge_laws.specs.Stages.{Merged, done_of, lines_of, number_of, start}
+use Rattle.merge_laws.specs.Stages.{Merged, done_of, number_of, start}
+use Rattle.search_log.specs.GoodLogs.{lines_of}
 use Rattle.merge_laws.specs.Conditions.{AreOld}
 use Rattle.merge_laws.specs.GoodLogs.{IsPlacedIn}
 use Rattle.merge_laws.proofs.Staged.{IsDoneRow, IsStage}

@@ -18,9 +18,9 @@ use Rattle.search_log.specs.GoodLines.{IsGoodLine}
 use Rattle.search_log.specs.Segments.{CitesLowerRows, EndsAsRow, IsGoodLog}
 use Rattle.search_log.proofs.Places.{zip-left}
 use Rattle.search_log.specs.LogStates.{LogState}
-use Rattle.merge_laws.specs.declared.piece.Piece.{Piece}
-use Rattle.merge_laws.specs.GoodLogs.{AreByRow, AreGoodLogsAfter, IsBare, IsHome, IsPlacedIn, all_lines, piece_of, pieces_from, pieces_of}
-use Rattle.merge_laws.specs.Stages.{lines_of}
+use Rattle.search_log.specs.declared.piece.Piece.{Piece}
+use Rattle.merge_laws.specs.GoodLogs.{AreByRow, AreGoodLogsAfter, IsPlacedIn}
+use Rattle.search_log.specs.GoodLogs.{IsBare, IsHome, all_lines, lines_of, piece_of, pieces_from, pieces_of}
 
 -- the numbers of the rows that old lines say
 abbrev pub placed_numbers : List (ℕ × ℕ) → List ℕ

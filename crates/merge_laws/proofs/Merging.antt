@@ -39,17 +39,18 @@ use Rattle.fapp_plan.specs.Outcomes.{Placed}
 use Rattle.fapp_plan.specs.VerdictRule.{IsVerdictOf}
 use Rattle.fapp_plan.specs.Steps.{prefix_paths}
 use Rattle.fapp_plan.proofs.Depths.{prefix_paths-in}
-use Rattle.merge_laws.specs.declared.piece.Piece.{Piece}
+use Rattle.search_log.specs.declared.piece.Piece.{Piece}
 use Rattle.merge_laws.specs.Certificates.{gathered}
 use Rattle.merge_laws.specs.Conditions.{AreOld, IsMergeable, IsMergeableAfter}
 use Rattle.merge_laws.specs.Fates.{IsFate, Stands}
-use Rattle.merge_laws.specs.GoodLogs.{AreByRow, AreGoodLogs, AreGoodLogsAfter, IsHome, IsPlacedIn, all_lines, pieces_of}
+use Rattle.merge_laws.specs.GoodLogs.{AreByRow, AreGoodLogsAfter, IsPlacedIn}
+use Rattle.search_log.specs.GoodLogs.{AreGoodLogs, IsHome, all_lines, lines_of, pieces_of}
 use Rattle.merge_laws.specs.OldRoots.{code_or_zero, is_enough, is_rooted, old_root}
 use Rattle.merge_laws.specs.Laws.{AreGathered}
 use Rattle.merge_laws.specs.Levels.{branch_line, emit_level, emit_prefixes, emit_tree, all_longer, prefix_line, root_line}
 use Rattle.merge_laws.specs.MergedLines.{IsBareLine, IsCertificate, IsCertificateAfter, IsCertificateAfterAt, IsCertificateAt, IsMerged, IsMergedAfter, IsOrderedAfter, branch_total}
 use Rattle.merge_laws.specs.Refuted.{prefix_number}
-use Rattle.merge_laws.specs.Stages.{Merged, lines_of, number_of}
+use Rattle.merge_laws.specs.Stages.{Merged, number_of}
 use Rattle.merge_laws.proofs.Staged.{IsStage}
 use Rattle.merge_laws.proofs.BottomLists.{bottom, bottom-all}
 use Rattle.merge_laws.proofs.BranchCounts.{IsBounded, all-branches, gathered-bounded}

@@ -8,8 +8,8 @@ use Rattle.fapp_model.proofs.InOrder.{pairs-head, pairs-tail}
 use Rattle.fapp_model.proofs.Members.{at_front, behind, front_or_behind, no_member}
 use Rattle.search_log.specs.declared.line.LogLine.{LogLine}
 use Rattle.search_log.specs.Contents.{KnownRow, content_of, known_row}
-use Rattle.merge_laws.specs.declared.piece.Piece.{Piece}
-use Rattle.merge_laws.specs.Stages.{lines_of}
+use Rattle.search_log.specs.declared.piece.Piece.{Piece}
+use Rattle.search_log.specs.GoodLogs.{lines_of}
 use Rattle.merge_laws.proofs.Beside.{same-some}
 use Rattle.merge_laws.proofs.LogFacts.{AreLogFacts, IsHomeIn, Rises}
 use Rattle.merge_laws.proofs.Staged.{IsDoneRow}

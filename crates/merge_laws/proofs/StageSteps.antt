@@ -19,13 +19,14 @@ use Rattle.search_log.specs.Contents.{Cites, Content, KnownRow, content_of, know
 use Rattle.search_log.specs.GoodLines.{IsGoodLine, PassesBy}
 use Rattle.search_log.proofs.Places.{get-take}
 use Rattle.merge_laws.specs.Fates.{IsFate}
-use Rattle.merge_laws.specs.GoodLogs.{IsBare}
-use Rattle.merge_laws.specs.Stages.{Merged, done_of, emit, emit_branch, emit_by, land, left_out, lines_of, noted, number_of, own_of}
+use Rattle.search_log.specs.GoodLogs.{IsBare, lines_of}
+use Rattle.merge_laws.specs.Stages.{Merged, done_of, emit, emit_branch, emit_by, land, left_out, noted, number_of, own_of}
 use Rattle.merge_laws.specs.Written.{written}
 use Rattle.merge_laws.proofs.Staged.{IsDoneRow, IsStage}
-use Rattle.merge_laws.proofs.Beside.{same-some, zip-none}
+use Rattle.merge_laws.proofs.Beside.{same-some}
+use Rattle.search_log.proofs.BareLines.{left-out-dead, zip-none}
 use Rattle.merge_laws.proofs.Growing.{fate-grows, formed-grows, good-grows, marked-grows, stands-last}
-use Rattle.merge_laws.proofs.WrittenLines.{HaveFates, left-out-dead, written-formed, written-good}
+use Rattle.merge_laws.proofs.WrittenLines.{HaveFates, written-formed, written-good}
 
 -- ---- the numbers of lines after one more
 

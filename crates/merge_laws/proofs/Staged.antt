@@ -9,7 +9,8 @@ use Rattle.search_log.specs.declared.line.LogLine.{LogLine}
 use Rattle.search_log.specs.declared.line.Ref.TheVariants.{Own, Row}
 use Rattle.search_log.specs.Contents.{KnownRow, content_of}
 use Rattle.merge_laws.specs.Fates.{AreMarked, IsFate}
-use Rattle.merge_laws.specs.Stages.{Merged, done_of, lines_of, number_of}
+use Rattle.merge_laws.specs.Stages.{Merged, done_of, number_of}
+use Rattle.search_log.specs.GoodLogs.{lines_of}
 
 -- rows below a number are done, and those that old lines say
 abbrev pub IsDoneRow : List ℕ → ℕ → ℕ → Type 0

@@ -1,7 +1,7 @@
 -- A good line of a log is good and well formed as the certificate has it.
 use Rattle.std.proofs.Common.{◌≡◌, ℕ, ◌<◌, ◌≤◌, Bool, true, false, not, List, [], ◌∷◌, length, flat_map, refl, ap, sym, subst, ◌∙◌, inl, inr, arith, None, AllPairs, Contains, eqb, cond}
 use Rattle.std.specs.List.{AllZip, list_any, list_all, range_with_len}
-use Rattle.std.proofs.lemmas.Bool.{or_left, or_right, eqb-true, eqb-false, eq-eqb, ne_eqb, not_from_false, true≢false}
+use Rattle.std.proofs.lemmas.Bool.{or_left, or_right, eqb-true, eqb-false, eq-eqb, ne_eqb, not_from_false}
 use Rattle.std.proofs.lemmas.List.Elements.{All-contains, All-nil}
 use Rattle.fapp_model.specs.declared.instance.Instance.{Instance}
 use Rattle.fapp_model.specs.declared.literal.Literal.{Literal}
@@ -12,7 +12,7 @@ use Rattle.fapp_model.specs.InstanceTags.{IsTagFor}
 use Rattle.fapp_model.specs.Tags.{mode_level, triple_from}
 use Rattle.fapp_model.specs.search.Arcs.{OutsideArc}
 use Rattle.fapp_model.specs.search.Dead as Dead
-use Rattle.fapp_model.specs.search.Dead.{Dead, DeadBy, Remains, clash, outside_literal, no_choice_left, over_limit}
+use Rattle.fapp_model.specs.search.Dead.{Dead}
 use Rattle.fapp_model.specs.search.Partials.{AreLiterals, literal, names, IsPartial}
 use Rattle.fapp_model.proofs.Anys.{any-member, passing}
 use Rattle.fapp_model.proofs.InOrder.{pairs-cons, pairs-flat_map, pairs-nil, pairs-weaker}
@@ -35,7 +35,7 @@ use Rattle.search_log.specs.declared.line.ChoiceRef.{ChoiceRef}
 use Rattle.search_log.specs.declared.line.LogLine.{LogLine}
 use Rattle.search_log.specs.declared.line.Ref.{Ref}
 use Rattle.search_log.specs.Contents.{Cites, Content, KnownRow}
-use Rattle.search_log.specs.GoodLines.{AreChildren, IsBranch, IsChildOf, IsCount, IsOutside, is_ruled_out}
+use Rattle.search_log.specs.GoodLines.{AreChildren, IsBranch, IsChildOf}
 use Rattle.merge_laws.specs.Fates.{AreMarked, IsFate}
 use Rattle.merge_laws.specs.Written.{child_at, written, written_child}
 use Rattle.merge_laws.proofs.Beside.{above-least, with-literal, zip-both}
@@ -47,39 +47,6 @@ marked-judged instance out t cites literals marked own partial some dead =
     judged-where-excluded (OutsideArc instance (mode_level (triple_from t.code))) (is_excluded out t cites literals) instance (triple_from t.code) literals partial
     (λ a home outside. plain-excluded out marked.plain t cites literals a ∙ or_left (is_marked out t a) (is_cited out cites literals a) (marked.marks t a own home outside))
     (above-least t.code some) dead
-
--- where nothing is cited, what is outside or ruled out is outside
-pub left-out-dead : (instance : Instance) (tag : ℕ) (literals : List Literal) (contents : List Content) → contents ≡ [] → IsCount instance tag literals contents → Dead instance (triple_from tag) literals
-left-out-dead instance tag literals contents none count = go count.dead
-  where
-    ruled-none : (a : Literal) (cs : List Content) → cs ≡ [] → is_ruled_out cs literals a ≡ false
-    ruled-none a cs e = rw e refl
-
-    outside : (a : Literal) → IsOutside instance tag contents literals a → OutsideArc instance (mode_level (triple_from tag)) a
-    outside a (inl out) = out
-    outside a (inr ruled) = absurd (true≢false (sym ruled ∙ ruled-none a contents none))
-
-    remains : (level : ℕ) (a : Literal) → Remains (OutsideArc instance (mode_level (triple_from tag))) instance level literals a → Remains (IsOutside instance tag contents literals) instance level literals a
-    remains level a r = record { kept = λ out. r.kept (outside a out); free = r.free }
-
-    remained : (level : ℕ) (a : Literal) → Remains (IsOutside instance tag contents literals) instance level literals a → Remains (OutsideArc instance (mode_level (triple_from tag))) instance level literals a
-    remained level a r = record { kept = λ out. r.kept (inl out); free = r.free }
-
-    go : DeadBy (IsOutside instance tag contents literals) instance (triple_from tag) literals → Dead instance (triple_from tag) literals
-    go (Dead.least e) = Dead.least e
-    go (clash a b first second bad) = clash a b first second bad
-    go (outside_literal a m out) = outside_literal a m (outside a out)
-    go (no_choice_left path small free each) = no_choice_left path small free (λ index below. elim (each index below) [
-      | inl out ↦ inl (outside (literal path index) out)
-      | inr bad ↦ inr bad
-    ])
-    go (over_limit some fewest each most) = over_limit some fewest (λ path small free. let l = each path small free in record {
-      index = l.index;
-      in_range = l.in_range;
-      remains = remained (mode_level (triple_from tag)) (literal path l.index) l.remains;
-      reached = l.reached;
-      least = λ other below r. l.least other below (remains (mode_level (triple_from tag)) (literal path other) r);
-    }) most
 
 -- what a written child is
 not-zero : (choice n : ℕ) (z : Child) → Contains (child_at choice n) z → (0 < n) × (record { choice = choice; cite = n } ≡ z)

@@ -1,9 +1,8 @@
 -- What logs, outcomes and a verdict have to meet to be merged.
-use Rattle.std.specs.Prelude.{◌≡◌, ℕ, max, List, length, All, IsTrue, Some, None}
+use Rattle.std.specs.Prelude.{ℕ, max, List, All, IsTrue}
 use Rattle.fapp_model.specs.declared.instance.Instance.{Instance}
 use Rattle.fapp_model.specs.Levels.{levels_of}
 use Rattle.fapp_model.specs.Tags.{triple_from}
-use Rattle.fapp_model.specs.search.Jobs.{job_count}
 use Rattle.cert_lines.specs.declared.answer.Verdict.{Verdict}
 use Rattle.cert_lines.specs.declared.answer.Line.{Line}
 use Rattle.cert_lines.specs.WellFormed.{IsLine, is_shown}
@@ -11,22 +10,12 @@ use Rattle.accept_laws.specs.Lines.{AreGood}
 use Rattle.arc_levels.specs.Outside.{IsRootTag}
 use Rattle.search_log.specs.Contents.{KnownRow}
 use Rattle.search_log.specs.LogStates.{LogState}
-use Rattle.fapp_plan.specs.Outcomes.{IsPlacedFor, Placed}
+use Rattle.fapp_plan.specs.Outcomes.{Placed}
 use Rattle.fapp_plan.specs.VerdictRule.{IsVerdictOf}
-use Rattle.merge_laws.specs.GoodLogs.{AreGoodLogs, AreGoodLogsAfter, all_lines}
+use Rattle.merge_laws.specs.GoodLogs.{AreGoodLogsAfter}
+use Rattle.search_log.specs.GoodLogs.{AreGoodLogs}
 use Rattle.merge_laws.specs.OldRoots.{old_root}
-use Rattle.merge_laws.specs.Refuted.{AreRefuted}
-
-abbrev pub IsPut : Placed → Type 0
-IsPut None = ⊥
-IsPut (Some placed) = Unit {0}
-
--- each job has an outcome, and what a Refuted one names shows it
-pub record AreOutcomes (instance : Instance) (split : ℕ) (rows : List KnownRow) (logs : List LogState) (outcomes : List Placed) : Type 0 where
-  pub count : length outcomes ≡ job_count instance split
-  pub put : All IsPut outcomes
-  pub tags : All (IsPlacedFor instance) outcomes
-  pub refuted : AreRefuted instance split rows (all_lines logs) outcomes
+use Rattle.fapp_plan.specs.Shown.{AreOutcomes}
 
 -- the verdict is the rule's, for the outcomes, a bound that may be shown and the arcs' root tag
 pub record IsRuled (instance : Instance) (split : ℕ) (outcomes : List Placed) (word : ℕ) (verdict : Verdict) : Type 0 where

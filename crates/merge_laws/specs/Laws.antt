@@ -23,14 +23,15 @@ use Rattle.search_log.specs.LogStates.{LogState}
 use Rattle.search_log.specs.declared.job.Outcome.TheVariants.{Refuted}
 use Rattle.fapp_plan.specs.Outcomes.{IsPlacedFor, Placed, settled_by}
 use Rattle.fapp_plan.specs.VerdictRule.{IsVerdictOf}
-use Rattle.merge_laws.specs.declared.piece.Piece.{Piece}
+use Rattle.search_log.specs.declared.piece.Piece.{Piece}
 use Rattle.merge_laws.specs.Certificates.{gathered}
 use Rattle.merge_laws.specs.Conditions.{IsMergeable, IsMergeableAfter}
 use Rattle.merge_laws.specs.Fates.{AreMarked, IsFate}
-use Rattle.merge_laws.specs.GoodLogs.{AreByRow, AreGoodLogs, all_lines}
+use Rattle.merge_laws.specs.GoodLogs.{AreByRow}
+use Rattle.search_log.specs.GoodLogs.{AreGoodLogs, all_lines, lines_of}
 use Rattle.merge_laws.specs.Levels.{emit_tree}
 use Rattle.merge_laws.specs.MergedLines.{IsCertificate, IsCertificateAfter, IsMerged, IsMergedAfter}
-use Rattle.merge_laws.specs.Stages.{Merged, lines_of, number_of}
+use Rattle.merge_laws.specs.Stages.{Merged, number_of}
 
 -- Merged lines are well formed and accepted for the verdict, cite nothing at (0, 0, 0), and are no more than the bound.
 abbrev pub MergedLinesAreAccepted : Type 0

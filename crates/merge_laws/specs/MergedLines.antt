@@ -15,9 +15,10 @@ use Rattle.arc_levels.specs.ArcLines.{AreArcLines}
 use Rattle.arc_levels.specs.Outside.{IsRootTag}
 use Rattle.fapp_model.specs.Tags.{triple_from}
 use Rattle.fapp_plan.specs.Outcomes.{Placed}
-use Rattle.merge_laws.specs.declared.piece.Piece.{Piece}
+use Rattle.search_log.specs.declared.piece.Piece.{Piece}
 use Rattle.merge_laws.specs.Certificates.{certificate}
-use Rattle.merge_laws.specs.GoodLogs.{AreByRow, all_lines}
+use Rattle.merge_laws.specs.GoodLogs.{AreByRow}
+use Rattle.search_log.specs.GoodLogs.{all_lines}
 use Rattle.merge_laws.specs.Levels.{root_line}
 use Rattle.merge_laws.specs.OldRoots.{is_rooted}
 

@@ -1,8 +1,9 @@
 -- The order of the logs' lines in a certificate: segments by their rows, then the rests.
 use Rattle.std.specs.Prelude.{ℕ, ◌+◌, ◌-◌, List, [], ◌∷◌, take, drop}
 use Rattle.search_log.specs.declared.line.LogLine.{LogLine}
-use Rattle.merge_laws.specs.declared.piece.Piece.{Piece}
-use Rattle.merge_laws.specs.Stages.{Merged, done_of, emit_all, land, lines_of}
+use Rattle.search_log.specs.declared.piece.Piece.{Piece}
+use Rattle.merge_laws.specs.Stages.{Merged, done_of, emit_all, land}
+use Rattle.search_log.specs.GoodLogs.{lines_of}
 
 -- the lines of a log that are not done, up to a place
 abbrev pub left_to : List (List LogLine) → Merged → ℕ → ℕ → List LogLine

@@ -34,10 +34,6 @@ abbrev pub number_of : Merged → ℕ → Ref → ℕ
 number_of s log (Own n) = slice_index_or (own_of s log) n 0
 number_of s log (Row r) = slice_index_or s.row r 0
 
--- the lines of a log
-abbrev pub lines_of : List (List LogLine) → ℕ → List LogLine
-lines_of logs log = slice_index_or logs log []
-
 -- the next line of a log gets a number
 abbrev pub noted : List (List ℕ) → ℕ → ℕ → List (List ℕ)
 noted own log n = slice_set own log (slice_index_or own log [] ++ n ∷ [])

@@ -3,10 +3,8 @@
 #![tactic(auto)]
 
 mod laws;
-mod piece;
 
 pub use laws::{
     gathered_lines_are_good, merged_answer_is_accepted, merged_lines_after_are_accepted,
     merged_lines_are_accepted, one_root_tag, rule_settles_prefixes, tree_lines,
 };
-pub use piece::Piece;

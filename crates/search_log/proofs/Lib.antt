@@ -6,3 +6,4 @@ pub mod Segmenting
 pub mod Examples
 pub mod Ended
 pub mod Numbering
+pub mod BareLines

@@ -10,3 +10,4 @@ pub mod Shares
 pub mod NumberedRows
 pub mod LogStates
 pub mod Logs
+pub mod GoodLogs

@@ -10,6 +10,7 @@ mod laws;
 mod line;
 mod log;
 mod mem_rows;
+mod piece;
 mod shared;
 #[cfg(test)]
 mod tests;
@@ -24,4 +25,5 @@ pub use laws::{
 pub use line::{ChoiceRef, LogLine, Ref, Segment};
 pub use log::{KeptPlan, Log};
 pub use mem_rows::{MemRows, fits};
+pub use piece::Piece;
 pub use shared::{Cite, NoRows, Shared};

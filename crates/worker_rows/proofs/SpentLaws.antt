@@ -18,9 +18,9 @@ use Rattle.search_log.specs.declared.job.Outcome.TheVariants.{Refuted, Moot, Spe
 use Rattle.search_log.specs.LogStates.{LogState}
 use Rattle.fapp_plan.specs.Outcomes.{IsPlacedFor, Placed}
 use Rattle.fapp_plan.specs.VerdictRule.{IsVerdictOf}
-use Rattle.merge_laws.specs.Conditions.{IsMergeable, IsPut}
-use Rattle.merge_laws.specs.GoodLogs.{AreGoodLogs, IsBare, IsHome}
-use Rattle.merge_laws.specs.Refuted.{IsRefutedBy}
+use Rattle.merge_laws.specs.Conditions.{IsMergeable}
+use Rattle.fapp_plan.specs.Shown.{IsPut, IsRefutedBy}
+use Rattle.search_log.specs.GoodLogs.{AreGoodLogs, IsBare, IsHome}
 use Rattle.worker_rows.specs.SpentJobs.{AreSpent}
 
 -- the first jobs are spent, and the others have no outcome

@@ -2,8 +2,8 @@ use Rattle.std.proofs.Common.{◌≡◌, ◌<◌, List, ◌++◌, length, drop, 
 use Rattle.std.specs.List.Sorted.{IsPermutation}
 use Rattle.std.proofs.lemmas.List.{length-map, take_at}
 use Rattle.search_log.specs.LogStates.{LogState}
-use Rattle.merge_laws.specs.declared.piece.Piece.{Piece}
-use Rattle.merge_laws.specs.GoodLogs.{all_lines}
+use Rattle.search_log.specs.declared.piece.Piece.{Piece}
+use Rattle.search_log.specs.GoodLogs.{all_lines}
 use Rattle.merge_laws.specs.Pieces.{emit_pieces}
 use Rattle.cert_merge.specs.Growth.{AreLeft, IsWithin}
 use Rattle.cert_merge.proofs.Gatherings.{gathered-is, left-at-start, pieces-within}

@@ -1,5 +1,5 @@
 use Rattle.std.proofs.Common.{◌≡◌}
-use Rattle.merge_laws.specs.GoodLogs.{all_lines, pieces_of}
+use Rattle.search_log.specs.GoodLogs.{all_lines, pieces_of}
 use Rattle.cert_merge.proofs.segments.parted.Given as goal
 
 abbrev pub invariant-loop-log : goal.invariant-loop-log

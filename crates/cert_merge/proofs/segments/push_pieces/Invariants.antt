@@ -1,5 +1,5 @@
 use Rattle.std.proofs.Common.{◌≡◌, ◌++◌, map, take}
-use Rattle.merge_laws.specs.GoodLogs.{piece_of}
+use Rattle.search_log.specs.GoodLogs.{piece_of}
 use Rattle.cert_merge.proofs.segments.push_pieces.Given as goal
 
 abbrev pub invariant-loop-segment : goal.invariant-loop-segment

@@ -1,7 +1,7 @@
 use Rattle.std.proofs.Common.{ℕ, ◌+◌, ◌<◌, ◌≤◌, List, length, All, take, get_or, subst, arith}
 use Rattle.std.proofs.lemmas.List.{take_all}
 use Rattle.std.proofs.lemmas.List.Elements.{All-more, All-weaker}
-use Rattle.merge_laws.specs.declared.piece.Piece.{Piece}
+use Rattle.search_log.specs.declared.piece.Piece.{Piece}
 use Rattle.cert_merge.proofs.segments.room_of.Goals.{then-room-piece, else-room-piece}
 use Rattle.cert_merge.proofs.segments.room_of.Goals as goal
 

@@ -6,7 +6,7 @@ use Rattle.arc_levels.specs.Outside.{IsRootTag}
 use Rattle.fapp_plan.specs.Plans.{Split}
 use Rattle.fapp_plan.specs.VerdictRule.{IsVerdictOf}
 use Rattle.merge_laws.specs.Conditions.{AreOld}
-use Rattle.fapp_workers.proofs.Merging.{tags-for}
+use Rattle.fapp_workers.proofs.SharedRuns.{tags-for}
 use Rattle.fapp_workers.proofs.LeastWords.{word-shown}
 use Rattle.search_log.specs.NumberedRows.{numbered_rows}
 use Rattle.fapp_workers.specs.FirstRows.{ArePublishable}

@@ -1,6 +1,6 @@
 use Rattle.std.proofs.Common.{List}
 use Rattle.search_log.specs.declared.line.LogLine.{LogLine}
-use Rattle.merge_laws.specs.declared.piece.Piece.{Piece}
+use Rattle.search_log.specs.declared.piece.Piece.{Piece}
 use Rattle.cert_merge.specs.Growth.{AreLeft}
 use Rattle.cert_merge.proofs.Lefts.{written-more}
 use Rattle.cert_merge.proofs.Numbers.{room-and}

@@ -2,11 +2,7 @@
 use Rattle.std.proofs.Common.{◌≡◌, ℕ, ◌<◌, List, [], ◌∷◌, length, get_or, All, Some, None, sym, subst, arith}
 use Rattle.std.proofs.lemmas.List.{get_or-map, get_or_default}
 use Rattle.fapp_model.specs.declared.tag.Tag.{Tag}
-use Rattle.fapp_model.specs.Instances.{IsInstance}
-use Rattle.fapp_model.specs.Tags.{triple_from}
 use Rattle.fapp_model.specs.search.Jobs.{job_count}
-use Rattle.cert_lines.specs.declared.answer.Verdict.{Verdict}
-use Rattle.arc_levels.specs.Outside.{IsRootTag}
 use Rattle.search_log.specs.declared.line.LogLine.{LogLine}
 use Rattle.search_log.specs.declared.line.Ref.{Ref}
 use Rattle.search_log.specs.Contents.{Cites, KnownRow}
@@ -16,20 +12,17 @@ use Rattle.search_log.specs.Logs.{empty_log}
 use Rattle.search_log.specs.LogStates.{LogState}
 use Rattle.fapp_plan.specs.Outcomes.{IsOutcomeFor, IsPlacedFor, Placed}
 use Rattle.fapp_plan.specs.Plans.{Split}
-use Rattle.fapp_plan.specs.VerdictRule.{IsVerdictOf}
-use Rattle.merge_laws.specs.Conditions.{AreOutcomes, IsMergeable, IsPut}
-use Rattle.merge_laws.specs.GoodLogs.{all_lines}
-use Rattle.merge_laws.specs.Refuted.{IsRefutedBy}
-use Rattle.fapp_workers.specs.Gathered.{AreSettled, IsLeastWord, IsPlacedBy, log_at}
+use Rattle.fapp_plan.specs.Shown.{AreOutcomes, IsPut, IsRefutedBy}
+use Rattle.search_log.specs.GoodLogs.{all_lines}
+use Rattle.fapp_workers.specs.Gathered.{AreSettled, IsPlacedBy, log_at}
 use Rattle.fapp_workers.specs.Outcomes.{IsJobSettledBy}
-use Rattle.fapp_workers.proofs.LeastWords.{word-shown}
 use Rattle.std.specs.List.{AllZip}
 use Rattle.nogood_pool.specs.declared.view.PoolView.{PoolView}
 use Rattle.nogood_pool.specs.declared.view.HeldRow.{HeldRow}
 use Rattle.nogood_pool.specs.Ends.{ArePooled}
 use Rattle.pool_rows.specs.Copying.{all_known}
 use Rattle.fapp_workers.specs.Ends.{AreClosed, IsSeatEnd, IsWorkerEnd, WorkerEnd, all_published, logs_of}
-use Rattle.fapp_workers.specs.SharingLaws.{AreShown}
+use Rattle.fapp_workers.specs.SharingLaws.{AreShown, IsSharedRun}
 use Rattle.fapp_workers.proofs.PooledSeats.{closes}
 use Rattle.fapp_workers.proofs.Homes.{good-alone}
 use Rattle.fapp_workers.proofs.Shown.{shown}
@@ -78,19 +71,16 @@ module _ (split : Split) (fuel : ℕ) (rows : List KnownRow) (logs : List LogSta
     refuted = refuted-by;
   }
 
-pub shared-mergeable : (split : Split) (fuel : ℕ) (first : PoolView) (views : List PoolView) (ends : List WorkerEnd) (word root : ℕ) (outcomes : List Placed) (verdict : Verdict) → IsInstance split.instance →
+pub shared-settled : (split : Split) (fuel : ℕ) (first : PoolView) (views : List PoolView) (ends : List WorkerEnd) (word : ℕ) (outcomes : List Placed) →
     All (IsWorkerEnd split.instance) ends → AllZip IsSeatEnd views ends → first.published ≡ [] → ArePooled (first ∷ views) → AreShown split fuel ends word outcomes →
-    IsLeastWord split.instance (logs_of ends) word → IsRootTag split.instance (triple_from root) → IsVerdictOf split.instance split.split outcomes word root verdict →
-    IsMergeable split.instance split.split (logs_of ends) outcomes word verdict
-shared-mergeable split fuel first views ends word root outcomes verdict valid each zip none pooled are least root_is rule =
+    IsSharedRun split (all_published ends) (logs_of ends) outcomes
+shared-settled split fuel first views ends word outcomes each zip none pooled are =
     let closed : AreClosed [] ends = subst (λ (held : List HeldRow). AreClosed (all_known held) ends) none (closes first views ends pooled zip) in
     let settled : AreSettled split fuel (all_published ends) (logs_of ends) word outcomes = record {
       planned = are.planned;
       each = λ id inside. shown split fuel [] ends word id (get_or outcomes id None) closed (are.each id inside);
     } in
     record {
-      rows = all_published ends;
       logs_are = good-alone split.instance ends each closed;
       outcomes_are = outcomes-are split fuel (all_published ends) (logs_of ends) word outcomes settled;
-      ruled = record { shown = word-shown split.instance (logs_of ends) word valid least; root = root; root_is = root_is; rule = rule };
     }
