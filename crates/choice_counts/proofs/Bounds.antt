@@ -22,7 +22,7 @@ use Rattle.fapp_model.proofs.Anys.{none-member}
 use Rattle.fapp_model.proofs.Sums.{range-sum-most, sum_by-add, sum_by-le-members, sum_by-same-members, sum_by-swap}
 use Rattle.fapp_tables.specs.Measures.{both_between, coded_part}
 use Rattle.choice_counts.specs.declared.rows.TheConstants.{HARD}
-use Rattle.choice_counts.specs.Counts.{clash_pairs, clash_part, hard_of, outside_part, outsiders, word_of}
+use Rattle.choice_counts.specs.Counts.{clash_pairs, clash_part, hard_of, outside_part, outsiders, tally_of}
 use Rattle.choice_counts.proofs.Clash.{any_zero, flag, flag_most, itself_none}
 use Rattle.choice_counts.proofs.OneMore.{added_more, inside_more, one_pushed}
 use Rattle.choice_counts.proofs.OpenSums.{range_sum_more}
@@ -253,8 +253,8 @@ module _ (instance : Instance) (valid : IsInstance instance) (level : ℕ) (with
   pub hard_few : (arc : Literal → Bool) (literals : List Literal) → IsPartial instance literals → (a : Literal) → hard_of instance level arc literals a ≤ 8193
   hard_few arc literals partial a = omega (arith, clash_most literals a, outside_most (arc a), few_literals instance literals partial, valid.few_paths)
 
-  pub word_small : (arc : Literal → Bool) (literals : List Literal) → IsPartial instance literals → (a : Literal) → word_of instance level arc literals a < 2 ^ 62
-  word_small arc literals partial a = omega (arith, hard_few arc literals partial a, sum_small literals partial.distinct a)
+  pub tally_small : (arc : Literal → Bool) (literals : List Literal) → IsPartial instance literals → (a : Literal) → tally_of instance level arc literals a < 2 ^ 62
+  tally_small arc literals partial a = omega (arith, hard_few arc literals partial a, sum_small literals partial.distinct a)
 
   pub conflicts_few : (arc : Literal → Bool) (literals : List Literal) → IsPartial instance literals → clash_pairs instance level literals + outsiders arc literals * 2 ≤ 8192 * 8194
   conflicts_few arc literals partial =

@@ -12,7 +12,7 @@ use Rattle.fapp_model.proofs.Sums.{range-sum-same, sum_by-same-members}
 use Rattle.fapp_tables.specs.Indexes.{neighbours_of}
 use Rattle.fapp_tables.proofs.PairLaws.{sum_by-filter}
 use Rattle.nogood.specs.Partials.{choice_given}
-use Rattle.choice_counts.specs.Counts.{pair_word, slot_part}
+use Rattle.choice_counts.specs.Counts.{pair_tally, slot_part}
 use Rattle.choice_counts.specs.ForwardStates.{AreSlots}
 use Rattle.choice_counts.proofs.Clash.{none_apart}
 use Rattle.choice_counts.proofs.Slots.{named}
@@ -36,15 +36,15 @@ module _ (instance : Instance) (literals : List Literal) (slots : List (Option �
       each p None e = zero (names literals p)
       each p (Some index) e = ap (λ b. cond b (f (literal p index)) 0) (sym (named instance literals slots held p) ∙ ap is_some e)
 
-  -- what the literals count in a choice's word comes from its neighbours
-  pub by_neighbours : IsPartial instance literals → (level : ℕ) (a : Literal) → sum_by (pair_word instance level a) literals ≡ sum_by (λ p. slot_part (pair_word instance level a) p (choice_given slots p)) (neighbours_of instance a.path)
+  -- what the literals count in a choice's tally comes from its neighbours
+  pub by_neighbours : IsPartial instance literals → (level : ℕ) (a : Literal) → sum_by (pair_tally instance level a) literals ≡ sum_by (λ p. slot_part (pair_tally instance level a) p (choice_given slots p)) (neighbours_of instance a.path)
   by_neighbours partial level a =
-      let at : ℕ → ℕ = λ p. slot_part (pair_word instance level a) p (choice_given slots p) in
-      by_slots partial (pair_word instance level a)
+      let at : ℕ → ℕ = λ p. slot_part (pair_tally instance level a) p (choice_given slots p) in
+      by_slots partial (pair_tally instance level a)
       ∙ sym (sum_by-filter at (shares_record instance a.path) (range_with_len 0 (length instance.paths))
       ∙ range-sum-same (λ p. cond (shares_record instance a.path p) (at p) 0) at (length instance.paths) (λ p below. each p (shares_record instance a.path p) refl (choice_given slots p) refl))
     where
-      each : (p : ℕ) (b : Bool) → shares_record instance a.path p ≡ b → (o : Option ℕ) → choice_given slots p ≡ o → cond b (slot_part (pair_word instance level a) p o) 0 ≡ slot_part (pair_word instance level a) p o
+      each : (p : ℕ) (b : Bool) → shares_record instance a.path p ≡ b → (o : Option ℕ) → choice_given slots p ≡ o → cond b (slot_part (pair_tally instance level a) p o) 0 ≡ slot_part (pair_tally instance level a) p o
       each p true shares o e = refl
       each p false shares None e = refl
       each p false shares (Some index) e = sym (none_apart instance level a (literal p index) shares)

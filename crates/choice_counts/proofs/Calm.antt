@@ -20,9 +20,9 @@ use Rattle.fapp_model.proofs.Sums.{at-range, none-sum_by, range-sum-same, sum_by
 use Rattle.fapp_model.proofs.Members.{All-from_members, All-range}
 use Rattle.fapp_tables.specs.Measures.{coded_part, pair_code}
 use Rattle.choice_counts.specs.declared.rows.TheConstants.{HARD}
-use Rattle.choice_counts.specs.Counts.{clash_pairs, clash_part, outside_part, outsiders, words_of}
+use Rattle.choice_counts.specs.Counts.{clash_pairs, clash_part, outside_part, outsiders, tallies_of}
 use Rattle.choice_counts.specs.CountedSums.{IsBound, IsCalm, IsLeastAt, RemainsAt}
-use Rattle.choice_counts.specs.Words.{least_of, least_part, stuck_part}
+use Rattle.choice_counts.specs.Tallies.{least_of, least_part, stuck_part}
 use Rattle.choice_counts.proofs.Bounds.{further_small}
 use Rattle.choice_counts.proofs.Clash.{flag, flag_zero}
 use Rattle.choice_counts.proofs.Coded.{code, inside_code, same-pair, sum_by-code}
@@ -82,23 +82,23 @@ module _ (instance : Instance) (level : ℕ) (arc : Literal → Bool) (arcs : Is
 
   -- ---- what is counted for the further paths
 
-  abbrev least_word : ℕ → ℕ
-  least_word path = least_of (words_of instance level arc literals path)
+  abbrev least_tally : ℕ → ℕ
+  least_tally path = least_of (tallies_of instance level arc literals path)
 
-  -- how many have no choice left, and the sum of the least words of the others
+  -- how many have no choice left, and the sum of the least tallies of the others
   abbrev pub stuck_paths : ℕ
-  stuck_paths = over_open instance literals (λ path. stuck_part (least_word path))
+  stuck_paths = over_open instance literals (λ path. stuck_part (least_tally path))
 
   abbrev pub least_sum : ℕ
-  least_sum = over_open instance literals (λ path. least_part (least_word path))
+  least_sum = over_open instance literals (λ path. least_part (least_tally path))
 
   module _ (valid : IsInstance instance) (within : level ≤ 11) (partial : IsPartial instance literals) where
-    pub loose-low : stuck_paths ≡ 0 → (path : ℕ) → path < length instance.paths → names literals path ≡ false → least_word path < HARD
+    pub loose-low : stuck_paths ≡ 0 → (path : ℕ) → path < length instance.paths → names literals path ≡ false → least_tally path < HARD
     loose-low none path below free =
-        let each = none-sum_by (λ p. cond (names literals p) 0 (stuck_part (least_word p))) (range_with_len 0 (length instance.paths)) none in
-        let here : cond (names literals path) 0 (stuck_part (least_word path)) ≡ 0 = at-range (λ p. let n : ℕ = cond (names literals p) 0 (stuck_part (least_word p)) in n ≡ 0) (length instance.paths) each path below in
-        let bit : stuck_part (least_word path) ≡ 0 = ap (λ t. cond t 0 (stuck_part (least_word path))) (sym free) ∙ here in
-        ltb-true (least_word path) HARD (away_zero (ltb (least_word path) HARD) bit)
+        let each = none-sum_by (λ p. cond (names literals p) 0 (stuck_part (least_tally p))) (range_with_len 0 (length instance.paths)) none in
+        let here : cond (names literals path) 0 (stuck_part (least_tally path)) ≡ 0 = at-range (λ p. let n : ℕ = cond (names literals p) 0 (stuck_part (least_tally p)) in n ≡ 0) (length instance.paths) each path below in
+        let bit : stuck_part (least_tally path) ≡ 0 = ap (λ t. cond t 0 (stuck_part (least_tally path))) (sym free) ∙ here in
+        ltb-true (least_tally path) HARD (away_zero (ltb (least_tally path) HARD) bit)
 
     pub loose-remaining : stuck_paths ≡ 0 → (path : ℕ) → path < length instance.paths → names literals path ≡ false →
         (index : ℕ) × (index < count_at instance path) × RemainsAt instance level literals (literal path index)
@@ -106,18 +106,18 @@ module _ (instance : Instance) (level : ℕ) (arc : Literal → Bool) (arcs : Is
         let found = least-found instance level arc arcs valid within literals partial path (loose-low none path below free) in
         (found.1.index, found.1.in_range, found.1.remains)
 
-    calm-low : IsCalm instance level literals → (path : ℕ) → path < length instance.paths → names literals path ≡ false → least_word path < HARD
+    calm-low : IsCalm instance level literals → (path : ℕ) → path < length instance.paths → names literals path ≡ false → least_tally path < HARD
     calm-low calm path below free =
         let choice = calm.remaining path below free in
         some-left instance level arc arcs valid within literals partial path choice.0 choice.1 choice.2
 
     pub calm-loose : IsCalm instance level literals → stuck_paths ≡ 0
-    calm-loose calm = sum_by-none (λ p. cond (names literals p) 0 (stuck_part (least_word p))) (range_with_len 0 (length instance.paths))
-        (All-range (λ p. let n : ℕ = cond (names literals p) 0 (stuck_part (least_word p)) in n ≡ 0) (length instance.paths) (λ path below. by_cases path below (names literals path) refl))
+    calm-loose calm = sum_by-none (λ p. cond (names literals p) 0 (stuck_part (least_tally p))) (range_with_len 0 (length instance.paths))
+        (All-range (λ p. let n : ℕ = cond (names literals p) 0 (stuck_part (least_tally p)) in n ≡ 0) (length instance.paths) (λ path below. by_cases path below (names literals path) refl))
       where
-        by_cases : (path : ℕ) → path < length instance.paths → (t : Bool) → names literals path ≡ t → cond t 0 (stuck_part (least_word path)) ≡ 0
+        by_cases : (path : ℕ) → path < length instance.paths → (t : Bool) → names literals path ≡ t → cond t 0 (stuck_part (least_tally path)) ≡ 0
         by_cases path below true e = refl
-        by_cases path below false e = ap stuck_bit (lt-ltb (least_word path) HARD (calm-low calm path below e))
+        by_cases path below false e = ap stuck_bit (lt-ltb (least_tally path) HARD (calm-low calm path below e))
 
     -- calm is no conflict, and no path without a choice
     pub calm_is : IsCalm instance level literals ↔ ((clash_pairs instance level literals + outsiders arc literals * 2 ≡ 0) × (stuck_paths ≡ 0))
@@ -129,29 +129,29 @@ module _ (instance : Instance) (level : ℕ) (arc : Literal → Bool) (arcs : Is
     -- ---- the sum
 
     fewest : ℕ → Pair
-    fewest path = pair_from (least_word path)
+    fewest path = pair_from (least_tally path)
 
-    fewest_is : IsCalm instance level literals → (path : ℕ) → path < length instance.paths → names literals path ≡ false → IsLeastAt instance level literals path (pair_from (least_word path))
+    fewest_is : IsCalm instance level literals → (path : ℕ) → path < length instance.paths → names literals path ≡ false → IsLeastAt instance level literals path (pair_from (least_tally path))
     fewest_is calm path below free =
         let found = least-found instance level arc arcs valid within literals partial path (calm-low calm path below free) in
         let s_small : found.0.s < S_SPAN = subst (λ (p : Pair). p.s < S_SPAN) found.1.reached (further_small instance valid level within literals partial.distinct (literal path found.1.index)) in
         subst (IsLeastAt instance level literals path) (sym (ap pair_from found.2 ∙ pair_from-code found.0 s_small)) found.1
 
-    least_is : IsCalm instance level literals → least_sum ≡ code (over_open instance literals (λ path. (pair_from (least_word path)).v)) (over_open instance literals (λ path. (pair_from (least_word path)).s))
+    least_is : IsCalm instance level literals → least_sum ≡ code (over_open instance literals (λ path. (pair_from (least_tally path)).v)) (over_open instance literals (λ path. (pair_from (least_tally path)).s))
     least_is calm =
-        range-sum-same (λ path. cond (names literals path) 0 (least_part (least_word path))) (λ path. code (cond (names literals path) 0 (pair_from (least_word path)).v) (cond (names literals path) 0 (pair_from (least_word path)).s)) (length instance.paths) (λ path below. by_cases path below (names literals path) refl)
-        ∙ sum_by-code (λ path. cond (names literals path) 0 (pair_from (least_word path)).v) (λ path. cond (names literals path) 0 (pair_from (least_word path)).s) (range_with_len 0 (length instance.paths))
+        range-sum-same (λ path. cond (names literals path) 0 (least_part (least_tally path))) (λ path. code (cond (names literals path) 0 (pair_from (least_tally path)).v) (cond (names literals path) 0 (pair_from (least_tally path)).s)) (length instance.paths) (λ path below. by_cases path below (names literals path) refl)
+        ∙ sum_by-code (λ path. cond (names literals path) 0 (pair_from (least_tally path)).v) (λ path. cond (names literals path) 0 (pair_from (least_tally path)).s) (range_with_len 0 (length instance.paths))
       where
         whole : (n : ℕ) → n ≡ code (n / S_SPAN) (n % S_SPAN)
         whole n = omega (arith, div-add-mod n S_SPAN)
 
-        by_cases : (path : ℕ) → path < length instance.paths → (t : Bool) → names literals path ≡ t → cond t 0 (least_part (least_word path)) ≡ code (cond t 0 (pair_from (least_word path)).v) (cond t 0 (pair_from (least_word path)).s)
+        by_cases : (path : ℕ) → path < length instance.paths → (t : Bool) → names literals path ≡ t → cond t 0 (least_part (least_tally path)) ≡ code (cond t 0 (pair_from (least_tally path)).v) (cond t 0 (pair_from (least_tally path)).s)
         by_cases path below true e = omega arith
-        by_cases path below false e = ap (λ t. cond t (least_word path) 0) (lt-ltb (least_word path) HARD (calm-low calm path below e)) ∙ whole (least_word path)
+        by_cases path below false e = ap (λ t. cond t (least_tally path) 0) (lt-ltb (least_tally path) HARD (calm-low calm path below e)) ∙ whole (least_tally path)
 
     pub bound_is : IsCalm instance level literals → IsBound instance level literals (inside instance (coded_part level) literals + least_sum)
     bound_is calm = record {
-      fewest = λ path. pair_from (least_word path);
+      fewest = λ path. pair_from (least_tally path);
       each = fewest_is calm;
       is = omega (arith, inside_code instance level literals, least_is calm);
     }

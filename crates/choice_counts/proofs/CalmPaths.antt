@@ -17,16 +17,16 @@ use Rattle.fapp_model.proofs.Members.{All-from_members}
 use Rattle.fapp_tables.specs.Measures.{both_between, coded_part}
 use Rattle.dead_laws.specs.ArcLaws.{IsArcs}
 use Rattle.nogood.specs.Partials.{choice_given}
-use Rattle.choice_counts.specs.declared.rows.Row.{Row}
+use Rattle.choice_counts.specs.declared.rows.PathTallies.{PathTallies}
 use Rattle.choice_counts.specs.declared.totals.Totals.{Totals}
-use Rattle.choice_counts.specs.Counts.{rows_of, word_of, words_of}
+use Rattle.choice_counts.specs.Counts.{rows_of, tally_of, tallies_of}
 use Rattle.choice_counts.specs.CountedSums.{IsBound, IsCalm, RemainsAt}
 use Rattle.choice_counts.specs.Kept.{AreKept}
 use Rattle.choice_counts.specs.Totals.{open_sum}
-use Rattle.choice_counts.specs.Words.{least_of, least_part, row_at, stuck_part}
+use Rattle.choice_counts.specs.Tallies.{least_of, least_part, tallies_at, stuck_part}
 use Rattle.choice_counts.proofs.Calm.{bound_is, calm_is, least_sum, stuck_paths}
 use Rattle.choice_counts.proofs.Coded.{added_code}
-use Rattle.choice_counts.proofs.Remaining.{kept-inside, word-sum}
+use Rattle.choice_counts.proofs.Remaining.{kept-inside, tally-sum}
 use Rattle.choice_counts.proofs.RowMoves.{row_is}
 use Rattle.choice_counts.proofs.Slots.{named}
 
@@ -64,25 +64,25 @@ twice_inside instance measure literals =
     omega (arith, each, parts, swap)
 
 module _ (instance : Instance) (level : ℕ) (arc : Literal → Bool) (arcs : IsArcs instance level arc) (valid : IsInstance instance) (within : level ≤ 11) (literals : List Literal) (partial : IsPartial instance literals) where
-  -- where the literals are calm, their words come to twice their sum
-  pub words_inside : IsCalm instance level literals → sum_by (word_of instance level arc literals) literals ≡ inside instance (coded_part level) literals * 2
-  words_inside calm =
+  -- where the literals are calm, their tallies come to twice their sum
+  pub tallies_inside : IsCalm instance level literals → sum_by (tally_of instance level arc literals) literals ≡ inside instance (coded_part level) literals * 2
+  tallies_inside calm =
       let stands = calm_stands instance level literals calm in
-      sum_by-same-members (word_of instance level arc literals) (added instance (coded_part level) literals) literals
-      (All-from_members (λ a. word_of instance level arc literals a ≡ added instance (coded_part level) literals a) literals
-      (λ a member. word-sum instance level arc arcs valid within literals partial a (stands.literals_stand a member) ∙ sym (added_code instance level literals a)))
+      sum_by-same-members (tally_of instance level arc literals) (added instance (coded_part level) literals) literals
+      (All-from_members (λ a. tally_of instance level arc literals a ≡ added instance (coded_part level) literals a) literals
+      (λ a member. tally-sum instance level arc arcs valid within literals partial a (stands.literals_stand a member) ∙ sym (added_code instance level literals a)))
       ∙ twice_inside instance (coded_part level) literals
 
 -- ---- by what is kept
 
-module _ (instance : Instance) (valid : IsInstance instance) (level : ℕ) (within : level ≤ 11) (literals : List Literal) (partial : IsPartial instance literals) (slots : List (Option ℕ)) (rows : List Row) (totals : Totals)
+module _ (instance : Instance) (valid : IsInstance instance) (level : ℕ) (within : level ≤ 11) (literals : List Literal) (partial : IsPartial instance literals) (slots : List (Option ℕ)) (rows : List PathTallies) (totals : Totals)
     (kept : AreKept instance level literals slots rows totals) where
-  open_is : (f : ℕ → ℕ) → open_sum f slots rows ≡ over_open instance literals (λ p. f (least_of (words_of instance level kept.arc literals p)))
+  open_is : (f : ℕ → ℕ) → open_sum f slots rows ≡ over_open instance literals (λ p. f (least_of (tallies_of instance level kept.arc literals p)))
   open_is f =
-      ap (λ n. sum_by (λ p. cond (is_some (choice_given slots p)) 0 (f (row_at rows p).least)) (range_with_len 0 n)) kept.counted.held.whole
-      ∙ range-sum-same (λ p. cond (is_some (choice_given slots p)) 0 (f (row_at rows p).least)) (λ p. cond (names literals p) 0 (f (least_of (words_of instance level kept.arc literals p)))) (length instance.paths)
-      (λ p below. ap (λ b. cond b 0 (f (row_at rows p).least)) (named instance literals slots kept.counted.held p)
-      ∙ ap (λ n. cond (names literals p) 0 (f n)) (ap (λ (rs : List Row). (row_at rs p).least) kept.counted.rows_are ∙ ap (λ (r : Row). r.least) (row_is instance level kept.arc literals p below)))
+      ap (λ n. sum_by (λ p. cond (is_some (choice_given slots p)) 0 (f (tallies_at rows p).least)) (range_with_len 0 n)) kept.counted.held.whole
+      ∙ range-sum-same (λ p. cond (is_some (choice_given slots p)) 0 (f (tallies_at rows p).least)) (λ p. cond (names literals p) 0 (f (least_of (tallies_of instance level kept.arc literals p)))) (length instance.paths)
+      (λ p below. ap (λ b. cond b 0 (f (tallies_at rows p).least)) (named instance literals slots kept.counted.held p)
+      ∙ ap (λ n. cond (names literals p) 0 (f n)) (ap (λ (rs : List PathTallies). (tallies_at rs p).least) kept.counted.rows_are ∙ ap (λ (r : PathTallies). r.least) (row_is instance level kept.arc literals p below)))
 
   -- calm is where nothing is counted against the literals
   pub kept_calm : totals.conflicts ≡ 0 → totals.open_paths.stuck ≡ 0 → IsCalm instance level literals

@@ -7,16 +7,16 @@ use Rattle.fapp_tables.specs.Indexes.{record_at, records_of}
 use Rattle.choice_counts.specs.declared.breaks.TheConstants.{NO_REACH}
 use Rattle.choice_counts.specs.declared.cells.Cell.{Cell}
 use Rattle.choice_counts.specs.Breaks.{IsSteady}
-use Rattle.choice_counts.specs.Cells.{AreCells, Extends, AreWhole, IsCell, IsFar, cell_at, end_of, no_cell, reaching, start_of, word_in}
-use Rattle.choice_counts.specs.Distances.{word_apart}
-use Rattle.choice_counts.proofs.WordLaws.{words_steady}
+use Rattle.choice_counts.specs.Cells.{AreCells, Extends, AreWhole, IsCell, IsFar, cell_at, end_of, no_cell, reaching, start_of, tally_in}
+use Rattle.choice_counts.specs.Distances.{tally_apart}
+use Rattle.choice_counts.proofs.TallyLaws.{tallies_steady}
 
--- a cell with the words of one distance has those of each further one that it reaches over
-pub cell_words : (instance : Instance) (level path other : ℕ) → path ≢ other → (start : ℕ) (cell : Cell) →
-    cell.same ≡ word_apart instance level path other true start → cell.other ≡ word_apart instance level path other false start →
+-- a cell with the tallies of one distance has those of each further one that it reaches over
+pub cell_tallies : (instance : Instance) (level path other : ℕ) → path ≢ other → (start : ℕ) (cell : Cell) →
+    cell.same ≡ tally_apart instance level path other true start → cell.other ≡ tally_apart instance level path other false start →
     All (λ k. IsSteady (record_at instance k) start cell.reach) (records_of instance path other) → IsCell instance level path other start cell
-cell_words instance level path other apart start cell es eo all true d from below = es ∙ sym (words_steady instance level path other apart start cell.reach all true d from below)
-cell_words instance level path other apart start cell es eo all false d from below = eo ∙ sym (words_steady instance level path other apart start cell.reach all false d from below)
+cell_tallies instance level path other apart start cell es eo all true d from below = es ∙ sym (tallies_steady instance level path other apart start cell.reach all true d from below)
+cell_tallies instance level path other apart start cell es eo all false d from below = eo ∙ sym (tallies_steady instance level path other apart start cell.reach all false d from below)
 
 -- where a cell starts is told by those before it
 pub start_same : (cells more : List Cell) (place : ℕ) → ((k : ℕ) → k < place → cell_at cells k ≡ cell_at more k) → start_of cells place ≡ start_of more place
@@ -63,7 +63,7 @@ module _ (old : List Cell) (cell : Cell) where
     -- the last cell, reaching further
     longer : 0 < length old → reaching (cell_at old (length old - 1)) cell.reach ≡ cell → IsCell instance level path other (start_of old (length old - 1)) cell
     longer some like same d from below = elim (cases_lt d (cell_at old (length old - 1)).reach) [
-      | inl before ↦ sym (ap (λ (c : Cell). word_in c same) like) ∙ are (length old - 1) (omega arith) same d from before
+      | inl before ↦ sym (ap (λ (c : Cell). tally_in c same) like) ∙ are (length old - 1) (omega arith) same d from before
       | inr past ↦ is same d (omega (arith, end_last old some)) below
     ]
 
@@ -88,13 +88,13 @@ module _ (old : List Cell) (cell : Cell) where
 
 -- from the far distance on nothing is counted
 pub far_none : (instance : Instance) (level path other : ℕ) (cells : List Cell) (distance : ℕ) → AreCells instance level path other cells → AreWhole cells → IsFar cells distance →
-    (same : Bool) (d : ℕ) → distance ≤ d → d < NO_REACH → word_apart instance level path other same d ≡ 0
+    (same : Bool) (d : ℕ) → distance ≤ d → d < NO_REACH → tally_apart instance level path other same d ≡ 0
 far_none instance level path other cells distance are whole (inl none) same d from below = absurd (omega (arith, none, from, below))
 far_none instance level path other cells distance are whole (inr last) same d from below =
     let place = length cells - 1 in
     let reach = end_last cells whole.some in
     sym (are place (omega (arith, whole.some)) same d (omega (arith, last.0, from)) (omega (arith, reach, whole.last, below))) ∙ zero_in same
   where
-    zero_in : (t : Bool) → word_in (cell_at cells (length cells - 1)) t ≡ 0
+    zero_in : (t : Bool) → tally_in (cell_at cells (length cells - 1)) t ≡ 0
     zero_in true = last.1.0
     zero_in false = last.1.1

@@ -18,7 +18,7 @@ use Rattle.fapp_model.proofs.Sums.{none-sum_by, sum_by-none}
 use Rattle.fapp_tables.specs.Measures.{both_between, coded_part, hard_part}
 use Rattle.fapp_tables.proofs.PairLaws.{both_is, none_between}
 use Rattle.dead_laws.proofs.RecordEnds.{joins-ends}
-use Rattle.choice_counts.specs.Counts.{clash_part, pair_word}
+use Rattle.choice_counts.specs.Counts.{clash_part, pair_tally}
 
 pub zero_any : {X : Type 0} (f : X → ℕ) (p : X → Bool) → ((x : X) → f x ≡ 0 → p x ≡ false) → (xs : List X) → sum_by f xs ≡ 0 → list_any p xs ≡ false
 zero_any {X = X} f p each xs none = no-member p xs (λ x c. at x c)
@@ -95,11 +95,11 @@ module _ (instance : Instance) (level : ℕ) where
   pub clash_turned : (a b : Literal) → clash_part instance level a b ≡ clash_part instance level b a
   clash_turned a b = ap flag (or_turn (blocks instance level a b) (blocks instance level b a))
 
-  pub pair_turned : (a b : Literal) → pair_word instance level a b ≡ pair_word instance level b a
+  pub pair_turned : (a b : Literal) → pair_tally instance level a b ≡ pair_tally instance level b a
   pair_turned a b = omega (arith, clash_turned a b)
 
   -- nothing between paths that share no record
-  pub none_apart : (a b : Literal) → shares_record instance a.path b.path ≡ false → pair_word instance level a b ≡ 0
+  pub none_apart : (a b : Literal) → shares_record instance a.path b.path ≡ false → pair_tally instance level a b ≡ 0
   none_apart a b apart =
       let hard = both_is instance (hard_part level) a b ∙ none_between instance (hard_part level) a.path b.path (choice_of instance a) (choice_of instance b) apart in
       let coded = both_is instance (coded_part level) a b ∙ none_between instance (coded_part level) a.path b.path (choice_of instance a) (choice_of instance b) apart in

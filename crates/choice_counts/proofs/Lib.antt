@@ -1,5 +1,5 @@
 pub mod BreakLaws
-pub mod WordLaws
+pub mod TallyLaws
 pub mod CellLaws
 pub mod NeighbourLaws
 pub mod TableLaws

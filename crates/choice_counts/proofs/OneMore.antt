@@ -10,7 +10,7 @@ use Rattle.fapp_model.specs.search.Weights.{added, between, inside}
 use Rattle.fapp_model.proofs.Sums.{sum_by-add, sum_by-same-members}
 use Rattle.fapp_tables.specs.Measures.{both_between, coded_part}
 use Rattle.choice_counts.specs.declared.rows.TheConstants.{HARD}
-use Rattle.choice_counts.specs.Counts.{clash_pairs, clash_part, hard_of, outside_part, outsiders, pair_word, word_of}
+use Rattle.choice_counts.specs.Counts.{clash_pairs, clash_part, hard_of, outside_part, outsiders, pair_tally, tally_of}
 use Rattle.choice_counts.proofs.Clash.{clash_self, clash_turned, flag, itself_none}
 
 -- a list of literals has one more than another, wherever it stands: each sum over it has one more number
@@ -27,8 +27,8 @@ module _ (instance : Instance) (less more : List Literal) (now : Literal) (one :
   pub hard_more : (level : ℕ) (arc : Literal → Bool) (a : Literal) → hard_of instance level arc more a ≡ hard_of instance level arc less a + clash_part instance level a now
   hard_more level arc a = omega (arith, one (clash_part instance level a))
 
-  pub word_more : (level : ℕ) (arc : Literal → Bool) (a : Literal) → word_of instance level arc more a ≡ word_of instance level arc less a + pair_word instance level a now
-  word_more level arc a = omega (arith, hard_more level arc a, added_more (coded_part level) a)
+  pub tally_more : (level : ℕ) (arc : Literal → Bool) (a : Literal) → tally_of instance level arc more a ≡ tally_of instance level arc less a + pair_tally instance level a now
+  tally_more level arc a = omega (arith, hard_more level arc a, added_more (coded_part level) a)
 
   pub outside_more : (arc : Literal → Bool) → outsiders arc more ≡ outsiders arc less + outside_part arc now
   outside_more arc = one (outside_part arc)
@@ -56,10 +56,10 @@ module _ (instance : Instance) (less more : List Literal) (now : Literal) (one :
         let turned = sum_by-same-members (λ a. clash_part instance level a now) (clash_part instance level now) less (λ k d _. clash_turned instance level (get_or less k d) now) in
         omega (arith, whole, sides, turned)
 
--- a choice's word is that of the arcs alone and what each literal counts in it
-pub word_sum : (instance : Instance) (level : ℕ) (arc : Literal → Bool) (literals : List Literal) (a : Literal) →
-    word_of instance level arc literals a ≡ word_of instance level arc [] a + sum_by (pair_word instance level a) literals
-word_sum instance level arc literals a =
+-- a choice's tally is that of the arcs alone and what each literal counts in it
+pub tally_sum : (instance : Instance) (level : ℕ) (arc : Literal → Bool) (literals : List Literal) (a : Literal) →
+    tally_of instance level arc literals a ≡ tally_of instance level arc [] a + sum_by (pair_tally instance level a) literals
+tally_sum instance level arc literals a =
     let parts = sum_by-add (λ b. clash_part instance level a b * HARD) (both_between instance (coded_part level) a) literals in
     omega (arith, parts, scaled (clash_part instance level a) literals)
   where

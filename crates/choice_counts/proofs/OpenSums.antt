@@ -8,10 +8,10 @@ use Rattle.std.proofs.lemmas.List.Sums.{sum_by_push}
 use Rattle.fapp_model.proofs.Sums.{range-sum-most, range-sum-same}
 use Rattle.fapp_tables.proofs.HeightLaws.{range_more}
 use Rattle.nogood.specs.Partials.{choice_given}
-use Rattle.choice_counts.specs.declared.rows.Row.{Row}
+use Rattle.choice_counts.specs.declared.rows.PathTallies.{PathTallies}
 use Rattle.choice_counts.specs.declared.rows.TheConstants.{HARD}
 use Rattle.choice_counts.specs.Totals.{open_sum}
-use Rattle.choice_counts.specs.Words.{least_part, no_row, row_at, stuck_part}
+use Rattle.choice_counts.specs.Tallies.{least_part, no_tallies, tallies_at, stuck_part}
 
 pub range_sum_more : (g : ℕ → ℕ) (n : ℕ) → sum_by g (range_with_len 0 (suc n)) ≡ sum_by g (range_with_len 0 n) + g n
 range_sum_more g n =
@@ -35,55 +35,55 @@ change_at g h (suc n) p inside same =
           omega (arith, range_sum_more g n, range_sum_more h n)
     ]
 
-module _ (f : ℕ → ℕ) (slots : List (Option ℕ)) (rows : List Row) where
-  abbrev part : List (Option ℕ) → List Row → ℕ → ℕ
-  part ss rs path = cond (is_some (choice_given ss path)) 0 (f (row_at rs path).least)
+module _ (f : ℕ → ℕ) (slots : List (Option ℕ)) (rows : List PathTallies) where
+  abbrev part : List (Option ℕ) → List PathTallies → ℕ → ℕ
+  part ss rs path = cond (is_some (choice_given ss path)) 0 (f (tallies_at rs path).least)
 
   -- the row of an open path changes
-  pub open_changed : (path : ℕ) (row : Row) → path < length slots → path < length rows → is_some (choice_given slots path) ≡ false → open_sum f slots (set rows path row) + f (row_at rows path).least ≡ open_sum f slots rows + f row.least
+  pub open_changed : (path : ℕ) (row : PathTallies) → path < length slots → path < length rows → is_some (choice_given slots path) ≡ false → open_sum f slots (set rows path row) + f (tallies_at rows path).least ≡ open_sum f slots rows + f row.least
   open_changed path row inside within free =
-      let changed = change_at (part slots (set rows path row)) (part slots rows) (length slots) path inside (λ k below other. ap (λ (r : Row). cond (is_some (choice_given slots k)) 0 (f r.least)) (get_or-set_other rows path k row no_row other)) in
-      let old : part slots rows path ≡ f (row_at rows path).least = ap (λ b. cond b 0 (f (row_at rows path).least)) free in
-      let new : part slots (set rows path row) path ≡ f row.least = ap (λ b. cond b 0 (f (row_at (set rows path row) path).least)) free ∙ ap (λ (r : Row). f r.least) (get_or-set_same rows path row no_row within) in
+      let changed = change_at (part slots (set rows path row)) (part slots rows) (length slots) path inside (λ k below other. ap (λ (r : PathTallies). cond (is_some (choice_given slots k)) 0 (f r.least)) (get_or-set_other rows path k row no_tallies other)) in
+      let old : part slots rows path ≡ f (tallies_at rows path).least = ap (λ b. cond b 0 (f (tallies_at rows path).least)) free in
+      let new : part slots (set rows path row) path ≡ f row.least = ap (λ b. cond b 0 (f (tallies_at (set rows path row) path).least)) free ∙ ap (λ (r : PathTallies). f r.least) (get_or-set_same rows path row no_tallies within) in
       omega (arith, changed, old, new)
 
   -- the row of a path with a literal changes
-  pub open_kept : (path : ℕ) (row : Row) → is_some (choice_given slots path) ≡ true → open_sum f slots (set rows path row) ≡ open_sum f slots rows
+  pub open_kept : (path : ℕ) (row : PathTallies) → is_some (choice_given slots path) ≡ true → open_sum f slots (set rows path row) ≡ open_sum f slots rows
   open_kept path row taken =
       range-sum-same (part slots (set rows path row)) (part slots rows) (length slots) (λ k below. elim (cases_eq k path) [
         | inl same ↦
             let e : is_some (choice_given slots k) ≡ true = ap (λ j. is_some (choice_given slots j)) same ∙ taken in
-            ap (λ b. cond b 0 (f (row_at (set rows path row) k).least)) e ∙ sym (ap (λ b. cond b 0 (f (row_at rows k).least)) e)
-        | inr other ↦ ap (λ (r : Row). cond (is_some (choice_given slots k)) 0 (f r.least)) (get_or-set_other rows path k row no_row other)
+            ap (λ b. cond b 0 (f (tallies_at (set rows path row) k).least)) e ∙ sym (ap (λ b. cond b 0 (f (tallies_at rows k).least)) e)
+        | inr other ↦ ap (λ (r : PathTallies). cond (is_some (choice_given slots k)) 0 (f r.least)) (get_or-set_other rows path k row no_tallies other)
       ])
 
   -- a slot that is taken
-  pub open_taken : (path index : ℕ) → path < length slots → is_some (choice_given slots path) ≡ false → open_sum f (set slots path (Some index)) rows + f (row_at rows path).least ≡ open_sum f slots rows
+  pub open_taken : (path index : ℕ) → path < length slots → is_some (choice_given slots path) ≡ false → open_sum f (set slots path (Some index)) rows + f (tallies_at rows path).least ≡ open_sum f slots rows
   open_taken path index inside free =
       let now : is_some (choice_given (set slots path (Some index)) path) ≡ true = ap is_some (get_or-set_same slots path (Some index) None inside) in
-      let changed = change_at (part (set slots path (Some index)) rows) (part slots rows) (length slots) path inside (λ k below other. ap (λ s. cond (is_some s) 0 (f (row_at rows k).least)) (get_or-set_other slots path k (Some index) None other)) in
-      let old : part slots rows path ≡ f (row_at rows path).least = ap (λ b. cond b 0 (f (row_at rows path).least)) free in
-      let new : part (set slots path (Some index)) rows path ≡ 0 = ap (λ b. cond b 0 (f (row_at rows path).least)) now in
+      let changed = change_at (part (set slots path (Some index)) rows) (part slots rows) (length slots) path inside (λ k below other. ap (λ s. cond (is_some s) 0 (f (tallies_at rows k).least)) (get_or-set_other slots path k (Some index) None other)) in
+      let old : part slots rows path ≡ f (tallies_at rows path).least = ap (λ b. cond b 0 (f (tallies_at rows path).least)) free in
+      let new : part (set slots path (Some index)) rows path ≡ 0 = ap (λ b. cond b 0 (f (tallies_at rows path).least)) now in
       let count = length-set slots path (Some index) in
       let same : open_sum f (set slots path (Some index)) rows ≡ sum_by (part (set slots path (Some index)) rows) (range_with_len 0 (length slots)) = ap (λ n. sum_by (part (set slots path (Some index)) rows) (range_with_len 0 n)) count in
       omega (arith, changed, old, new, same)
 
   -- a slot that is emptied
-  pub open_freed : (path : ℕ) → path < length slots → is_some (choice_given slots path) ≡ true → open_sum f (set slots path None) rows ≡ open_sum f slots rows + f (row_at rows path).least
+  pub open_freed : (path : ℕ) → path < length slots → is_some (choice_given slots path) ≡ true → open_sum f (set slots path None) rows ≡ open_sum f slots rows + f (tallies_at rows path).least
   open_freed path inside taken =
       let now : is_some (choice_given (set slots path None) path) ≡ false = ap is_some (get_or-set_same slots path None None inside) in
-      let changed = change_at (part (set slots path None) rows) (part slots rows) (length slots) path inside (λ k below other. ap (λ s. cond (is_some s) 0 (f (row_at rows k).least)) (get_or-set_other slots path k None None other)) in
-      let old : part slots rows path ≡ 0 = ap (λ b. cond b 0 (f (row_at rows path).least)) taken in
-      let new : part (set slots path None) rows path ≡ f (row_at rows path).least = ap (λ b. cond b 0 (f (row_at rows path).least)) now in
+      let changed = change_at (part (set slots path None) rows) (part slots rows) (length slots) path inside (λ k below other. ap (λ s. cond (is_some s) 0 (f (tallies_at rows k).least)) (get_or-set_other slots path k None None other)) in
+      let old : part slots rows path ≡ 0 = ap (λ b. cond b 0 (f (tallies_at rows path).least)) taken in
+      let new : part (set slots path None) rows path ≡ f (tallies_at rows path).least = ap (λ b. cond b 0 (f (tallies_at rows path).least)) now in
       let count = length-set slots path None in
       let same : open_sum f (set slots path None) rows ≡ sum_by (part (set slots path None) rows) (range_with_len 0 (length slots)) = ap (λ n. sum_by (part (set slots path None) rows) (range_with_len 0 n)) count in
       omega (arith, changed, old, new, same)
 
-  pub open_part : (path : ℕ) → path < length slots → is_some (choice_given slots path) ≡ false → f (row_at rows path).least ≤ open_sum f slots rows
+  pub open_part : (path : ℕ) → path < length slots → is_some (choice_given slots path) ≡ false → f (tallies_at rows path).least ≤ open_sum f slots rows
   open_part path inside free = omega (arith, open_taken path 0 inside free)
 
   pub open_most : (most : ℕ) → ((n : ℕ) → f n ≤ most) → open_sum f slots rows ≤ length slots * most
-  open_most most few = range-sum-most (part slots rows) (length slots) most (λ k below. bounded (is_some (choice_given slots k)) (f (row_at rows k).least) (few (row_at rows k).least))
+  open_most most few = range-sum-most (part slots rows) (length slots) most (λ k below. bounded (is_some (choice_given slots k)) (f (tallies_at rows k).least) (few (tallies_at rows k).least))
     where
       bounded : (b : Bool) (n : ℕ) → n ≤ most → cond b 0 n ≤ most
       bounded true n h = omega arith

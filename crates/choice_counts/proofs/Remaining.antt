@@ -1,4 +1,4 @@
--- What a word says of its choice, and the least word of its path.
+-- What a tally says of its choice, and the least tally of its path.
 use Rattle.std.proofs.Common.{◌≡◌, ◌⊎◌, ◌↔◌, ℕ, ◌+◌, ◌*◌, ◌/◌, ◌%◌, ◌<◌, ◌≤◌, Bool, true, false, cond, List, length, get_or, refl, sym, ap, ◌∙◌, subst, inl, inr, arith, sum_by, Option, Some, None, IsTrue}
 use Rattle.std.proofs.Math.Nat.{mul-add-mod_self_right, mod-eq_of_lt}
 use Rattle.std.proofs.lemmas.Bool.{both_ways, cases_Bool, cases_lt, false_from_ne_true, true_from_ne_false}
@@ -15,15 +15,15 @@ use Rattle.fapp_model.specs.search.Pairs.{Pair, IsPairAtMost}
 use Rattle.fapp_model.specs.search.Partials.{IsPartial, literal}
 use Rattle.fapp_model.specs.search.Weights.{added, added_pair}
 use Rattle.fapp_tables.specs.Measures.{coded_part, pair_code}
-use Rattle.choice_counts.specs.declared.rows.TheConstants.{HARD, NO_WORD}
-use Rattle.choice_counts.specs.Counts.{clash_part, hard_of, outside_part, word_of, words_of}
+use Rattle.choice_counts.specs.declared.rows.TheConstants.{HARD, NO_TALLY}
+use Rattle.choice_counts.specs.Counts.{clash_part, hard_of, outside_part, tally_of, tallies_of}
 use Rattle.choice_counts.specs.CountedSums.{IsLeastAt, IsLeastSum, RemainsAt}
-use Rattle.choice_counts.specs.Words.{least_of, word_at}
+use Rattle.choice_counts.specs.Tallies.{least_of, tally_at}
 use Rattle.choice_counts.proofs.Bounds.{further_small, sum_small}
 use Rattle.choice_counts.proofs.Clash.{any_zero, flag, flag_zero, zero_any}
 use Rattle.choice_counts.proofs.Coded.{added_code, at_most-code, code-at_most}
 use Rattle.choice_counts.proofs.Least.{Reached, least_below, least_reached}
-use Rattle.choice_counts.proofs.RowMoves.{word_in, words_count}
+use Rattle.choice_counts.proofs.RowMoves.{tally_in, tally_count}
 
 abbrev pub away : Bool → ℕ
 away b = cond b 0 1
@@ -64,39 +64,39 @@ module _ (instance : Instance) (level : ℕ) (arc : Literal → Bool) (arcs : Is
     small : (a : Literal) → added instance (coded_part level) literals a < HARD
     small a = omega (arith, sum_small instance valid level within literals partial.distinct a)
 
-    -- a choice remains where its word is below HARD, and then the word is its sum
-    pub word-remains : (a : Literal) → word_of instance level arc literals a < HARD → RemainsAt instance level literals a
-    word-remains a below = hard-remains literals a (omega (arith, below))
+    -- a choice remains where its tally is below HARD, and then the tally is its sum
+    pub tally-remains : (a : Literal) → tally_of instance level arc literals a < HARD → RemainsAt instance level literals a
+    tally-remains a below = hard-remains literals a (omega (arith, below))
 
-    pub remains-word : (a : Literal) → RemainsAt instance level literals a → word_of instance level arc literals a < HARD
-    remains-word a r = omega (arith, remains-hard literals a r, small a)
+    pub remains-tally : (a : Literal) → RemainsAt instance level literals a → tally_of instance level arc literals a < HARD
+    remains-tally a r = omega (arith, remains-hard literals a r, small a)
 
-    pub word-sum : (a : Literal) → RemainsAt instance level literals a → word_of instance level arc literals a ≡ pair_code (added_pair instance level literals a)
-    word-sum a r = omega (arith, remains-hard literals a r, added_code instance level literals a)
+    pub tally-sum : (a : Literal) → RemainsAt instance level literals a → tally_of instance level arc literals a ≡ pair_code (added_pair instance level literals a)
+    tally-sum a r = omega (arith, remains-hard literals a r, added_code instance level literals a)
 
-    -- the two parts of a word
-    pub word-high : (a : Literal) → word_of instance level arc literals a / HARD ≡ hard_of instance level arc literals a
-    word-high a = div-mul-add (hard_of instance level arc literals a) HARD (added instance (coded_part level) literals a) (small a)
+    -- the two parts of a tally
+    pub tally-high : (a : Literal) → tally_of instance level arc literals a / HARD ≡ hard_of instance level arc literals a
+    tally-high a = div-mul-add (hard_of instance level arc literals a) HARD (added instance (coded_part level) literals a) (small a)
 
-    pub word-low : (a : Literal) → word_of instance level arc literals a % HARD ≡ added instance (coded_part level) literals a
-    word-low a = mul-add-mod_self_right (hard_of instance level arc literals a) HARD (added instance (coded_part level) literals a) ∙ mod-eq_of_lt (small a)
+    pub tally-low : (a : Literal) → tally_of instance level arc literals a % HARD ≡ added instance (coded_part level) literals a
+    tally-low a = mul-add-mod_self_right (hard_of instance level arc literals a) HARD (added instance (coded_part level) literals a) ∙ mod-eq_of_lt (small a)
 
-    abbrev words : ℕ → List ℕ
-    words path = words_of instance level arc literals path
+    abbrev tallies : ℕ → List ℕ
+    tallies path = tallies_of instance level arc literals path
 
     s_small : (a : Literal) → (added_pair instance level literals a).s < S_SPAN
     s_small a = further_small instance valid level within literals partial.distinct a
 
-    -- the least word of a path with a choice left is its least pair
-    pub least-found : (path : ℕ) → least_of (words path) < HARD → (pair : Pair) × IsLeastAt instance level literals path pair × (least_of (words path) ≡ pair_code pair)
-    least-found path below = elim (least_reached (words path)) [
+    -- the least tally of a path with a choice left is its least pair
+    pub least-found : (path : ℕ) → least_of (tallies path) < HARD → (pair : Pair) × IsLeastAt instance level literals path pair × (least_of (tallies path) ≡ pair_code pair)
+    least-found path below = elim (least_reached (tallies path)) [
       | inl none ↦ absurd (omega (arith, none, below))
       | inr reached ↦
           let k = reached.index in
-          let inside : k < count_at instance path = omega (arith, reached.inside, words_count instance level arc literals path) in
-          let word = word_in instance level arc literals path k inside in
-          let remains = word-remains (literal path k) (omega (arith, word, reached.is, below)) in
-          let sum = word-sum (literal path k) remains in (
+          let inside : k < count_at instance path = omega (arith, reached.inside, tally_count instance level arc literals path) in
+          let tally = tally_in instance level arc literals path k inside in
+          let remains = tally-remains (literal path k) (omega (arith, tally, reached.is, below)) in
+          let sum = tally-sum (literal path k) remains in (
             added_pair instance level literals (literal path k),
             record {
               index = k;
@@ -104,38 +104,38 @@ module _ (instance : Instance) (level : ℕ) (arc : Literal → Bool) (arcs : Is
               remains = remains;
               reached = refl;
               least = λ other small_other r.
-                  let lower = least_below (words path) other (omega (arith, small_other, words_count instance level arc literals path)) in
-                  let there = word_in instance level arc literals path other small_other in
+                  let lower = least_below (tallies path) other (omega (arith, small_other, tally_count instance level arc literals path)) in
+                  let there = tally_in instance level arc literals path other small_other in
                   code-at_most (added_pair instance level literals (literal path k)) (added_pair instance level literals (literal path other)) (s_small (literal path k)) (s_small (literal path other))
-                  (omega (arith, lower, there, word-sum (literal path other) r, reached.is, word, sum));
+                  (omega (arith, lower, there, tally-sum (literal path other) r, reached.is, tally, sum));
             },
-            omega (arith, reached.is, word, sum),
+            omega (arith, reached.is, tally, sum),
           )
     ]
 
     -- and the other way round
-    pub found-least : (path : ℕ) (pair : Pair) → IsLeastAt instance level literals path pair → (least_of (words path) ≡ pair_code pair) × (least_of (words path) < HARD)
+    pub found-least : (path : ℕ) (pair : Pair) → IsLeastAt instance level literals path pair → (least_of (tallies path) ≡ pair_code pair) × (least_of (tallies path) < HARD)
     found-least path pair found =
         let a = literal path found.index in
-        let here = word_in instance level arc literals path found.index found.in_range in
-        let lower = least_below (words path) found.index (omega (arith, found.in_range, words_count instance level arc literals path)) in
-        let low = remains-word a found.remains in
+        let here = tally_in instance level arc literals path found.index found.in_range in
+        let lower = least_below (tallies path) found.index (omega (arith, found.in_range, tally_count instance level arc literals path)) in
+        let low = remains-tally a found.remains in
         let best = least-found path (omega (arith, lower, here, low)) in
-        let sum : word_of instance level arc literals a ≡ pair_code pair = word-sum a found.remains ∙ ap pair_code found.reached in
+        let sum : tally_of instance level arc literals a ≡ pair_code pair = tally-sum a found.remains ∙ ap pair_code found.reached in
         let order = found.least best.1.index best.1.in_range best.1.remains in
         let s_pair : pair.s < S_SPAN = subst (λ (p : Pair). p.s < S_SPAN) found.reached (s_small a) in
         let above = at_most-code pair (added_pair instance level literals (literal path best.1.index)) s_pair (s_small (literal path best.1.index)) order in
         let there : pair_code (added_pair instance level literals (literal path best.1.index)) ≡ pair_code best.0 = ap pair_code best.1.reached in
         (omega (arith, lower, here, sum, above, there, best.2), omega (arith, lower, here, low))
 
-    -- no choice of a path with a great least word remains
-    pub none-left : (path : ℕ) → HARD ≤ least_of (words path) → (index : ℕ) → index < count_at instance path → RemainsAt instance level literals (literal path index) → ⊥
+    -- no choice of a path with a great least tally remains
+    pub none-left : (path : ℕ) → HARD ≤ least_of (tallies path) → (index : ℕ) → index < count_at instance path → RemainsAt instance level literals (literal path index) → ⊥
     none-left path high index inside r =
-        let lower = least_below (words path) index (omega (arith, inside, words_count instance level arc literals path)) in
-        omega (arith, lower, high, word_in instance level arc literals path index inside, remains-word (literal path index) r)
+        let lower = least_below (tallies path) index (omega (arith, inside, tally_count instance level arc literals path)) in
+        omega (arith, lower, high, tally_in instance level arc literals path index inside, remains-tally (literal path index) r)
 
-    pub some-left : (path index : ℕ) → index < count_at instance path → RemainsAt instance level literals (literal path index) → least_of (words path) < HARD
-    some-left path index inside r = elim (cases_lt (least_of (words path)) HARD) [
+    pub some-left : (path index : ℕ) → index < count_at instance path → RemainsAt instance level literals (literal path index) → least_of (tallies path) < HARD
+    some-left path index inside r = elim (cases_lt (least_of (tallies path)) HARD) [
       | inl low ↦ low
       | inr high ↦ absurd (none-left path high index inside r)
     ]

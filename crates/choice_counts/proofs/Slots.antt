@@ -16,10 +16,10 @@ use Rattle.fapp_model.proofs.Sums.{range-sum-same, sum_by-same-members}
 use Rattle.fapp_tables.proofs.PairLaws.{sum_by-filter, sum_by-positions}
 use Rattle.nogood.specs.Literals.{other_paths}
 use Rattle.nogood.specs.Partials.{Gives, choice_given}
-use Rattle.choice_counts.specs.declared.rows.Row.{Row}
+use Rattle.choice_counts.specs.declared.rows.PathTallies.{PathTallies}
 use Rattle.choice_counts.specs.ForwardStates.{AreSlots}
 use Rattle.choice_counts.specs.Totals.{open_sum}
-use Rattle.choice_counts.specs.Words.{no_row, row_at}
+use Rattle.choice_counts.specs.Tallies.{no_tallies, tallies_at}
 use Rattle.choice_counts.proofs.OneMore.{IsOneMore}
 
 pub some-is : (x y : ℕ) → Some x ≡ Some y → x ≡ y
@@ -53,12 +53,12 @@ slots_none instance n e = record {
 }
 
 -- where no slot is taken each path is open
-pub open_none : (f : ℕ → ℕ) (rows : List Row) (n : ℕ) → length rows ≡ n → open_sum f (blanks n) rows ≡ sum_by (λ (r : Row). f r.least) rows
+pub open_none : (f : ℕ → ℕ) (rows : List PathTallies) (n : ℕ) → length rows ≡ n → open_sum f (blanks n) rows ≡ sum_by (λ (r : PathTallies). f r.least) rows
 open_none f rows n e =
     let count : length (blanks n) ≡ length rows = length-replicate n None ∙ sym e in
-    ap (λ m. sum_by (λ p. cond (is_some (choice_given (blanks n) p)) 0 (f (row_at rows p).least)) (range_with_len 0 m)) count
-    ∙ (range-sum-same (λ p. cond (is_some (choice_given (blanks n) p)) 0 (f (row_at rows p).least)) (λ p. f (row_at rows p).least) (length rows) (λ p below. ap (λ o. cond (is_some o) 0 (f (row_at rows p).least)) (blank_slot n p))
-    ∙ sum_by-positions (λ (r : Row). f r.least) no_row rows)
+    ap (λ m. sum_by (λ p. cond (is_some (choice_given (blanks n) p)) 0 (f (tallies_at rows p).least)) (range_with_len 0 m)) count
+    ∙ (range-sum-same (λ p. cond (is_some (choice_given (blanks n) p)) 0 (f (tallies_at rows p).least)) (λ p. f (tallies_at rows p).least) (length rows) (λ p below. ap (λ o. cond (is_some o) 0 (f (tallies_at rows p).least)) (blank_slot n p))
+    ∙ sum_by-positions (λ (r : PathTallies). f r.least) no_tallies rows)
 
 -- two literals of one path and choice are one
 pub literal-is : (a : Literal) (path choice : ℕ) → a.path ≡ path → a.choice ≡ choice → literal path choice ≡ a

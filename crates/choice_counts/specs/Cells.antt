@@ -1,9 +1,9 @@
--- Words by distance, in cells that follow one another.
+-- Tallies by distance, in cells that follow one another.
 use Rattle.std.specs.Prelude.{◌≡◌, ◌⊎◌, ℕ, zero, suc, ◌-◌, ◌<◌, ◌≤◌, Bool, List, ◌∷◌, [], ◌++◌, length, slice_index_or, slice_set, if◌then◌else◌}
 use Rattle.fapp_model.specs.declared.instance.Instance.{Instance}
 use Rattle.choice_counts.specs.declared.breaks.TheConstants.{NO_REACH}
 use Rattle.choice_counts.specs.declared.cells.Cell.{Cell}
-use Rattle.choice_counts.specs.Distances.{word_apart}
+use Rattle.choice_counts.specs.Distances.{tally_apart}
 
 abbrev pub no_cell : Cell
 no_cell = record { reach = 0; same = 0; other = 0 }
@@ -19,15 +19,15 @@ start_of cells (suc place) = (cell_at cells place).reach
 abbrev pub end_of : List Cell → ℕ
 end_of cells = start_of cells (length cells)
 
-abbrev pub word_in : Cell → Bool → ℕ
-word_in cell same = if same then cell.same else cell.other
+abbrev pub tally_in : Cell → Bool → ℕ
+tally_in cell same = if same then cell.same else cell.other
 
--- a cell has the words of each distance from a start on, below its reach
+-- a cell has the tallies of each distance from a start on, below its reach
 abbrev pub IsCell : Instance → ℕ → ℕ → ℕ → ℕ → Cell → Type 0
 IsCell instance level path other start cell = (same : Bool) (d : ℕ) → start ≤ d → d < cell.reach →
-    word_in cell same ≡ word_apart instance level path other same d
+    tally_in cell same ≡ tally_apart instance level path other same d
 
--- the words of two paths at a level, as far as the cells reach
+-- the tallies of two paths at a level, as far as the cells reach
 abbrev pub AreCells : Instance → ℕ → ℕ → ℕ → List Cell → Type 0
 AreCells instance level path other cells = (place : ℕ) → place < length cells →
     IsCell instance level path other (start_of cells place) (cell_at cells place)
@@ -41,7 +41,7 @@ pub record AreWhole (cells : List Cell) : Type 0 where
 abbrev pub reaching : Cell → ℕ → Cell
 reaching cell reach = record { reach = reach; same = cell.same; other = cell.other }
 
--- a cell is added behind the others, or the last of them, which has the same words, reaches as far as it
+-- a cell is added behind the others, or the last of them, which has the same tallies, reaches as far as it
 abbrev pub Extends : List Cell → Cell → List Cell → Type 0
 Extends old cell new = (new ≡ old ++ cell ∷ [])
     ⊎ ((0 < length old) × (new ≡ slice_set old (length old - 1) cell) × (reaching (cell_at old (length old - 1)) cell.reach ≡ cell))

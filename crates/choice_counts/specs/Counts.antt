@@ -8,9 +8,9 @@ use Rattle.fapp_model.specs.search.Clashes.{clashes}
 use Rattle.fapp_model.specs.search.Partials.{literal}
 use Rattle.fapp_model.specs.search.Weights.{added}
 use Rattle.fapp_tables.specs.Measures.{both_between, coded_part}
-use Rattle.choice_counts.specs.declared.rows.Row.{Row}
+use Rattle.choice_counts.specs.declared.rows.PathTallies.{PathTallies}
 use Rattle.choice_counts.specs.declared.rows.TheConstants.{HARD}
-use Rattle.choice_counts.specs.Words.{row_by}
+use Rattle.choice_counts.specs.Tallies.{tallies_by}
 
 -- 1 for a choice outside the arcs
 abbrev pub outside_part : (Literal → Bool) → Literal → ℕ
@@ -20,28 +20,28 @@ outside_part arc a = if arc a then 0 else 1
 abbrev pub clash_part : Instance → ℕ → Literal → Literal → ℕ
 clash_part instance level a b = if clashes instance level a b then 1 else 0
 
--- what a literal counts in a choice's word
-abbrev pub pair_word : Instance → ℕ → Literal → Literal → ℕ
-pair_word instance level a b = clash_part instance level a b * HARD + both_between instance (coded_part level) a b
+-- what a literal counts in a choice's tally
+abbrev pub pair_tally : Instance → ℕ → Literal → Literal → ℕ
+pair_tally instance level a b = clash_part instance level a b * HARD + both_between instance (coded_part level) a b
 
 -- how many literals clash with a choice, one more where it is outside the arcs
 abbrev pub hard_of : Instance → ℕ → (Literal → Bool) → List Literal → Literal → ℕ
 hard_of instance level arc literals a = outside_part arc a + sum_by (clash_part instance level a) literals
 
--- a choice's word
-abbrev pub word_of : Instance → ℕ → (Literal → Bool) → List Literal → Literal → ℕ
-word_of instance level arc literals a =
+-- a choice's tally
+abbrev pub tally_of : Instance → ℕ → (Literal → Bool) → List Literal → Literal → ℕ
+tally_of instance level arc literals a =
     hard_of instance level arc literals a * HARD + added instance (coded_part level) literals a
 
--- the words of a path
-abbrev pub words_of : Instance → ℕ → (Literal → Bool) → List Literal → ℕ → List ℕ
-words_of instance level arc literals path =
-    map (λ index. word_of instance level arc literals (literal path index)) (range_with_len 0 (count_at instance path))
+-- the tallies of a path
+abbrev pub tallies_of : Instance → ℕ → (Literal → Bool) → List Literal → ℕ → List ℕ
+tallies_of instance level arc literals path =
+    map (λ index. tally_of instance level arc literals (literal path index)) (range_with_len 0 (count_at instance path))
 
 -- the rows of all paths
-abbrev pub rows_of : Instance → ℕ → (Literal → Bool) → List Literal → List Row
+abbrev pub rows_of : Instance → ℕ → (Literal → Bool) → List Literal → List PathTallies
 rows_of instance level arc literals =
-    map (λ path. row_by (words_of instance level arc literals path)) (range_with_len 0 (length instance.paths))
+    map (λ path. tallies_by (tallies_of instance level arc literals path)) (range_with_len 0 (length instance.paths))
 
 -- how many pairs of literals clash, each seen from both sides
 abbrev pub clash_pairs : Instance → ℕ → List Literal → ℕ

@@ -3,7 +3,7 @@ pub mod Breaks
 pub mod Cells
 pub mod Links
 pub mod Tables
-pub mod Words
+pub mod Tallies
 pub mod Counts
 pub mod Moves
 pub mod Totals

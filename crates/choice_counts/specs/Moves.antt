@@ -5,39 +5,39 @@ use Rattle.fapp_model.specs.declared.instance.Instance.{Instance}
 use Rattle.fapp_model.specs.declared.literal.Literal.{Literal}
 use Rattle.fapp_model.specs.search.Clashes.{shares_record}
 use Rattle.fapp_model.specs.search.Partials.{literal}
-use Rattle.choice_counts.specs.declared.rows.Row.{Row}
-use Rattle.choice_counts.specs.Counts.{pair_word}
-use Rattle.choice_counts.specs.Words.{row_at, row_by, word_at}
+use Rattle.choice_counts.specs.declared.rows.PathTallies.{PathTallies}
+use Rattle.choice_counts.specs.Counts.{pair_tally}
+use Rattle.choice_counts.specs.Tallies.{tallies_at, tallies_by, tally_at}
 
--- a word with a pair's taken away, or added
+-- a tally with a pair's taken away, or added
 abbrev pub moved : Bool → ℕ → ℕ → ℕ
-moved true word pair = word - pair
-moved false word pair = word + pair
+moved true tally pair = tally - pair
+moved false tally pair = tally + pair
 
--- the words of a path with what a literal adds to them, taken away or added
-abbrev pub words_with : Bool → Instance → ℕ → Literal → ℕ → List ℕ → List ℕ
-words_with taking instance level a other words =
-    map (λ index. moved taking (word_at words index) (pair_word instance level (literal other index) a)) (range_with_len 0 (length words))
+-- the tallies of a path with what a literal adds to them, taken away or added
+abbrev pub tallies_with : Bool → Instance → ℕ → Literal → ℕ → List ℕ → List ℕ
+tallies_with taking instance level a other tallies =
+    map (λ index. moved taking (tally_at tallies index) (pair_tally instance level (literal other index) a)) (range_with_len 0 (length tallies))
 
 -- the rows of all paths, where those that share a record with the literal's path get what it adds
-abbrev pub rows_with : Bool → Instance → ℕ → Literal → List Row → List Row
+abbrev pub rows_with : Bool → Instance → ℕ → Literal → List PathTallies → List PathTallies
 rows_with taking instance level a rows = map
     (λ other. if shares_record instance a.path other
-    then row_by (words_with taking instance level a other (row_at rows other).words)
-    else row_at rows other)
+    then tallies_by (tallies_with taking instance level a other (tallies_at rows other).tallies)
+    else tallies_at rows other)
     (range_with_len 0 (length instance.paths))
 
--- a pair's word can be taken away, or added
+-- a pair's tally can be taken away, or added
 abbrev pub CanMove : Bool → ℕ → ℕ → Type 0
-CanMove true word pair = pair ≤ word
-CanMove false word pair = word < 2 ^ 62
+CanMove true tally pair = pair ≤ tally
+CanMove false tally pair = tally < 2 ^ 62
 
--- each word of a path can change by what a literal adds
+-- each tally of a path can change by what a literal adds
 abbrev pub CanMoveRow : Bool → Instance → ℕ → Literal → ℕ → List ℕ → Type 0
-CanMoveRow taking instance level a other words = (index : ℕ) → index < length words →
-    CanMove taking (word_at words index) (pair_word instance level (literal other index) a)
+CanMoveRow taking instance level a other tallies = (index : ℕ) → index < length tallies →
+    CanMove taking (tally_at tallies index) (pair_tally instance level (literal other index) a)
 
--- each word of all paths
-abbrev pub CanMoveAll : Bool → Instance → ℕ → Literal → List Row → Type 0
+-- each tally of all paths
+abbrev pub CanMoveAll : Bool → Instance → ℕ → Literal → List PathTallies → Type 0
 CanMoveAll taking instance level a rows = (other : ℕ) → other < length instance.paths →
-    CanMoveRow taking instance level a other (row_at rows other).words
+    CanMoveRow taking instance level a other (tallies_at rows other).tallies

@@ -1,4 +1,4 @@
--- The words of all neighbours at a level.
+-- The tallies of all neighbours at a level.
 use Rattle.std.specs.Prelude.{◌≡◌, ℕ, ◌<◌, List, [], length, slice_index, slice_index_or}
 use Rattle.fapp_model.specs.declared.instance.Instance.{Instance}
 use Rattle.fapp_tables.specs.Indexes.{neighbours_of}
@@ -6,13 +6,13 @@ use Rattle.choice_counts.specs.declared.breaks.TheConstants.{NO_REACH}
 use Rattle.choice_counts.specs.declared.fill.Link.{Link}
 use Rattle.choice_counts.specs.Links.{IsLink}
 
--- an instance, and the level that its words are of
-pub record WordState : Type 0 where
+-- an instance, and the level that its tallies are of
+pub record TallyState : Type 0 where
   pub instance : Instance
   pub level : ℕ
 
-abbrev pub words_at : Instance → ℕ → WordState
-words_at instance level = record { instance = instance; level = level }
+abbrev pub tallies_at : Instance → ℕ → TallyState
+tallies_at instance level = record { instance = instance; level = level }
 
 abbrev pub no_link : Link
 no_link = record { cells = []; far = NO_REACH }

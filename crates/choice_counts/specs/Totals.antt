@@ -5,21 +5,21 @@ use Rattle.std.specs.Option.{is_some}
 use Rattle.fapp_model.specs.declared.instance.Instance.{Instance}
 use Rattle.fapp_model.specs.Assignments.{count_at}
 use Rattle.nogood.specs.Partials.{choice_given}
-use Rattle.choice_counts.specs.declared.rows.Row.{Row}
+use Rattle.choice_counts.specs.declared.rows.PathTallies.{PathTallies}
 use Rattle.choice_counts.specs.declared.totals.Open.{Open}
-use Rattle.choice_counts.specs.Words.{least_of, least_part, row_at, stuck_part}
+use Rattle.choice_counts.specs.Tallies.{least_of, least_part, tallies_at, stuck_part}
 
--- the sum of a number for each path without a literal, by its least word
-abbrev pub open_sum : (ℕ → ℕ) → List (Option ℕ) → List Row → ℕ
+-- the sum of a number for each path without a literal, by its least tally
+abbrev pub open_sum : (ℕ → ℕ) → List (Option ℕ) → List PathTallies → ℕ
 open_sum f slots rows =
-    sum_by (λ path. if is_some (choice_given slots path) then 0 else f (row_at rows path).least) (range_with_len 0 (length slots))
+    sum_by (λ path. if is_some (choice_given slots path) then 0 else f (tallies_at rows path).least) (range_with_len 0 (length slots))
 
-pub record IsOpen (slots : List (Option ℕ)) (rows : List Row) (open_paths : Open) : Type 0 where
+pub record IsOpen (slots : List (Option ℕ)) (rows : List PathTallies) (open_paths : Open) : Type 0 where
   pub stuck : open_paths.stuck ≡ open_sum stuck_part slots rows
   pub least : open_paths.least ≡ open_sum least_part slots rows
 
--- a row for each path, with a word for each choice and the least of them
-pub record AreRows (instance : Instance) (rows : List Row) : Type 0 where
+-- a row for each path, with a tally for each choice and the least of them
+pub record AreRows (instance : Instance) (rows : List PathTallies) : Type 0 where
   pub count : length rows ≡ length instance.paths
-  pub words : (path : ℕ) → path < length instance.paths → length (row_at rows path).words ≡ count_at instance path
-  pub least : All (λ row. row.least ≡ least_of row.words) rows
+  pub tallies : (path : ℕ) → path < length instance.paths → length (tallies_at rows path).tallies ≡ count_at instance path
+  pub least : All (λ row. row.least ≡ least_of row.tallies) rows

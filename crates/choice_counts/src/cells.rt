@@ -1,11 +1,11 @@
 ghost use Rattle.std.specs.Prelude.{◌≡◌, ◌↔◌, ◌<◌, [], false, length, IfOk, IsTrue};
-ghost use Rattle.choice_counts.specs.Cells.{Extends, word_in};
+ghost use Rattle.choice_counts.specs.Cells.{Extends, tally_in};
 
 use fapp_model::NoMemory;
 use std::alloc::Global;
 use std::marker::Model;
 
-/// What two choices count in each other's words where their frequencies are further apart than the cell before reaches,
+/// What two choices count in each other's tallies where their frequencies are further apart than the cell before reaches,
 /// and less than this one does.
 #[derive(Clone, Copy, Debug)]
 pub struct Cell {
@@ -17,7 +17,7 @@ pub struct Cell {
 }
 
 impl Cell {
-    /// Whether another one has the same words.
+    /// Whether another one has the same tallies.
     fn is_like(self, other: Cell) -> bool
         ensures { IsTrue result ↔ ((self.same ≡ other.same) × (self.other ≡ other.other)) }
     {
@@ -90,7 +90,7 @@ impl Cells {
         self.cells.clear();
     }
 
-    /// Adds a cell behind the others, where there is room, or lets the last one reach as far where it has the same words. It
+    /// Adds a cell behind the others, where there is room, or lets the last one reach as far where it has the same tallies. It
     /// takes no memory.
     pub fn extend(&mut self, cell: Cell) -> bool
         ensures added { IsTrue result → Extends self.old cell self.new }

@@ -10,7 +10,7 @@ use crate::pair::Pair;
 /// At most so many distances are tried for the cells of two paths.
 const MOST_STEPS: u32 = 128;
 
-/// What the choices of two neighbouring paths count in each other's words at a level.
+/// What the choices of two neighbouring paths count in each other's tallies at a level.
 #[derive(Debug, Drop)]
 pub struct Link {
     /// A cell for each distance; none where they would be too many.

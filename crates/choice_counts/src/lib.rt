@@ -18,6 +18,6 @@ pub use cells::{Cell, Cells};
 pub use fill::Link;
 pub use laws::{alive_is_calm, dead_is_over_bound, one_bound};
 pub use pair::Pair;
-pub use rows::{HARD, NO_WORD, Row, Words};
-pub use table::WordTable;
+pub use rows::{HARD, NO_TALLY, PathTallies, Tallies};
+pub use table::TallyTable;
 pub use totals::{Open, Totals};

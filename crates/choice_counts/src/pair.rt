@@ -1,7 +1,7 @@
 ghost use Rattle.std.specs.Prelude.{◌≡◌, ◌≢◌, ◌<◌, ◌≤◌, ◌^◌, Bool};
 ghost use Rattle.choice_counts.specs.declared.breaks.TheConstants.{NO_REACH};
 ghost use Rattle.choice_counts.specs.Cells.{IsCell};
-ghost use Rattle.choice_counts.specs.Distances.{choices_word, far, near, word_apart};
+ghost use Rattle.choice_counts.specs.Distances.{choices_tally, far, near, tally_apart};
 ghost use Rattle.fapp_model.specs.declared.level.TheConstants.{MAX_LEVELS};
 ghost use Rattle.fapp_model.specs.Instances.{IsInstance};
 ghost use Rattle.fapp_tables.specs.Indexes.{records_of};
@@ -12,7 +12,7 @@ use choice_counts::HARD;
 use fapp_model::{Choice, Instance};
 use fapp_tables::pair_counts;
 
-/// Two neighbouring paths, and the level that words are of.
+/// Two neighbouring paths, and the level that tallies are of.
 #[derive(Clone, Copy, Debug)]
 pub struct Pair<'a> {
     pub instance: &'a Instance,
@@ -51,11 +51,11 @@ fn far(same: bool, distance: u32) -> Choice
 }
 
 impl<'a> Pair<'a> {
-    /// What a choice of the path and one of the other path count in each other's words: the sum of the pairs of the records
+    /// What a choice of the path and one of the other path count in each other's tallies: the sum of the pairs of the records
     /// between them, and `HARD` where one of these is hard-bad.
-    pub fn word(&self, first: Choice, second: Choice) -> u64
+    pub fn tally(&self, first: Choice, second: Choice) -> u64
         requires { IsInstance self.now.instance.now }
-        ensures word { result ≡ choices_word self.now.instance.now self.now.level self.now.path self.now.other first second }
+        ensures tally { result ≡ choices_tally self.now.instance.now self.now.level self.now.path self.now.other first second }
         ensures small { result ≤ 2 ^ 49 }
     {
         let counts = pair_counts(
@@ -74,25 +74,25 @@ impl<'a> Pair<'a> {
         }
     }
 
-    /// The word of choices that are so far apart.
-    fn word_apart(&self, same: bool, distance: u32) -> u64
+    /// The tally of choices that are so far apart.
+    fn tally_apart(&self, same: bool, distance: u32) -> u64
         requires { IsInstance self.now.instance.now }
-        ensures { result ≡ word_apart self.now.instance.now self.now.level self.now.path self.now.other same distance }
+        ensures { result ≡ tally_apart self.now.instance.now self.now.level self.now.path self.now.other same distance }
     {
-        self.word(near(), far(same, distance))
+        self.tally(near(), far(same, distance))
     }
 
-    /// The words of choices that are so far apart, and how far they stay the same.
+    /// The tallies of choices that are so far apart, and how far they stay the same.
     pub fn cell(&self, distance: u32) -> Cell
         requires { IsInstance self.now.instance.now }
         ensures above { distance < result.reach }
         ensures within { result.reach ≤ NO_REACH }
-        ensures words { IsCell self.now.instance.now self.now.level self.now.path self.now.other distance result }
+        ensures tallies { IsCell self.now.instance.now self.now.level self.now.path self.now.other distance result }
     {
         Cell {
             reach: next_reach(self.instance, self.positions, distance),
-            same: self.word_apart(true, distance),
-            other: self.word_apart(false, distance),
+            same: self.tally_apart(true, distance),
+            other: self.tally_apart(false, distance),
         }
     }
 }

@@ -1,5 +1,5 @@
 ghost use Rattle.std.specs.Prelude.{◌≡◌, ◌<◌, ◌≤◌, length};
-ghost use Rattle.choice_counts.specs.Cells.{AreWhole, cell_at, start_of, word_in};
+ghost use Rattle.choice_counts.specs.Cells.{AreWhole, cell_at, start_of, tally_in};
 ghost use Rattle.choice_counts.specs.Links.{IsFound};
 ghost use Rattle.fapp_model.specs.Records.{distance, same_polarization};
 
@@ -38,7 +38,7 @@ fn on_from(cells: &[Cell], from: usize, distance: u64) -> usize
     place
 }
 
-/// The place of the cell that has the words of a distance. It is looked for from another place on, and found at once where
+/// The place of the cell that has the tallies of a distance. It is looked for from another place on, and found at once where
 /// that one is near.
 fn place_of(cells: &[Cell], from: usize, distance: u64) -> usize
     requires whole { AreWhole cells.now }
@@ -60,10 +60,10 @@ fn distance(first: Choice, second: Choice) -> u64
     u64::from(first.freq.abs_diff(second.freq))
 }
 
-/// The word of two choices, by the place of its cell.
-fn word_for(cells: &[Cell], place: usize, first: Choice, second: Choice) -> u64
+/// The tally of two choices, by the place of its cell.
+fn tally_for(cells: &[Cell], place: usize, first: Choice, second: Choice) -> u64
     requires { place < length cells.now }
-    ensures { result ≡ word_in (cell_at cells.now place) (same_polarization first second) }
+    ensures { result ≡ tally_in (cell_at cells.now place) (same_polarization first second) }
 {
     let cell = &cells[place];
     if first.pol == second.pol {
@@ -74,8 +74,8 @@ fn word_for(cells: &[Cell], place: usize, first: Choice, second: Choice) -> u64
 }
 
 impl Link {
-    /// What two choices count in each other's words, where each distance has a cell.
-    pub fn word(&self, first: Choice, second: Choice) -> u64
+    /// What two choices count in each other's tallies, where each distance has a cell.
+    pub fn tally(&self, first: Choice, second: Choice) -> u64
         requires { AreWhole self.now.cells }
         ensures { IsFound self.now (distance first second) (same_polarization first second) result }
     {
@@ -85,6 +85,6 @@ impl Link {
         }
         let cells = self.cells.as_slice();
         let place = place_of(cells, self.cells.near(distance), distance);
-        word_for(cells, place, first, second)
+        tally_for(cells, place, first, second)
     }
 }

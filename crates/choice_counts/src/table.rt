@@ -1,6 +1,6 @@
 ghost use Rattle.std.specs.Prelude.{◌≡◌, ◌<◌, ◌≤◌, length, slice_index, IfOk};
 ghost use Rattle.choice_counts.specs.Links.{IsLink};
-ghost use Rattle.choice_counts.specs.Tables.{AreLinks, AreLinksOf, HasLinks, words_at};
+ghost use Rattle.choice_counts.specs.Tables.{AreLinks, AreLinksOf, HasLinks, tallies_at};
 ghost use Rattle.fapp_model.specs.declared.level.TheConstants.{MAX_LEVELS};
 ghost use Rattle.fapp_model.specs.Instances.{IsInstance};
 ghost use Rattle.fapp_tables.specs.Indexes.{neighbours_of};
@@ -117,57 +117,57 @@ fn blank_table(alloc: Global, tables: &Tables) -> Result<Vec<Links>, NoMemory>
     Ok(table)
 }
 
-/// What the choices of neighbouring paths count in each other's words at a level. Contracts see the instance and the level.
+/// What the choices of neighbouring paths count in each other's tallies at a level. Contracts see the instance and the level.
 ///
 /// It takes at most 24 bytes for each of the cells of two paths, which are at most 12 a record and 32 in all, and 64 bytes of
 /// hints, seen from both of the paths.
 #[derive(Debug, Drop)]
-pub struct WordTable<'a> {
+pub struct TallyTable<'a> {
     tables: &'a Tables<'a>,
     level: u32,
     table: Vec<Links>,
 }
 
-impl<'a> Model for WordTable<'a> {
+impl<'a> Model for TallyTable<'a> {
     ghost use Rattle.std.specs.Prelude.{◌≤◌};
-    ghost use Rattle.choice_counts.specs.Tables.{AreLinks, WordState};
+    ghost use Rattle.choice_counts.specs.Tables.{AreLinks, TallyState};
     ghost use Rattle.fapp_model.specs.declared.level.TheConstants.{MAX_LEVELS};
 
-    ghost Value = { WordState };
+    ghost Value = { TallyState };
 
     ghost view = { λ t. record { instance = t.tables.now; level = t.level } };
 
     ghost invariant = { λ t. (t.level ≤ MAX_LEVELS) × AreLinks t.tables.now t.level t.table.items };
 }
 
-impl<'a> WordTable<'a> {
-    /// The words of a level. No other call takes memory.
-    pub fn new(alloc: Global, tables: &'a Tables<'a>, level: u32) -> Result<WordTable<'a>, NoMemory>
+impl<'a> TallyTable<'a> {
+    /// The tallies of a level. No other call takes memory.
+    pub fn new(alloc: Global, tables: &'a Tables<'a>, level: u32) -> Result<TallyTable<'a>, NoMemory>
         requires instance { IsInstance tables.now }
         requires level { level ≤ MAX_LEVELS }
-        ensures { IfOk result (λ words. words ≡ words_at tables.now level) }
+        ensures { IfOk result (λ tallies. tallies ≡ tallies_at tables.now level) }
     {
         let mut table = blank_table(alloc, tables)?;
         fill_all(tables, level, table.as_mut_slice());
-        Ok(WordTable {
+        Ok(TallyTable {
             tables,
             level,
             table,
         })
     }
 
-    /// Tells the words of another level from now on. It costs at most 128 times the records, and less where few distances
+    /// Tells the tallies of another level from now on. It costs at most 128 times the records, and less where few distances
     /// differ.
     pub fn keep_level(&mut self, level: u32)
         requires instance { IsInstance self.old.instance }
         requires level { level ≤ MAX_LEVELS }
-        ensures { self.new ≡ words_at self.old.instance level }
+        ensures { self.new ≡ tallies_at self.old.instance level }
     {
         fill_all(self.tables, level, self.table.as_mut_slice());
         self.level = level;
     }
 
-    /// The words of a path's choices and of those of its neighbour of a place among its neighbours.
+    /// The tallies of a path's choices and of those of its neighbour of a place among its neighbours.
     pub fn link(&self, path: u16, place: usize) -> &Link
         requires path { path < length self.now.instance.paths }
         requires place { place < length (neighbours_of self.now.instance path) }

@@ -1,9 +1,9 @@
 ghost use Rattle.std.specs.Prelude.{◌≡◌, ◌≤◌, ◌<◌, ◌+◌, ◌^◌};
-ghost use Rattle.choice_counts.specs.Words.{least_part, stuck_part};
+ghost use Rattle.choice_counts.specs.Tallies.{least_part, stuck_part};
 
 use crate::HARD;
 
-/// What is counted for the paths without a literal: how many of them have no choice left, and the sum of the least words
+/// What is counted for the paths without a literal: how many of them have no choice left, and the sum of the least tallies
 /// of the others.
 #[derive(Clone, Copy, Debug, PartialEq, Eq)]
 pub struct Open {
@@ -21,7 +21,7 @@ pub struct Totals {
     pub twice_inside: u64,
 }
 
-/// 1 for a path without a choice left, by its least word.
+/// 1 for a path without a choice left, by its least tally.
 fn stuck_part(least: u64) -> u32
     ensures part { result ≡ stuck_part least }
     ensures one { result ≤ 1 }
@@ -29,7 +29,7 @@ fn stuck_part(least: u64) -> u32
     if least < HARD { 0 } else { 1 }
 }
 
-/// The least word of a path with a choice left.
+/// The least tally of a path with a choice left.
 fn least_part(least: u64) -> u64
     ensures part { result ≡ least_part least }
     ensures small { result ≤ HARD }
@@ -38,7 +38,7 @@ fn least_part(least: u64) -> u64
 }
 
 impl Open {
-    /// Without a path that had this least word.
+    /// Without a path that had this least tally.
     pub fn without(self, least: u64) -> Open
         requires stuck { stuck_part least ≤ self.stuck }
         requires least { least_part least ≤ self.least }
@@ -51,7 +51,7 @@ impl Open {
         }
     }
 
-    /// With a further path that has this least word.
+    /// With a further path that has this least tally.
     pub fn with(self, least: u64) -> Open
         requires stuck { self.stuck < 2 ^ 31 }
         requires least { self.least ≤ 2 ^ 62 }

@@ -17,20 +17,20 @@ use Rattle.fapp_model.specs.search.Weights.{inside, over_open}
 use Rattle.fapp_tables.specs.Indexes.{neighbours_of}
 use Rattle.fapp_tables.specs.Measures.{coded_part}
 use Rattle.nogood.specs.Partials.{choice_given}
-use Rattle.choice_counts.specs.Counts.{pair_word, slot_part, word_of, words_of}
+use Rattle.choice_counts.specs.Counts.{pair_tally, slot_part, tally_of, tallies_of}
 use Rattle.choice_counts.specs.declared.rows.TheConstants.{HARD}
 use Rattle.choice_counts.specs.CountedSums.{IsBound, IsCalm, RemainsAt}
 use Rattle.choice_counts.specs.ForwardStates.{ForwardState}
-use Rattle.choice_counts.specs.Words.{least_of, least_part}
+use Rattle.choice_counts.specs.Tallies.{least_of, least_part}
 use Rattle.choice_counts.proofs.Bounds.{few_literals}
 use Rattle.choice_counts.proofs.BySlots.{by_neighbours}
 use Rattle.choice_counts.proofs.Least.{least_push}
 use Rattle.choice_counts.proofs.Calm.{bound_is, least_sum}
-use Rattle.choice_counts.proofs.CalmPaths.{calm_stands, stands_calm, words_inside}
+use Rattle.choice_counts.proofs.CalmPaths.{calm_stands, stands_calm, tallies_inside}
 use Rattle.choice_counts.proofs.DeadByBound.{level_few}
-use Rattle.choice_counts.proofs.OneMore.{word_sum}
+use Rattle.choice_counts.proofs.OneMore.{tally_sum}
 use Rattle.choice_counts.proofs.OpenSums.{range_sum_more}
-use Rattle.choice_counts.proofs.Remaining.{least-found, remains-word, some-left, word-remains}
+use Rattle.choice_counts.proofs.Remaining.{least-found, remains-tally, some-left, tally-remains}
 use Rattle.choice_counts.proofs.Slots.{named}
 use Rattle.forward_count.specs.Forwards.{IsAfresh}
 use Rattle.forward_count.specs.Standing.{AllHaveLeft, AllStand, HasLeft}
@@ -39,18 +39,18 @@ abbrev state_of : Instance → ℕ → List Literal → ForwardState
 state_of i k ls = record { instance = i; level = k; pushed = ls }
 
 module _ (instance : Instance) (level : ℕ) (pushed : List Literal) (slots : List (Option ℕ)) (f : IsAfresh instance level pushed slots) (st : ForwardState) (e : record { instance = instance; level = level; pushed = pushed } ≡ st) where
-  -- a choice's word, by its neighbours
-  pub word_is : (a : Literal) (n : ℕ) → ((arc : Literal → Bool) → IsArcs instance level arc → n ≡ word_of instance level arc [] a + sum_by (λ p. slot_part (pair_word instance level a) p (choice_given slots p)) (neighbours_of instance a.path)) →
-      (arc : Literal → Bool) → IsArcs st.instance st.level arc → n ≡ word_of st.instance st.level arc st.pushed a
-  word_is a n known arc arcs =
+  -- a choice's tally, by its neighbours
+  pub tally_is : (a : Literal) (n : ℕ) → ((arc : Literal → Bool) → IsArcs instance level arc → n ≡ tally_of instance level arc [] a + sum_by (λ p. slot_part (pair_tally instance level a) p (choice_given slots p)) (neighbours_of instance a.path)) →
+      (arc : Literal → Bool) → IsArcs st.instance st.level arc → n ≡ tally_of st.instance st.level arc st.pushed a
+  tally_is a n known arc arcs =
       let here : IsArcs instance level arc = subst (λ (s : ForwardState). IsArcs s.instance s.level arc) (sym e) arcs in
       let sums = by_neighbours instance pushed slots f.held f.partial level a in
-      let word : n ≡ word_of instance level arc pushed a = known arc here ∙ (ap (λ m. word_of instance level arc [] a + m) (sym sums) ∙ sym (word_sum instance level arc pushed a)) in
-      subst (λ (s : ForwardState). n ≡ word_of s.instance s.level arc s.pushed a) e word
+      let tally : n ≡ tally_of instance level arc pushed a = known arc here ∙ (ap (λ m. tally_of instance level arc [] a + m) (sym sums) ∙ sym (tally_sum instance level arc pushed a)) in
+      subst (λ (s : ForwardState). n ≡ tally_of s.instance s.level arc s.pushed a) e tally
 
 pub least_map : (f : ℕ → ℕ) (n t w u : ℕ) → t ≡ least_of (map f (range_with_len 0 n)) → w ≡ f n → u ≡ min t w → u ≡ least_of (map f (range_with_len 0 (n + 1)))
-least_map f n t w u before word e =
-    e ∙ (ap (λ x. min x w) before ∙ (ap (min (least_of (map f (range_with_len 0 n)))) word
+least_map f n t w u before tally e =
+    e ∙ (ap (λ x. min x w) before ∙ (ap (min (least_of (map f (range_with_len 0 n)))) tally
     ∙ (sym (least_push (map f (range_with_len 0 n)) (f n)) ∙ ap least_of (sym (map-range_with_len_more f 0 n n (zero-add n))))))
 
 -- what is kept of the fields is so of the state that callers see
@@ -64,14 +64,14 @@ module _ (instance : Instance) (level : ℕ) (pushed : List Literal) (slots : Li
   test : (arc : Literal → Bool) × IsArcs instance level arc
   test = arcs-of instance level f.valid
 
-  pub remains_is : (a : Literal) (n : ℕ) → ((arc : Literal → Bool) → IsArcs instance level arc → n ≡ word_of instance level arc pushed a) → IsTrue (ltb n HARD) ↔ RemainsAt instance level pushed a
+  pub remains_is : (a : Literal) (n : ℕ) → ((arc : Literal → Bool) → IsArcs instance level arc → n ≡ tally_of instance level arc pushed a) → IsTrue (ltb n HARD) ↔ RemainsAt instance level pushed a
   remains_is a n known =
-      let word = known test.0 test.1 in (
-        λ low. word-remains instance level test.0 test.1 f.valid within pushed f.partial a (omega (arith, word, ltb-true n HARD low)),
-        λ r. lt-ltb n HARD (omega (arith, word, remains-word instance level test.0 test.1 f.valid within pushed f.partial a r)),
+      let tally = known test.0 test.1 in (
+        λ low. tally-remains instance level test.0 test.1 f.valid within pushed f.partial a (omega (arith, tally, ltb-true n HARD low)),
+        λ r. lt-ltb n HARD (omega (arith, tally, remains-tally instance level test.0 test.1 f.valid within pushed f.partial a r)),
       )
 
-  pub left_is : (path n : ℕ) → is_some (choice_given slots path) ≡ false → ((arc : Literal → Bool) → IsArcs instance level arc → n ≡ least_of (words_of instance level arc pushed path)) → IsTrue (ltb n HARD) ↔ HasLeft instance level pushed path
+  pub left_is : (path n : ℕ) → is_some (choice_given slots path) ≡ false → ((arc : Literal → Bool) → IsArcs instance level arc → n ≡ least_of (tallies_of instance level arc pushed path)) → IsTrue (ltb n HARD) ↔ HasLeft instance level pushed path
   left_is path n free known =
       let least = known test.0 test.1 in
       let unset : names pushed path ≡ false = sym (named instance pushed slots f.held path) ∙ free in (
@@ -114,20 +114,20 @@ module _ (instance : Instance) (level : ℕ) (pushed : List Literal) (slots : Li
   low : level ≤ 11
   low = level_few instance level f.low
 
-  -- a literal's word is small where all are calm
-  pub calm_small : IsCalm instance level pushed → (i : ℕ) (d : Literal) → i < length pushed → (n : ℕ) → ((arc : Literal → Bool) → IsArcs instance level arc → n ≡ word_of instance level arc pushed (get_or pushed i d)) → n < HARD
+  -- a literal's tally is small where all are calm
+  pub calm_small : IsCalm instance level pushed → (i : ℕ) (d : Literal) → i < length pushed → (n : ℕ) → ((arc : Literal → Bool) → IsArcs instance level arc → n ≡ tally_of instance level arc pushed (get_or pushed i d)) → n < HARD
   calm_small calm i d inside n known = ltb-true n HARD ((remains_is instance level pushed slots f (get_or pushed i d) n known).1 (calm_stand instance level pushed calm i d inside))
 
   pub few_pushed : length pushed ≤ 8192
   few_pushed = omega (arith, few_literals instance pushed f.partial, f.valid.few_paths)
 
-  pub sum_is : IsCalm instance level pushed → (twice half least n : ℕ) → ((arc : Literal → Bool) → IsArcs instance level arc → twice ≡ sum_by (word_of instance level arc pushed) pushed) →
-      ((arc : Literal → Bool) → IsArcs instance level arc → least ≡ over_open instance pushed (λ path. least_part (least_of (words_of instance level arc pushed path)))) →
+  pub sum_is : IsCalm instance level pushed → (twice half least n : ℕ) → ((arc : Literal → Bool) → IsArcs instance level arc → twice ≡ sum_by (tally_of instance level arc pushed) pushed) →
+      ((arc : Literal → Bool) → IsArcs instance level arc → least ≡ over_open instance pushed (λ path. least_part (least_of (tallies_of instance level arc pushed path)))) →
       half ≡ twice / 2 → n ≡ half + least → IsBound instance level pushed n
-  sum_is calm twice half least n words open_words halved e =
+  sum_is calm twice half least n tallies open_tallies halved e =
       let arcs = arcs-of instance level f.valid in
       let is = bound_is instance level arcs.0 arcs.1 pushed f.valid low f.partial calm in
-      let doubled = words arcs.0 arcs.1 ∙ words_inside instance level arcs.0 arcs.1 f.valid low pushed f.partial calm in
-      let rest = open_words arcs.0 arcs.1 in
+      let doubled = tallies arcs.0 arcs.1 ∙ tallies_inside instance level arcs.0 arcs.1 f.valid low pushed f.partial calm in
+      let rest = open_tallies arcs.0 arcs.1 in
       let same : inside instance (coded_part level) pushed + least_sum instance level arcs.0 arcs.1 pushed ≡ n = omega (arith, doubled, halved, rest, e) in
       subst (IsBound instance level pushed) same is

@@ -13,7 +13,7 @@ use Rattle.fapp_model.specs.search.Pairs.{limit_of}
 use Rattle.fapp_model.specs.search.Partials.{IsPartial}
 use Rattle.fapp_tables.specs.Measures.{pair_code}
 use Rattle.dead_laws.proofs.DeadTests.{arcs-of}
-use Rattle.choice_counts.specs.declared.rows.Row.{Row}
+use Rattle.choice_counts.specs.declared.rows.PathTallies.{PathTallies}
 use Rattle.choice_counts.specs.declared.totals.Totals.{Totals}
 use Rattle.choice_counts.specs.CountedSums.{IsBound, IsCalm}
 use Rattle.choice_counts.specs.ForwardStates.{ForwardState}
@@ -23,15 +23,15 @@ use Rattle.choice_counts.proofs.CalmPaths.{calm_kept, kept_bound, kept_calm}
 use Rattle.choice_counts.proofs.DeadByBound.{calm_or_dead, dead_is_over_bound, level_few, mode_few}
 use Rattle.choice_counts.proofs.OpenSums.{least_most, open_most}
 use Rattle.choice_counts.specs.declared.rows.TheConstants.{HARD}
-use Rattle.choice_counts.specs.Words.{least_part}
+use Rattle.choice_counts.specs.Tallies.{least_part}
 use Rattle.forward_count.specs.Forwards.{IsForward}
 
 -- what is kept of the fields is so of the state that callers see
-pub seen : (instance : Instance) (level : ℕ) (pushed : List Literal) (slots : List (Option ℕ)) (rows : List Row) (totals : Totals) (room : ℕ) → IsForward instance level pushed slots rows totals room →
+pub seen : (instance : Instance) (level : ℕ) (pushed : List Literal) (slots : List (Option ℕ)) (rows : List PathTallies) (totals : Totals) (room : ℕ) → IsForward instance level pushed slots rows totals room →
     (st : ForwardState) → record { instance = instance; level = level; pushed = pushed } ≡ st → IsForward st.instance st.level st.pushed slots rows totals room
 seen instance level pushed slots rows totals room f st e = subst (λ (s : ForwardState). IsForward s.instance s.level s.pushed slots rows totals room) e f
 
-module _ (instance : Instance) (level : ℕ) (pushed : List Literal) (slots : List (Option ℕ)) (rows : List Row) (totals : Totals) (room : ℕ) (f : IsForward instance level pushed slots rows totals room) where
+module _ (instance : Instance) (level : ℕ) (pushed : List Literal) (slots : List (Option ℕ)) (rows : List PathTallies) (totals : Totals) (room : ℕ) (f : IsForward instance level pushed slots rows totals room) where
   within : level ≤ 11
   within = level_few instance level f.low
 

@@ -10,7 +10,7 @@ use Rattle.fapp_model.specs.search.Partials.{IsLiteral, IsPartial, names}
 use Rattle.fapp_model.specs.Instances.{IsInstance}
 use Rattle.fapp_model.specs.Levels.{levels_of}
 use Rattle.fapp_model.proofs.Anys.{no-member}
-use Rattle.choice_counts.specs.declared.rows.Row.{Row}
+use Rattle.choice_counts.specs.declared.rows.PathTallies.{PathTallies}
 use Rattle.choice_counts.specs.declared.totals.Totals.{Totals}
 use Rattle.choice_counts.specs.Kept.{AreKept}
 use Rattle.forward_count.specs.Forwards.{IsForward}
@@ -36,7 +36,7 @@ fresh_at literals k d inside distinct = no-member (λ (a : Literal). eqb a.path 
     distinct c.0 k a early inside (ap (λ (x : Literal). x.path) same ∙ (eqb-true a.path (get_or literals k d).path e ∙ ap (λ (x : Literal). x.path) (sym there)))))
 
 -- the first literals are as well kept as all
-pub forward_take : (instance : Instance) (level : ℕ) (literals : List Literal) (k : ℕ) (slots : List (Option ℕ)) (rows : List Row) (totals : Totals) → IsInstance instance → level ≤ levels_of instance → IsPartial instance literals → k ≤ length literals →
+pub forward_take : (instance : Instance) (level : ℕ) (literals : List Literal) (k : ℕ) (slots : List (Option ℕ)) (rows : List PathTallies) (totals : Totals) → IsInstance instance → level ≤ levels_of instance → IsPartial instance literals → k ≤ length literals →
     AreKept instance level (take k literals) slots rows totals → IsForward instance level (take k literals) slots rows totals (length instance.paths)
 forward_take instance level literals k slots rows totals valid low partial few kept = record {
   valid = valid;

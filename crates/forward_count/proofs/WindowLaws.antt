@@ -1,4 +1,4 @@
--- The choices near a frequency, and the words of the others, which stay.
+-- The choices near a frequency, and the tallies of the others, which stay.
 use Rattle.std.proofs.Common.{◌≡◌, ◌≢◌, ℕ, ◌+◌, ◌/◌, ◌<◌, ◌≤◌, Bool, true, false, List, length, get_or, sym, ap, ◌∙◌, inl, inr, arith}
 use Rattle.std.specs.List.Sorted.{IsNonDecreasingBy, IsStrictlyIncreasing}
 use Rattle.std.proofs.lemmas.Bool.{cases_eq, cases_lt}
@@ -16,10 +16,10 @@ use Rattle.fapp_model.proofs.ChoiceLemmas.{fixed_choice, fixed_count, free_choic
 use Rattle.arc_levels.proofs.LeftLaws.{own_number}
 use Rattle.choice_counts.specs.declared.fill.Link.{Link}
 use Rattle.choice_counts.specs.Links.{IsLink}
-use Rattle.choice_counts.proofs.LinkLaws.{far_word}
-use Rattle.choice_counts.specs.Counts.{pair_word}
+use Rattle.choice_counts.proofs.LinkLaws.{far_tally}
+use Rattle.choice_counts.specs.Counts.{pair_tally}
 use Rattle.choice_counts.specs.Moves.{moved}
-use Rattle.choice_counts.specs.Words.{word_at}
+use Rattle.choice_counts.specs.Tallies.{tally_at}
 use Rattle.forward_count.proofs.RowLaws.{IsMapped}
 
 pub rising_by : (freqs : List ℕ) → IsStrictlyIncreasing freqs → IsNonDecreasingBy (λ n. n) freqs
@@ -48,13 +48,13 @@ choices_rise path valid i j upto inside = by_polarization valid.polarization
         let at_j = ap (λ (c : Choice). c.freq) (free_choice path j e (omega (arith, count, inside))) in
         omega (arith, at_i, at_j, rising_by path.freqs valid.ascending (i / 2) (j / 2) 0 (omega (arith, upto)) (omega (arith, count, inside)))
 
-moved_none : (taking : Bool) (word : ℕ) → moved taking word 0 ≡ word
-moved_none true word = omega arith
-moved_none false word = omega arith
+moved_none : (taking : Bool) (tally : ℕ) → moved taking tally 0 ≡ tally
+moved_none true tally = omega arith
+moved_none false tally = omega arith
 
--- words that nothing is counted in stay, so that they are made as they are
-pub mapped_skip : (f : ℕ → ℕ → ℕ) (old words : List ℕ) (index past : ℕ) → IsMapped f old words index → index ≤ past → ((k : ℕ) → index ≤ k → k < past → f k (word_at old k) ≡ word_at old k) → IsMapped f old words past
-mapped_skip f old words index past m upto stays = record {
+-- tallies that nothing is counted in stay, so that they are made as they are
+pub mapped_skip : (f : ℕ → ℕ → ℕ) (old tallies : List ℕ) (index past : ℕ) → IsMapped f old tallies index → index ≤ past → ((k : ℕ) → index ≤ k → k < past → f k (tally_at old k) ≡ tally_at old k) → IsMapped f old tallies past
+mapped_skip f old tallies index past m upto stays = record {
   count = m.count;
   done = λ k below. elim (cases_lt k index) [
     | inl before ↦ m.done k before
@@ -66,18 +66,18 @@ mapped_skip f old words index past m upto stays = record {
 module _ (instance : Instance) (valid : IsInstance instance) (level : ℕ) (a : Literal) (home : IsLiteral instance a) (other : ℕ) (apart : a.path ≢ other) (below : other < length instance.paths)
     (link : Link) (is : IsLink instance level a.path other link) where
   -- a far choice of the other path counts nothing
-  far_none : (k : ℕ) → k < count_at instance other → link.far ≤ distance (choice_of instance a) (choice_of instance (literal other k)) → pair_word instance level (literal other k) a ≡ 0
+  far_none : (k : ℕ) → k < count_at instance other → link.far ≤ distance (choice_of instance a) (choice_of instance (literal other k)) → pair_tally instance level (literal other k) a ≡ 0
   far_none k inside from =
       let one = own_number instance valid a.path a.choice home.path home.choice in
       let two = own_number instance valid other k below inside in
-      far_word instance level a (literal other k) apart link is from (omega (arith, one, two))
+      far_tally instance level a (literal other k) apart link is from (omega (arith, one, two))
 
   -- what stands before the window
-  pub before_stays : (taking : Bool) (word : ℕ) (k : ℕ) → k < count_at instance other → (choice_of instance (literal other k)).freq + link.far ≤ (choice_of instance a).freq →
-      moved taking word (pair_word instance level (literal other k) a) ≡ word
-  before_stays taking word k inside from = ap (moved taking word) (far_none k inside (omega (arith, from))) ∙ moved_none taking word
+  pub before_stays : (taking : Bool) (tally : ℕ) (k : ℕ) → k < count_at instance other → (choice_of instance (literal other k)).freq + link.far ≤ (choice_of instance a).freq →
+      moved taking tally (pair_tally instance level (literal other k) a) ≡ tally
+  before_stays taking tally k inside from = ap (moved taking tally) (far_none k inside (omega (arith, from))) ∙ moved_none taking tally
 
   -- and past its end
-  pub past_stays : (taking : Bool) (word : ℕ) (k : ℕ) → k < count_at instance other → (choice_of instance a).freq + link.far ≤ (choice_of instance (literal other k)).freq →
-      moved taking word (pair_word instance level (literal other k) a) ≡ word
-  past_stays taking word k inside from = ap (moved taking word) (far_none k inside (omega (arith, from))) ∙ moved_none taking word
+  pub past_stays : (taking : Bool) (tally : ℕ) (k : ℕ) → k < count_at instance other → (choice_of instance a).freq + link.far ≤ (choice_of instance (literal other k)).freq →
+      moved taking tally (pair_tally instance level (literal other k) a) ≡ tally
+  past_stays taking tally k inside from = ap (moved taking tally) (far_none k inside (omega (arith, from))) ∙ moved_none taking tally

@@ -5,13 +5,13 @@ use Rattle.fapp_model.specs.declared.literal.Literal.{Literal}
 use Rattle.fapp_model.specs.Instances.{IsInstance}
 use Rattle.fapp_model.specs.Levels.{levels_of}
 use Rattle.fapp_model.specs.search.Partials.{IsPartial}
-use Rattle.choice_counts.specs.declared.rows.Row.{Row}
+use Rattle.choice_counts.specs.declared.rows.PathTallies.{PathTallies}
 use Rattle.choice_counts.specs.declared.totals.Totals.{Totals}
 use Rattle.choice_counts.specs.ForwardStates.{AreSlots}
 use Rattle.choice_counts.specs.Kept.{AreKept}
 
 -- the counts of the literals, for a valid instance, and room for a literal of each path
-pub record IsForward (instance : Instance) (level : ℕ) (pushed : List Literal) (slots : List (Option ℕ)) (rows : List Row) (totals : Totals) (room : ℕ) : Type 0 where
+pub record IsForward (instance : Instance) (level : ℕ) (pushed : List Literal) (slots : List (Option ℕ)) (rows : List PathTallies) (totals : Totals) (room : ℕ) : Type 0 where
   pub valid : IsInstance instance
   pub low : level ≤ levels_of instance
   pub partial : IsPartial instance pushed

@@ -13,7 +13,7 @@ slot_after false a = Some a.choice
 abbrev pub slots_after : Bool → Literal → List (Option ℕ) → List (Option ℕ)
 slots_after taking a slots = slice_set slots a.path (slot_after taking a)
 
--- the two parts of a literal's word can be taken from the totals, or added to them
-pub record CanCount (taking : Bool) (totals : Totals) (word : ℕ) : Type 0 where
-  pub conflicts : CanMove taking totals.conflicts (word / HARD * 2)
-  pub inside : CanMove taking totals.twice_inside (word % HARD * 2)
+-- the two parts of a literal's tally can be taken from the totals, or added to them
+pub record CanCount (taking : Bool) (totals : Totals) (tally : ℕ) : Type 0 where
+  pub conflicts : CanMove taking totals.conflicts (tally / HARD * 2)
+  pub inside : CanMove taking totals.twice_inside (tally % HARD * 2)

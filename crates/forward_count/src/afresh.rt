@@ -1,8 +1,8 @@
 ghost use Rattle.std.specs.Prelude.{◌≡◌, ◌↔◌, ◌≤◌, ◌<◌, ◌+◌, ◌*◌, ◌^◌, Bool, length, slice_index, sum_by, IsTrue, if◌then◌else◌};
-ghost use Rattle.choice_counts.specs.Counts.{pair_word, slot_part, word_of, words_of};
+ghost use Rattle.choice_counts.specs.Counts.{pair_tally, slot_part, tally_of, tallies_of};
 ghost use Rattle.choice_counts.specs.CountedSums.{IsBound, IsCalm, RemainsAt};
 ghost use Rattle.choice_counts.specs.ForwardStates.{AreSlots};
-ghost use Rattle.choice_counts.specs.Words.{least_of, least_part};
+ghost use Rattle.choice_counts.specs.Tallies.{least_of, least_part};
 ghost use Rattle.dead_laws.specs.ArcLaws.{IsArcs};
 ghost use Rattle.fapp_model.specs.declared.limits.TheConstants.{MAX_PATHS};
 ghost use Rattle.fapp_model.specs.declared.literal.Literal.{Literal};
@@ -14,22 +14,22 @@ ghost use Rattle.fapp_tables.specs.Indexes.{neighbours_of};
 ghost use Rattle.forward_count.specs.Standing.{AllHaveLeft, AllStand, HasLeft};
 ghost use Rattle.nogood.specs.Partials.{Gives, choice_given};
 
-use crate::start::outside_word;
+use crate::start::outside_tally;
 use crate::step::{Step, count};
 use arc_levels::ArcTable;
-use choice_counts::{HARD, NO_WORD};
+use choice_counts::{HARD, NO_TALLY};
 use fapp_model::Literal;
 use fapp_tables::Tables;
 use nogood::Partial;
 use std::marker::Model;
 
-/// What the literal of a choice's neighbour, by its place among the neighbours, counts in the choice's word; 0 where the
+/// What the literal of a choice's neighbour, by its place among the neighbours, counts in the choice's tally; 0 where the
 /// neighbour has none.
-fn slot_word(step: &Step, partial: &Partial, place: usize) -> u64
+fn slot_tally(step: &Step, partial: &Partial, place: usize) -> u64
     requires instance { IsInstance step.now.tables.now }
     requires given { (a : Literal) → Gives partial.now a → IsLiteral step.now.tables.now a }
     requires place { place < length (neighbours_of step.now.tables.now step.now.literal.path) }
-    ensures word { result ≡ slot_part (pair_word step.now.tables.now step.now.level step.now.literal)
+    ensures tally { result ≡ slot_part (pair_tally step.now.tables.now step.now.level step.now.literal)
         (slice_index (neighbours_of step.now.tables.now step.now.literal.path) place)
         (choice_given partial.now (slice_index (neighbours_of step.now.tables.now step.now.literal.path) place)) }
     ensures small { result ≤ 2 ^ 49 }
@@ -39,7 +39,7 @@ fn slot_word(step: &Step, partial: &Partial, place: usize) -> u64
     match partial.get(other) {
         Some(index) => {
             let positions = step.tables.records_at(path, place);
-            step.pair_word(positions, other, u32::from(index))
+            step.pair_tally(positions, other, u32::from(index))
         }
         None => 0,
     }
@@ -95,29 +95,29 @@ impl<'a> Afresh<'a> {
         }
     }
 
-    /// A choice's word.
-    fn word(&self, path: u16, choice: u16) -> u64
+    /// A choice's tally.
+    fn tally(&self, path: u16, choice: u16) -> u64
         requires { IsLiteral self.now.instance (literal path choice) }
         ensures { (arc : Literal → Bool) → IsArcs self.now.instance self.now.level arc →
-            result ≡ word_of self.now.instance self.now.level arc self.now.pushed (literal path choice) }
+            result ≡ tally_of self.now.instance self.now.level arc self.now.pushed (literal path choice) }
     {
         let step = Step::new(self.tables, self.level, false, Literal { path, choice });
-        let mut word = outside_word(self.arcs, self.level, path, choice);
+        let mut tally = outside_tally(self.arcs, self.level, path, choice);
         for place in 0..self.tables.neighbours(path).len() {
-            word += slot_word(&step, self.partial, place);
+            tally += slot_tally(&step, self.partial, place);
         }
-        word
+        tally
     }
 
-    /// The least word of a path.
+    /// The least tally of a path.
     fn least(&self, path: u16) -> u64
         requires { path < length self.now.instance.paths }
         ensures { (arc : Literal → Bool) → IsArcs self.now.instance self.now.level arc →
-            result ≡ least_of (words_of self.now.instance self.now.level arc self.now.pushed path) }
+            result ≡ least_of (tallies_of self.now.instance self.now.level arc self.now.pushed path) }
     {
-        let mut least = NO_WORD;
+        let mut least = NO_TALLY;
         for choice in 0..count(self.tables.instance(), path) {
-            least = least.min(self.word(path, choice as u16));
+            least = least.min(self.tally(path, choice as u16));
         }
         least
     }
@@ -129,7 +129,7 @@ impl<'a> Afresh<'a> {
     {
         // The proof opens the fields' invariant here.
         let _ = &self.tables;
-        self.word(literal.path, literal.choice) < HARD
+        self.tally(literal.path, literal.choice) < HARD
     }
 
     /// Whether a path has a literal, or a choice that remains.
@@ -178,22 +178,22 @@ impl<'a> Afresh<'a> {
     fn twice_inside(&self) -> u64
         requires calm { IsCalm self.now.instance self.now.level self.now.pushed }
         ensures sum { (arc : Literal → Bool) → IsArcs self.now.instance self.now.level arc →
-            result ≡ sum_by (word_of self.now.instance self.now.level arc self.now.pushed) self.now.pushed }
+            result ≡ sum_by (tally_of self.now.instance self.now.level arc self.now.pushed) self.now.pushed }
         ensures small { result < 2 ^ 62 }
     {
         let mut sum = 0;
         for index in 0..self.pushed.len() {
             let literal = self.pushed[index];
-            sum += self.word(literal.path, literal.choice);
+            sum += self.tally(literal.path, literal.choice);
         }
         sum
     }
 
-    /// The least word of a path without a literal that has a choice left.
+    /// The least tally of a path without a literal that has a choice left.
     fn open_part(&self, path: u16) -> u64
         requires { path < length self.now.instance.paths }
         ensures part { (arc : Literal → Bool) → IsArcs self.now.instance self.now.level arc →
-            result ≡ (if names self.now.pushed path then 0 else least_part (least_of (words_of self.now.instance self.now.level arc self.now.pushed path))) }
+            result ≡ (if names self.now.pushed path then 0 else least_part (least_of (tallies_of self.now.instance self.now.level arc self.now.pushed path))) }
         ensures small { result ≤ HARD }
     {
         if self.partial.get(path).is_some() {
@@ -203,10 +203,10 @@ impl<'a> Afresh<'a> {
         if least < HARD { least } else { 0 }
     }
 
-    /// The least words of the paths without a literal, added.
+    /// The least tallies of the paths without a literal, added.
     fn open_least(&self) -> u64
         ensures sum { (arc : Literal → Bool) → IsArcs self.now.instance self.now.level arc →
-            result ≡ over_open self.now.instance self.now.pushed (λ path. least_part (least_of (words_of self.now.instance self.now.level arc self.now.pushed path))) }
+            result ≡ over_open self.now.instance self.now.pushed (λ path. least_part (least_of (tallies_of self.now.instance self.now.level arc self.now.pushed path))) }
         ensures small { result ≤ MAX_PATHS * HARD }
     {
         let mut sum = 0;

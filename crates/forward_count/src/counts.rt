@@ -2,8 +2,8 @@ ghost use Rattle.std.specs.Prelude.{◌≡◌, ◌≤◌, ◌<◌, ◌*◌, ◌/
 ghost use Rattle.std.specs.Option.{is_some};
 ghost use Rattle.choice_counts.specs.Moves.{CanMove, CanMoveAll, moved, rows_with};
 ghost use Rattle.choice_counts.specs.Totals.{AreRows, IsOpen};
-ghost use Rattle.choice_counts.specs.Words.{row_at, word_at};
-ghost use Rattle.choice_counts.specs.Tables.{words_at};
+ghost use Rattle.choice_counts.specs.Tallies.{tallies_at, tally_at};
+ghost use Rattle.choice_counts.specs.Tables.{tallies_at};
 ghost use Rattle.fapp_model.specs.Instances.{IsInstance};
 ghost use Rattle.forward_count.specs.Steps.{CanCount, slot_after, slots_after};
 ghost use Rattle.nogood.specs.Partials.{choice_given};
@@ -11,8 +11,8 @@ ghost use Rattle.nogood.specs.Partials.{choice_given};
 use crate::moves::move_all;
 use crate::rows::moved;
 use crate::step::Step;
-use choice_counts::{HARD, Open, Row, Totals};
-use choice_counts::WordTable;
+use choice_counts::{HARD, Open, PathTallies, Totals};
+use choice_counts::TallyTable;
 use nogood::Partial;
 
 /// Sets the literal's slot, or clears it.
@@ -28,22 +28,22 @@ fn set_slot(step: &Step, partial: &mut Partial)
 }
 
 /// The row of a path.
-pub fn row_at(rows: &[Row], path: u16) -> &Row
+pub fn tallies_at(rows: &[PathTallies], path: u16) -> &PathTallies
     requires { path < length rows.now }
-    ensures { result.now ≡ row_at rows.now path }
+    ensures { result.now ≡ tallies_at rows.now path }
 {
     &rows[path as usize]
 }
 
 /// What is counted for the open paths, with the literal's path among them again or without it.
-fn reopened(step: &Step, rows: &[Row], partial: &Partial, open_paths: Open) -> Open
+fn reopened(step: &Step, rows: &[PathTallies], partial: &Partial, open_paths: Open) -> Open
     requires rows { AreRows step.now.tables.now rows.now }
     requires slots { length partial.now ≡ length step.now.tables.now.paths }
     requires slot { is_some (choice_given partial.now step.now.literal.path) ≡ step.now.taking }
     requires open { IsOpen partial.now rows.now open_paths }
     ensures { IsOpen (slots_after step.now.taking step.now.literal partial.now) rows.now result }
 {
-    let least = row_at(rows, step.literal.path).least;
+    let least = tallies_at(rows, step.literal.path).least;
     if step.taking {
         open_paths.with(least)
     } else {
@@ -51,13 +51,13 @@ fn reopened(step: &Step, rows: &[Row], partial: &Partial, open_paths: Open) -> O
     }
 }
 
-/// The word of the literal's choice in its own path's row.
-fn own_word(step: &Step, rows: &[Row]) -> u64
+/// The tally of the literal's choice in its own path's row.
+fn own_tally(step: &Step, rows: &[PathTallies]) -> u64
     requires rows { AreRows step.now.tables.now rows.now }
-    ensures { result ≡ word_at (row_at rows.now step.now.literal.path).words step.now.literal.choice }
+    ensures { result ≡ tally_at (tallies_at rows.now step.now.literal.path).tallies step.now.literal.choice }
 {
-    row_at(rows, step.literal.path)
-        .words
+    tallies_at(rows, step.literal.path)
+        .tallies
         .get(step.literal.choice as usize)
 }
 
@@ -65,34 +65,34 @@ fn own_word(step: &Step, rows: &[Row]) -> u64
 /// have a literal or not; its own stays, since no record joins a path with itself.
 pub fn count_step(
     step: &Step,
-    words: &WordTable,
-    rows: &mut [Row],
+    tallies: &TallyTable,
+    rows: &mut [PathTallies],
     partial: &mut Partial,
     totals: Totals,
 ) -> Totals
-    requires words { words.now ≡ words_at step.now.tables.now step.now.level }
+    requires tallies { tallies.now ≡ tallies_at step.now.tables.now step.now.level }
     requires instance { IsInstance step.now.tables.now }
     requires rows { AreRows step.now.tables.now rows.old }
     requires slots { length partial.old ≡ length step.now.tables.now.paths }
     requires slot { is_some (choice_given partial.old step.now.literal.path) ≡ step.now.taking }
     requires can { CanMoveAll step.now.taking step.now.tables.now step.now.level step.now.literal rows.old }
-    requires fits { CanCount step.now.taking totals (word_at (row_at rows.old step.now.literal.path).words step.now.literal.choice) }
+    requires fits { CanCount step.now.taking totals (tally_at (tallies_at rows.old step.now.literal.path).tallies step.now.literal.choice) }
     requires open { IsOpen partial.old rows.old totals.open_paths }
     ensures slots { partial.new ≡ slots_after step.now.taking step.now.literal partial.old }
     ensures rows { rows.new ≡ rows_with step.now.taking step.now.tables.now step.now.level step.now.literal rows.old }
     ensures open { IsOpen partial.new rows.new result.open_paths }
     ensures conflicts { result.conflicts ≡ moved step.now.taking totals.conflicts
-        (word_at (row_at rows.old step.now.literal.path).words step.now.literal.choice / HARD * 2) }
+        (tally_at (tallies_at rows.old step.now.literal.path).tallies step.now.literal.choice / HARD * 2) }
     ensures inside { result.twice_inside ≡ moved step.now.taking totals.twice_inside
-        (word_at (row_at rows.old step.now.literal.path).words step.now.literal.choice % HARD * 2) }
+        (tally_at (tallies_at rows.old step.now.literal.path).tallies step.now.literal.choice % HARD * 2) }
 {
-    let word = own_word(step, rows);
+    let tally = own_tally(step, rows);
     let open_paths = reopened(step, rows, partial, totals.open_paths);
     set_slot(step, partial);
-    let conflicts = moved(step.taking, totals.conflicts, word / HARD * 2);
-    let twice_inside = moved(step.taking, totals.twice_inside, word % HARD * 2);
+    let conflicts = moved(step.taking, totals.conflicts, tally / HARD * 2);
+    let twice_inside = moved(step.taking, totals.twice_inside, tally % HARD * 2);
     Totals {
-        open_paths: move_all(step, words, rows, partial, open_paths),
+        open_paths: move_all(step, tallies, rows, partial, open_paths),
         conflicts,
         twice_inside,
     }

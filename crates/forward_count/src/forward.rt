@@ -2,7 +2,7 @@ ghost use Rattle.std.specs.Prelude.{◌≡◌, ◌≢◌, ◌↔◌, ◌<◌, �
 ghost use Rattle.std.specs.List.{remove};
 ghost use Rattle.choice_counts.specs.CountedSums.{IsBound, IsCalm, IsLeastSum, RemainsAt};
 ghost use Rattle.choice_counts.specs.ForwardStates.{AreSlots, at_level, nothing_pushed, with_literals, with_pushed, without_last, without_path};
-ghost use Rattle.choice_counts.specs.Words.{row_at, word_at};
+ghost use Rattle.choice_counts.specs.Tallies.{tallies_at, tally_at};
 ghost use Rattle.fapp_model.specs.Assignments.{count_at};
 ghost use Rattle.fapp_model.specs.InstanceTags.{IsTagFor};
 ghost use Rattle.fapp_model.specs.Instances.{IsInstance};
@@ -16,13 +16,13 @@ ghost use Rattle.fapp_model.specs.search.Weights.{added_pair};
 ghost use Rattle.fapp_tables.specs.Measures.{pair_code};
 
 use crate::afresh::Afresh;
-use crate::counts::{count_step, row_at};
+use crate::counts::{count_step, tallies_at};
 use crate::recount::{clear_slots, count_all};
 use crate::start::{blank_rows, start};
 use crate::step::Step;
 use arc_levels::ArcTable;
-use choice_counts::{HARD, Row, Totals};
-use choice_counts::WordTable;
+use choice_counts::{HARD, PathTallies, Totals};
+use choice_counts::TallyTable;
 use fapp_model::{Literal, NoMemory, S_SPAN, Tag, Triple, level_of, levels, triple_of};
 use fapp_tables::Tables;
 use nogood::Partial;
@@ -36,24 +36,24 @@ pub struct Forward<'a> {
     tables: &'a Tables<'a>,
     arcs: &'a ArcTable<'a>,
     level: u32,
-    words: WordTable<'a>,
+    tallies: TallyTable<'a>,
     pushed: Vec<Literal>,
     partial: Partial,
-    rows: Vec<Row>,
+    rows: Vec<PathTallies>,
     totals: Totals,
 }
 
 impl<'a> Model for Forward<'a> {
     ghost use Rattle.std.specs.Prelude.{◌≡◌, vec_capacity};
     ghost use Rattle.choice_counts.specs.ForwardStates.{ForwardState};
-    ghost use Rattle.choice_counts.specs.Tables.{words_at};
+    ghost use Rattle.choice_counts.specs.Tables.{tallies_at};
     ghost use Rattle.forward_count.specs.Forwards.{IsForward};
 
     ghost Value = { ForwardState };
 
     ghost view = { λ f. record { instance = f.tables.now; level = f.level; pushed = f.pushed.items } };
 
-    ghost invariant = { λ f. ((f.arcs.now ≡ f.tables.now) × (f.words ≡ words_at f.tables.now f.level)) × IsForward f.tables.now f.level f.pushed.items f.partial f.rows.items f.totals (vec_capacity f.pushed) };
+    ghost invariant = { λ f. ((f.arcs.now ≡ f.tables.now) × (f.tallies ≡ tallies_at f.tables.now f.level)) × IsForward f.tables.now f.level f.pushed.items f.partial f.rows.items f.totals (vec_capacity f.pushed) };
 }
 
 impl<'a> Forward<'a> {
@@ -71,7 +71,7 @@ impl<'a> Forward<'a> {
         let instance = tables.instance();
         let level = levels(instance);
         let paths = instance.paths.len();
-        let words = WordTable::new(alloc, tables, level)?;
+        let tallies = TallyTable::new(alloc, tables, level)?;
         let mut rows = blank_rows(alloc, instance)?;
         let partial = Partial::new(alloc, paths as u32)?;
         let pushed = Vec::with_capacity(alloc, paths)?;
@@ -80,7 +80,7 @@ impl<'a> Forward<'a> {
             tables,
             arcs,
             level,
-            words,
+            tallies,
             pushed,
             partial,
             rows,
@@ -133,7 +133,7 @@ impl<'a> Forward<'a> {
     }
 
     /// Counts at a level from now on. It costs nothing where that level is kept already; else a turn over all choices, the
-    /// words of neighbours by their distances, and as much as to push each literal again.
+    /// tallies of neighbours by their distances, and as much as to push each literal again.
     pub fn keep_level(&mut self, level: u32)
         requires { level ≤ levels_of self.old.instance }
         ensures { self.new ≡ at_level self.old level }
@@ -142,12 +142,12 @@ impl<'a> Forward<'a> {
             return;
         }
         let instance = self.tables.instance();
-        self.words.keep_level(level);
+        self.tallies.keep_level(level);
         clear_slots(&mut self.partial, instance.paths.len());
         let totals = start(instance, self.arcs, level, self.rows.as_mut_slice());
         self.totals = count_all(
             self.tables,
-            &self.words,
+            &self.tallies,
             level,
             self.pushed.as_slice(),
             self.rows.as_mut_slice(),
@@ -158,7 +158,7 @@ impl<'a> Forward<'a> {
     }
 
     /// Adds a literal. Of each neighbouring path it looks at the choices that are less than the pair's far distance away, and at
-    /// a few cells of the pair; at all choices once more where the least word was raised, up to one that is as low as it was.
+    /// a few cells of the pair; at all choices once more where the least tally was raised, up to one that is as low as it was.
     /// Where the cells would be too many, it reads the records between the two paths for each choice.
     pub fn push(&mut self, path: u16, choice: u16)
         requires path { path < length self.old.instance.paths }
@@ -170,7 +170,7 @@ impl<'a> Forward<'a> {
         let step = Step::new(self.tables, self.level, false, literal);
         self.totals = count_step(
             &step,
-            &self.words,
+            &self.tallies,
             self.rows.as_mut_slice(),
             &mut self.partial,
             self.totals,
@@ -178,7 +178,7 @@ impl<'a> Forward<'a> {
         let _ = self.pushed.push(literal);
     }
 
-    /// Takes back the last literal. It costs what `push` does, and looks for no least word.
+    /// Takes back the last literal. It costs what `push` does, and looks for no least tally.
     pub fn pop(&mut self)
         requires { 0 < length self.old.pushed }
         ensures { self.new ≡ without_last self.old }
@@ -202,7 +202,7 @@ impl<'a> Forward<'a> {
         requires choice { choice < count_at self.now.instance path }
         ensures { IsTrue result ↔ RemainsAt self.now.instance self.now.level self.now.pushed (literal path choice) }
     {
-        word_of(&self.rows, path, choice) < HARD
+        tally_of(&self.rows, path, choice) < HARD
     }
 
     /// What a choice adds against the literals at the level that is kept, whether it remains or not: violations one level
@@ -213,7 +213,7 @@ impl<'a> Forward<'a> {
         requires choice { choice < count_at self.now.instance path }
         ensures { result ≡ pair_code (added_pair self.now.instance self.now.level self.now.pushed (literal path choice)) }
     {
-        word_of(&self.rows, path, choice) % HARD
+        tally_of(&self.rows, path, choice) % HARD
     }
 
     /// The least that a remaining choice of a path adds at the level that is kept, as `sum_at` gives it. None where no
@@ -222,7 +222,7 @@ impl<'a> Forward<'a> {
         requires { path < length self.now.instance.paths }
         ensures { IsLeastSum self.now.instance self.now.level self.now.pushed path result }
     {
-        let least = row_at(&self.rows, path).least;
+        let least = tallies_at(&self.rows, path).least;
         if least < HARD { Some(least) } else { None }
     }
 
@@ -323,7 +323,7 @@ impl<'a> Forward<'a> {
         let step = Step::new(self.tables, self.level, true, literal);
         self.totals = count_step(
             &step,
-            &self.words,
+            &self.tallies,
             self.rows.as_mut_slice(),
             &mut self.partial,
             self.totals,
@@ -345,13 +345,13 @@ fn place_of(literals: &[Literal], path: u16) -> usize
     0
 }
 
-/// The word of a choice.
-fn word_of(rows: &[Row], path: u16, choice: u16) -> u64
+/// The tally of a choice.
+fn tally_of(rows: &[PathTallies], path: u16, choice: u16) -> u64
     requires path { path < length rows.now }
-    requires choice { choice < length (row_at rows.now path).words }
-    ensures { result ≡ word_at (row_at rows.now path).words choice }
+    requires choice { choice < length (tallies_at rows.now path).tallies }
+    ensures { result ≡ tally_at (tallies_at rows.now path).tallies choice }
 {
-    row_at(rows, path).words.get(choice as usize)
+    tallies_at(rows, path).tallies.get(choice as usize)
 }
 
 /// The limit of a tag as one number.

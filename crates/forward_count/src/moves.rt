@@ -1,9 +1,9 @@
 ghost use Rattle.std.specs.Prelude.{◌≡◌, ◌≢◌, ◌≤◌, ◌<◌, length, slice_set};
-ghost use Rattle.choice_counts.specs.Moves.{CanMoveAll, CanMoveRow, rows_with, words_with};
+ghost use Rattle.choice_counts.specs.Moves.{CanMoveAll, CanMoveRow, rows_with, tallies_with};
 ghost use Rattle.choice_counts.specs.Totals.{AreRows, IsOpen};
-ghost use Rattle.choice_counts.specs.Words.{row_at, row_by};
+ghost use Rattle.choice_counts.specs.Tallies.{tallies_at, tallies_by};
 ghost use Rattle.choice_counts.specs.Links.{IsLink};
-ghost use Rattle.choice_counts.specs.Tables.{words_at};
+ghost use Rattle.choice_counts.specs.Tables.{tallies_at};
 ghost use Rattle.fapp_model.specs.Assignments.{count_at};
 ghost use Rattle.fapp_model.specs.Instances.{IsInstance};
 ghost use Rattle.fapp_tables.specs.Indexes.{records_of};
@@ -11,11 +11,11 @@ ghost use Rattle.forward_count.specs.Floors.{IsFloor};
 
 use crate::rows::move_row;
 use crate::step::Step;
-use choice_counts::{Open, Row};
-use choice_counts::{Link, WordTable};
+use choice_counts::{Open, PathTallies};
+use choice_counts::{Link, TallyTable};
 use nogood::Partial;
 
-/// A row's least word before a change and after it.
+/// A row's least tally before a change and after it.
 #[derive(Clone, Copy, Debug)]
 struct Change {
     before: u64,
@@ -23,20 +23,20 @@ struct Change {
 }
 
 /// Changes the row of a neighbour by what a literal counts there.
-fn move_at(step: &Step, other: u16, positions: &[u32], link: &Link, rows: &mut [Row]) -> Change
+fn move_at(step: &Step, other: u16, positions: &[u32], link: &Link, rows: &mut [PathTallies]) -> Change
     requires instance { IsInstance step.now.tables.now }
     requires apart { step.now.literal.path ≢ other }
     requires other { other < length step.now.tables.now.paths }
     requires positions { positions.now ≡ records_of step.now.tables.now step.now.literal.path other }
     requires link { IsLink step.now.tables.now step.now.level step.now.literal.path other link.now }
     requires rows { length rows.old ≡ length step.now.tables.now.paths }
-    requires count { length (row_at rows.old other).words ≡ count_at step.now.tables.now other }
-    requires can { CanMoveRow step.now.taking step.now.tables.now step.now.level step.now.literal other (row_at rows.old other).words }
-    requires least { IsFloor (row_at rows.old other).words (row_at rows.old other).least }
+    requires count { length (tallies_at rows.old other).tallies ≡ count_at step.now.tables.now other }
+    requires can { CanMoveRow step.now.taking step.now.tables.now step.now.level step.now.literal other (tallies_at rows.old other).tallies }
+    requires least { IsFloor (tallies_at rows.old other).tallies (tallies_at rows.old other).least }
     ensures rows { rows.new ≡ slice_set rows.old other
-        (row_by (words_with step.now.taking step.now.tables.now step.now.level step.now.literal other (row_at rows.old other).words)) }
-    ensures before { result.before ≡ (row_at rows.old other).least }
-    ensures after { result.after ≡ (row_at rows.new other).least }
+        (tallies_by (tallies_with step.now.taking step.now.tables.now step.now.level step.now.literal other (tallies_at rows.old other).tallies)) }
+    ensures before { result.before ≡ (tallies_at rows.old other).least }
+    ensures after { result.after ≡ (tallies_at rows.new other).least }
 {
     let row = &mut rows[other as usize];
     let before = row.least;
@@ -53,7 +53,7 @@ fn refresh(
     other: u16,
     positions: &[u32],
     link: &Link,
-    rows: &mut [Row],
+    rows: &mut [PathTallies],
     partial: &Partial,
     open_paths: Open,
 ) -> Open
@@ -64,12 +64,12 @@ fn refresh(
     requires link { IsLink step.now.tables.now step.now.level step.now.literal.path other link.now }
     requires rows { length rows.old ≡ length step.now.tables.now.paths }
     requires slots { length partial.now ≡ length step.now.tables.now.paths }
-    requires count { length (row_at rows.old other).words ≡ count_at step.now.tables.now other }
-    requires can { CanMoveRow step.now.taking step.now.tables.now step.now.level step.now.literal other (row_at rows.old other).words }
-    requires least { IsFloor (row_at rows.old other).words (row_at rows.old other).least }
+    requires count { length (tallies_at rows.old other).tallies ≡ count_at step.now.tables.now other }
+    requires can { CanMoveRow step.now.taking step.now.tables.now step.now.level step.now.literal other (tallies_at rows.old other).tallies }
+    requires least { IsFloor (tallies_at rows.old other).tallies (tallies_at rows.old other).least }
     requires open { IsOpen partial.now rows.old open_paths }
     ensures rows { rows.new ≡ slice_set rows.old other
-        (row_by (words_with step.now.taking step.now.tables.now step.now.level step.now.literal other (row_at rows.old other).words)) }
+        (tallies_by (tallies_with step.now.taking step.now.tables.now step.now.level step.now.literal other (tallies_at rows.old other).tallies)) }
     ensures open { IsOpen partial.now rows.new result }
 {
     let change = move_at(step, other, positions, link, rows);
@@ -83,12 +83,12 @@ fn refresh(
 /// then.
 pub fn move_all(
     step: &Step,
-    words: &WordTable,
-    rows: &mut [Row],
+    tallies: &TallyTable,
+    rows: &mut [PathTallies],
     partial: &Partial,
     open_paths: Open,
 ) -> Open
-    requires words { words.now ≡ words_at step.now.tables.now step.now.level }
+    requires tallies { tallies.now ≡ tallies_at step.now.tables.now step.now.level }
     requires instance { IsInstance step.now.tables.now }
     requires rows { AreRows step.now.tables.now rows.old }
     requires slots { length partial.now ≡ length step.now.tables.now.paths }
@@ -102,7 +102,7 @@ pub fn move_all(
     let mut counted = open_paths;
     for place in 0..neighbours.len() {
         let positions = step.tables.records_at(path, place);
-        let link = words.link(path, place);
+        let link = tallies.link(path, place);
         counted = refresh(
             step,
             neighbours[place],

@@ -1,6 +1,6 @@
 ghost use Rattle.std.specs.Prelude.{◌≡◌, ◌≤◌, [], None, length, replicate};
 ghost use Rattle.choice_counts.specs.Kept.{AreKept};
-ghost use Rattle.choice_counts.specs.Tables.{words_at};
+ghost use Rattle.choice_counts.specs.Tables.{tallies_at};
 ghost use Rattle.fapp_model.specs.declared.limits.TheConstants.{MAX_PATHS};
 ghost use Rattle.fapp_model.specs.Instances.{IsInstance};
 ghost use Rattle.fapp_model.specs.Levels.{levels_of};
@@ -8,8 +8,8 @@ ghost use Rattle.fapp_model.specs.search.Partials.{IsPartial};
 
 use crate::counts::count_step;
 use crate::step::Step;
-use choice_counts::{Row, Totals};
-use choice_counts::WordTable;
+use choice_counts::{PathTallies, Totals};
+use choice_counts::TallyTable;
 use fapp_model::Literal;
 use fapp_tables::Tables;
 use nogood::Partial;
@@ -28,24 +28,24 @@ pub fn clear_slots(partial: &mut Partial, paths: usize)
 /// Counts literals one after another, where none is counted yet.
 pub fn count_all<'a>(
     tables: &'a Tables<'a>,
-    words: &WordTable,
+    tallies: &TallyTable,
     level: u32,
     literals: &[Literal],
-    rows: &mut [Row],
+    rows: &mut [PathTallies],
     partial: &mut Partial,
     totals: Totals,
 ) -> Totals
     requires instance { IsInstance tables.now }
     requires level { level ≤ levels_of tables.now }
     requires literals { IsPartial tables.now literals.now }
-    requires words { words.now ≡ words_at tables.now level }
+    requires tallies { tallies.now ≡ tallies_at tables.now level }
     requires kept { AreKept tables.now level [] partial.old rows.old totals }
     ensures { AreKept tables.now level literals.now partial.new rows.new result }
 {
     let mut counted = totals;
     for index in 0..literals.len() {
         let step = Step::new(tables, level, false, literals[index]);
-        counted = count_step(&step, words, rows, partial, counted);
+        counted = count_step(&step, tallies, rows, partial, counted);
     }
     counted
 }

@@ -1,7 +1,7 @@
 ghost use Rattle.std.specs.Prelude.{◌≡◌, ◌≤◌, ◌<◌, [], Bool, None, length, replicate, sum_by, IfOk};
-ghost use Rattle.choice_counts.specs.Counts.{rows_of, word_of, words_of};
+ghost use Rattle.choice_counts.specs.Counts.{rows_of, tally_of, tallies_of};
 ghost use Rattle.choice_counts.specs.Kept.{AreKept};
-ghost use Rattle.choice_counts.specs.Words.{least_part, row_by, stuck_part};
+ghost use Rattle.choice_counts.specs.Tallies.{least_part, tallies_by, stuck_part};
 ghost use Rattle.dead_laws.specs.ArcLaws.{IsArcs};
 ghost use Rattle.fapp_model.specs.declared.limits.TheConstants.{MAX_PATHS};
 ghost use Rattle.fapp_model.specs.declared.literal.Literal.{Literal};
@@ -13,31 +13,31 @@ ghost use Rattle.forward_count.specs.Starts.{AreShaped};
 
 use crate::step::count;
 use arc_levels::ArcTable;
-use choice_counts::{HARD, NO_WORD, Open, Row, Totals, Words};
+use choice_counts::{HARD, NO_TALLY, Open, PathTallies, Totals, Tallies};
 use fapp_model::{Instance, NoMemory};
 use std::alloc::Global;
 
-/// A row for each path, with a word for each choice, each of which is 0.
-pub fn blank_rows(alloc: Global, instance: &Instance) -> Result<Vec<Row>, NoMemory>
+/// A row for each path, with a tally for each choice, each of which is 0.
+pub fn blank_rows(alloc: Global, instance: &Instance) -> Result<Vec<PathTallies>, NoMemory>
     requires { IsInstance instance.now }
     ensures { IfOk result (λ rows. AreShaped instance.now rows.items (length instance.now.paths)) }
 {
     let mut rows = Vec::with_capacity(alloc, instance.paths.len())?;
     for path in 0..instance.paths.len() {
-        let words = vec![in alloc; 0u64; count(instance, path as u16) as usize]?;
-        rows.push(Row {
-            words: Words::from_vec(words),
+        let tallies = vec![in alloc; 0u64; count(instance, path as u16) as usize]?;
+        rows.push(PathTallies {
+            tallies: Tallies::from_vec(tallies),
             least: 0,
         })?;
     }
     Ok(rows)
 }
 
-/// The word of a choice where no literal counts in it.
-pub fn outside_word(arcs: &ArcTable, level: u32, path: u16, choice: u16) -> u64
+/// The tally of a choice where no literal counts in it.
+pub fn outside_tally(arcs: &ArcTable, level: u32, path: u16, choice: u16) -> u64
     requires level { level ≤ levels_of arcs.now }
     requires choice { IsLiteral arcs.now (literal path choice) }
-    ensures word { (arc : Literal → Bool) → IsArcs arcs.now level arc → result ≡ word_of arcs.now level arc [] (literal path choice) }
+    ensures tally { (arc : Literal → Bool) → IsArcs arcs.now level arc → result ≡ tally_of arcs.now level arc [] (literal path choice) }
     ensures small { result ≤ HARD }
 {
     if arcs.is_outside(level, path, choice) {
@@ -48,25 +48,25 @@ pub fn outside_word(arcs: &ArcTable, level: u32, path: u16, choice: u16) -> u64
 }
 
 /// Counts the arcs of a level alone in the row of a path.
-fn reset_row(instance: &Instance, arcs: &ArcTable, level: u32, path: u16, row: &mut Row)
+fn reset_row(instance: &Instance, arcs: &ArcTable, level: u32, path: u16, row: &mut PathTallies)
     requires instance { IsInstance instance.now }
     requires same { arcs.now ≡ instance.now }
     requires level { level ≤ levels_of instance.now }
     requires path { path < length instance.now.paths }
-    requires count { length row.old.words ≡ count_at instance.now path }
-    ensures { (arc : Literal → Bool) → IsArcs instance.now level arc → row.new ≡ row_by (words_of instance.now level arc [] path) }
+    requires count { length row.old.tallies ≡ count_at instance.now path }
+    ensures { (arc : Literal → Bool) → IsArcs instance.now level arc → row.new ≡ tallies_by (tallies_of instance.now level arc [] path) }
 {
-    let mut least = NO_WORD;
+    let mut least = NO_TALLY;
     for choice in 0..count(instance, path) {
-        let word = outside_word(arcs, level, path, choice as u16);
-        row.words.set(choice as usize, word);
-        least = least.min(word);
+        let tally = outside_tally(arcs, level, path, choice as u16);
+        row.tallies.set(choice as usize, tally);
+        least = least.min(tally);
     }
     row.least = least;
 }
 
 /// Counts the arcs of a level alone.
-pub fn reset_rows(instance: &Instance, arcs: &ArcTable, level: u32, rows: &mut [Row])
+pub fn reset_rows(instance: &Instance, arcs: &ArcTable, level: u32, rows: &mut [PathTallies])
     requires instance { IsInstance instance.now }
     requires same { arcs.now ≡ instance.now }
     requires level { level ≤ levels_of instance.now }
@@ -79,7 +79,7 @@ pub fn reset_rows(instance: &Instance, arcs: &ArcTable, level: u32, rows: &mut [
 }
 
 /// What is counted for the paths where none has a literal.
-fn open_of(rows: &[Row]) -> Open
+fn open_of(rows: &[PathTallies]) -> Open
     requires { length rows.now ≤ MAX_PATHS }
     ensures stuck { result.stuck ≡ sum_by (λ row. stuck_part row.least) rows.now }
     ensures least { result.least ≡ sum_by (λ row. least_part row.least) rows.now }
@@ -92,7 +92,7 @@ fn open_of(rows: &[Row]) -> Open
 }
 
 /// Counts no literal yet.
-pub fn start(instance: &Instance, arcs: &ArcTable, level: u32, rows: &mut [Row]) -> Totals
+pub fn start(instance: &Instance, arcs: &ArcTable, level: u32, rows: &mut [PathTallies]) -> Totals
     requires instance { IsInstance instance.now }
     requires same { arcs.now ≡ instance.now }
     requires level { level ≤ levels_of instance.now }

@@ -1,5 +1,5 @@
 ghost use Rattle.std.specs.Prelude.{◌≡◌, ◌≢◌, ◌≤◌, ◌<◌, ◌^◌, length};
-ghost use Rattle.choice_counts.specs.Counts.{pair_word};
+ghost use Rattle.choice_counts.specs.Counts.{pair_tally};
 ghost use Rattle.fapp_model.specs.declared.level.TheConstants.{MAX_LEVELS};
 ghost use Rattle.fapp_model.specs.declared.limits.TheConstants.{MAX_PATHS};
 ghost use Rattle.fapp_model.specs.Assignments.{count_at, path_at};
@@ -94,13 +94,13 @@ impl<'a> Step<'a> {
         choice_at(path_at(self.tables.instance(), other), index)
     }
 
-    /// What the literal counts in the word of a neighbour's choice, by the positions of the records between the two.
-    pub fn pair_word(&self, positions: &[u32], other: u16, index: u32) -> u64
+    /// What the literal counts in the tally of a neighbour's choice, by the positions of the records between the two.
+    pub fn pair_tally(&self, positions: &[u32], other: u16, index: u32) -> u64
         requires apart { self.now.literal.path ≢ other }
         requires other { other < length self.now.tables.now.paths }
         requires index { index < count_at self.now.tables.now other }
         requires positions { positions.now ≡ records_of self.now.tables.now self.now.literal.path other }
-        ensures word { result ≡ pair_word self.now.tables.now self.now.level (literal other index) self.now.literal }
+        ensures tally { result ≡ pair_tally self.now.tables.now self.now.level (literal other index) self.now.literal }
         ensures small { result ≤ 2 ^ 49 }
     {
         let second = self.choice_at(other, index);
@@ -111,6 +111,6 @@ impl<'a> Step<'a> {
             other,
             positions,
         };
-        pair.word(self.choice, second)
+        pair.tally(self.choice, second)
     }
 }

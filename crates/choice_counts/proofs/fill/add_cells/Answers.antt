@@ -22,7 +22,7 @@ pub returns-then-cell-eq-NO_REACH-clause-cells : goal.returns-then-cell-eq-NO_RE
 returns-then-cell-eq-NO_REACH-clause-cells c =
     let p = c.args.pair.now in
     extends_cells c.loop-step.cells c.cell-cell.result p.instance.now p.level p.path p.other c.loop-step.invariant.cells
-    (subst (λ (n : ℕ). IsCell p.instance.now p.level p.path p.other n c.cell-cell.result) (sym c.loop-step.invariant.reached) c.cell-cell.ensures.words)
+    (subst (λ (n : ℕ). IsCell p.instance.now p.level p.path p.other n c.cell-cell.result) (sym c.loop-step.invariant.reached) c.cell-cell.ensures.tallies)
     c.extend.new.self (c.extend.ensures.added c.if-not-extend.false)
 
 pub loop-step-preserved : goal.loop-step-preserved
@@ -30,7 +30,7 @@ loop-step-preserved c =
     let p = c.args.pair.now in
     record {
       cells = extends_cells c.loop-step.cells c.cell-cell.result p.instance.now p.level p.path p.other c.loop-step.invariant.cells
-          (subst (λ (n : ℕ). IsCell p.instance.now p.level p.path p.other n c.cell-cell.result) (sym c.loop-step.invariant.reached) c.cell-cell.ensures.words)
+          (subst (λ (n : ℕ). IsCell p.instance.now p.level p.path p.other n c.cell-cell.result) (sym c.loop-step.invariant.reached) c.cell-cell.ensures.tallies)
           c.extend.new.self (c.extend.ensures.added c.if-not-extend.false);
       reached = extends_end c.loop-step.cells c.cell-cell.result c.extend.new.self (c.extend.ensures.added c.if-not-extend.false);
     }

@@ -1,10 +1,10 @@
 use Rattle.std.proofs.Common.{◌≡◌, ◌<◌, Bool, true, false, length, sym, ap, ◌∙◌, subst, arith}
 use Rattle.std.specs.Option.{is_some}
 use Rattle.nogood.specs.Partials.{choice_given}
-use Rattle.choice_counts.specs.declared.rows.Row.{Row}
+use Rattle.choice_counts.specs.declared.rows.PathTallies.{PathTallies}
 use Rattle.choice_counts.specs.declared.rows.TheConstants.{HARD}
 use Rattle.choice_counts.specs.Totals.{IsOpen}
-use Rattle.choice_counts.specs.Words.{least_part, stuck_part}
+use Rattle.choice_counts.specs.Tallies.{least_part, stuck_part}
 use Rattle.choice_counts.proofs.OpenSums.{least_most, open_freed, open_most, open_part, open_taken, stuck_most}
 use Rattle.forward_count.specs.Steps.{slots_after}
 use Rattle.forward_count.proofs.counts.reopened.Goals as goal
@@ -22,14 +22,14 @@ without-requires-clause-stuck c =
     let path = c.args.step.now.literal.path in
     let inside : path < length c.args.partial.now = omega (arith, c.args.step.now.home.path, c.requires.slots) in
     let free : is_some (choice_given c.args.partial.now path) ≡ false = c.requires.slot ∙ c.if-step.false in
-    omega (arith, open_part stuck_part c.args.partial.now c.args.rows.now path inside free, ap (λ (r : Row). stuck_part r.least) c.row_at.ensures, c.requires.open.stuck)
+    omega (arith, open_part stuck_part c.args.partial.now c.args.rows.now path inside free, ap (λ (r : PathTallies). stuck_part r.least) c.tallies_at.ensures, c.requires.open.stuck)
 
 pub without-requires-clause-least : goal.without-requires-clause-least
 without-requires-clause-least c =
     let path = c.args.step.now.literal.path in
     let inside : path < length c.args.partial.now = omega (arith, c.args.step.now.home.path, c.requires.slots) in
     let free : is_some (choice_given c.args.partial.now path) ≡ false = c.requires.slot ∙ c.if-step.false in
-    omega (arith, open_part least_part c.args.partial.now c.args.rows.now path inside free, ap (λ (r : Row). least_part r.least) c.row_at.ensures, c.requires.open.least)
+    omega (arith, open_part least_part c.args.partial.now c.args.rows.now path inside free, ap (λ (r : PathTallies). least_part r.least) c.tallies_at.ensures, c.requires.open.least)
 
 pub returns-then-step : goal.returns-then-step
 returns-then-step c =
@@ -43,8 +43,8 @@ returns-then-step c =
     let least = open_freed least_part slots rows path inside taken in
     subst (λ (t : Bool). IsOpen (slots_after t step.literal slots) rows c.with.result) (sym c.if-step.true)
     (record {
-      stuck = omega (arith, stuck, ap (λ (r : Row). stuck_part r.least) c.row_at.ensures, c.requires.open.stuck, c.with.ensures.stuck);
-      least = omega (arith, least, ap (λ (r : Row). least_part r.least) c.row_at.ensures, c.requires.open.least, c.with.ensures.least);
+      stuck = omega (arith, stuck, ap (λ (r : PathTallies). stuck_part r.least) c.tallies_at.ensures, c.requires.open.stuck, c.with.ensures.stuck);
+      least = omega (arith, least, ap (λ (r : PathTallies). least_part r.least) c.tallies_at.ensures, c.requires.open.least, c.with.ensures.least);
     })
 
 pub returns-else-step : goal.returns-else-step
@@ -59,6 +59,6 @@ returns-else-step c =
     let least = open_taken least_part slots rows path step.literal.choice inside free in
     subst (λ (t : Bool). IsOpen (slots_after t step.literal slots) rows c.without.result) (sym c.if-step.false)
     (record {
-      stuck = omega (arith, stuck, ap (λ (r : Row). stuck_part r.least) c.row_at.ensures, c.requires.open.stuck, c.without.ensures.stuck);
-      least = omega (arith, least, ap (λ (r : Row). least_part r.least) c.row_at.ensures, c.requires.open.least, c.without.ensures.least);
+      stuck = omega (arith, stuck, ap (λ (r : PathTallies). stuck_part r.least) c.tallies_at.ensures, c.requires.open.stuck, c.without.ensures.stuck);
+      least = omega (arith, least, ap (λ (r : PathTallies). least_part r.least) c.tallies_at.ensures, c.requires.open.least, c.without.ensures.least);
     })

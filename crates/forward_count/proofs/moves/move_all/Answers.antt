@@ -3,9 +3,9 @@ use Rattle.std.proofs.lemmas.List.{take_all}
 use Rattle.fapp_model.specs.Assignments.{count_at}
 use Rattle.fapp_model.specs.search.Clashes.{shares_record}
 use Rattle.fapp_tables.specs.Indexes.{neighbours_of}
-use Rattle.choice_counts.specs.declared.rows.Row.{Row}
-use Rattle.choice_counts.specs.Moves.{CanMoveRow, words_with}
-use Rattle.choice_counts.specs.Words.{row_at, row_by}
+use Rattle.choice_counts.specs.declared.rows.PathTallies.{PathTallies}
+use Rattle.choice_counts.specs.Moves.{CanMoveRow, tallies_with}
+use Rattle.choice_counts.specs.Tallies.{tallies_at, tallies_by}
 use Rattle.forward_count.proofs.Added.{IsAdded, added_all, added_more, waits}
 use Rattle.forward_count.specs.Floors.{IsFloor}
 use Rattle.forward_count.proofs.RowLaws.{row_floor}
@@ -38,8 +38,8 @@ refresh-counted-requires-clause-count c =
     let q = get_or (neighbours_of step.tables.now step.literal.path) place 0 in
     let below = near_below step.tables.now step.literal.path place inside in
     let old = waits _ _ c.args.rows.now c.loop-place.rows c.loop-place.invariant.added q (omega (arith, below, c.requires.rows.count)) (near_new step.tables.now step.literal.path place inside) in
-    subst (λ (ns : List ℕ). length (row_at c.loop-place.rows (get_or ns place 0)).words ≡ count_at step.tables.now (get_or ns place 0)) (sym near)
-    (ap (λ (r : Row). length r.words) old ∙ c.requires.rows.words q below)
+    subst (λ (ns : List ℕ). length (tallies_at c.loop-place.rows (get_or ns place 0)).tallies ≡ count_at step.tables.now (get_or ns place 0)) (sym near)
+    (ap (λ (r : PathTallies). length r.tallies) old ∙ c.requires.rows.tallies q below)
 
 pub refresh-counted-requires-clause-can : goal.refresh-counted-requires-clause-can
 refresh-counted-requires-clause-can c =
@@ -50,8 +50,8 @@ refresh-counted-requires-clause-can c =
     let q = get_or (neighbours_of step.tables.now step.literal.path) place 0 in
     let below = near_below step.tables.now step.literal.path place inside in
     let old = waits _ _ c.args.rows.now c.loop-place.rows c.loop-place.invariant.added q (omega (arith, below, c.requires.rows.count)) (near_new step.tables.now step.literal.path place inside) in
-    subst (λ (ns : List ℕ). CanMoveRow step.taking step.tables.now step.level step.literal (get_or ns place 0) (row_at c.loop-place.rows (get_or ns place 0)).words) (sym near)
-    (subst (λ (r : Row). CanMoveRow step.taking step.tables.now step.level step.literal q r.words) (sym old) (c.requires.can q below))
+    subst (λ (ns : List ℕ). CanMoveRow step.taking step.tables.now step.level step.literal (get_or ns place 0) (tallies_at c.loop-place.rows (get_or ns place 0)).tallies) (sym near)
+    (subst (λ (r : PathTallies). CanMoveRow step.taking step.tables.now step.level step.literal q r.tallies) (sym old) (c.requires.can q below))
 
 pub refresh-counted-requires-clause-least : goal.refresh-counted-requires-clause-least
 refresh-counted-requires-clause-least c =
@@ -62,8 +62,8 @@ refresh-counted-requires-clause-least c =
     let q = get_or (neighbours_of step.tables.now step.literal.path) place 0 in
     let below = near_below step.tables.now step.literal.path place inside in
     let old = waits _ _ c.args.rows.now c.loop-place.rows c.loop-place.invariant.added q (omega (arith, below, c.requires.rows.count)) (near_new step.tables.now step.literal.path place inside) in
-    subst (λ (ns : List ℕ). IsFloor (row_at c.loop-place.rows (get_or ns place 0)).words (row_at c.loop-place.rows (get_or ns place 0)).least) (sym near)
-    (subst (λ (r : Row). IsFloor r.words r.least) (sym old) (row_floor c.args.rows.now c.requires.rows.least q (omega (arith, below, c.requires.rows.count))))
+    subst (λ (ns : List ℕ). IsFloor (tallies_at c.loop-place.rows (get_or ns place 0)).tallies (tallies_at c.loop-place.rows (get_or ns place 0)).least) (sym near)
+    (subst (λ (r : PathTallies). IsFloor r.tallies r.least) (sym old) (row_floor c.args.rows.now c.requires.rows.least q (omega (arith, below, c.requires.rows.count))))
 
 pub loop-place-preserved : goal.loop-place-preserved
 loop-place-preserved c =
@@ -75,16 +75,16 @@ loop-place-preserved c =
     let old = c.args.rows.now in
     let q = get_or ns place 0 in
     let q_is : get_or c.neighbours-neighbours.result.now place 0 ≡ q = ap (λ (xs : List ℕ). get_or xs place 0) near in
-    let made : ℕ → List ℕ = λ k. words_with step.taking step.tables.now step.level step.literal k (row_at old k).words in
+    let made : ℕ → List ℕ = λ k. tallies_with step.taking step.tables.now step.level step.literal k (tallies_at old k).tallies in
     let below = near_below step.tables.now step.literal.path place inside in
     let waiting = waits made (leads (take place ns)) old c.loop-place.rows c.loop-place.invariant.added q (omega (arith, below, c.requires.rows.count)) (near_new step.tables.now step.literal.path place inside) in
-    let row : Row = row_by (words_with step.taking step.tables.now step.level step.literal q (row_at c.loop-place.rows q).words) in
-    let is : row ≡ row_by (made q) = ap (λ (r : Row). row_by (words_with step.taking step.tables.now step.level step.literal q r.words)) waiting in
+    let row : PathTallies = tallies_by (tallies_with step.taking step.tables.now step.level step.literal q (tallies_at c.loop-place.rows q).tallies) in
+    let is : row ≡ tallies_by (made q) = ap (λ (r : PathTallies). tallies_by (tallies_with step.taking step.tables.now step.level step.literal q r.tallies)) waiting in
     let added = added_more made (leads (take place ns)) (leads (take (place + 1) ns)) old c.loop-place.rows q row c.loop-place.invariant.added (omega (arith, below, c.requires.rows.count))
     (leads_here ns place inside) (λ k other. leads_elsewhere ns place k inside other) is in
-    let written : c.refresh-counted.new.rows ≡ set c.loop-place.rows q row = c.refresh-counted.ensures.rows ∙ ap (λ (k : ℕ). set c.loop-place.rows k (row_by (words_with step.taking step.tables.now step.level step.literal k (row_at c.loop-place.rows k).words))) q_is in
+    let written : c.refresh-counted.new.rows ≡ set c.loop-place.rows q row = c.refresh-counted.ensures.rows ∙ ap (λ (k : ℕ). set c.loop-place.rows k (tallies_by (tallies_with step.taking step.tables.now step.level step.literal k (tallies_at c.loop-place.rows k).tallies))) q_is in
     record {
-      added = subst (λ (rs : List Row). IsAdded made (leads (take (place + 1) ns)) old rs) (sym written) added;
+      added = subst (λ (rs : List PathTallies). IsAdded made (leads (take (place + 1) ns)) old rs) (sym written) added;
       open_paths = c.refresh-counted.ensures.open;
     }
 
@@ -94,7 +94,7 @@ returns-clause-rows c =
     let near = c.neighbours-neighbours.ensures in
     let ns = neighbours_of step.tables.now step.literal.path in
     let old = c.args.rows.now in
-    let made : ℕ → List ℕ = λ k. words_with step.taking step.tables.now step.level step.literal k (row_at old k).words in
+    let made : ℕ → List ℕ = λ k. tallies_with step.taking step.tables.now step.level step.literal k (tallies_at old k).tallies in
     let past : length ns ≤ c.loop-place.place = omega (arith, ap (λ (xs : List ℕ). length xs) near) in
     let all = take_all c.loop-place.place ns past in
     added_all made (leads (take c.loop-place.place ns)) (shares_record step.tables.now step.literal.path) old c.loop-place.rows (length step.tables.now.paths) c.requires.rows.count c.loop-place.invariant.added

@@ -2,11 +2,11 @@ use Rattle.std.proofs.Common.{◌≡◌, false, true, List, set, sym, ap, ◌∙
 use Rattle.std.specs.Option.{is_some}
 use Rattle.std.proofs.lemmas.List.{get_or-set_same}
 use Rattle.nogood.specs.Partials.{choice_given}
-use Rattle.choice_counts.specs.declared.rows.Row.{Row}
+use Rattle.choice_counts.specs.declared.rows.PathTallies.{PathTallies}
 use Rattle.choice_counts.specs.declared.rows.TheConstants.{HARD}
-use Rattle.choice_counts.specs.Moves.{words_with}
+use Rattle.choice_counts.specs.Moves.{tallies_with}
 use Rattle.choice_counts.specs.Totals.{open_sum}
-use Rattle.choice_counts.specs.Words.{least_part, no_row, row_at, row_by, stuck_part}
+use Rattle.choice_counts.specs.Tallies.{least_part, no_tallies, tallies_at, tallies_by, stuck_part}
 use Rattle.choice_counts.proofs.OpenSums.{least_most, open_changed, open_kept, open_most, open_part, stuck_most}
 use Rattle.forward_count.proofs.moves.refresh.Goals as goal
 
@@ -35,9 +35,9 @@ returns-clause-open c =
     let other = c.args.other in
     let step = c.args.step.now in
     let free : is_some (choice_given slots other) ≡ false = sym (c.is_some.ensures ∙ ap is_some c.get.ensures) ∙ c.if-is_some.false in
-    let row : Row = row_by (words_with step.taking step.tables.now step.level step.literal other (row_at rows other).words) in
+    let row : PathTallies = tallies_by (tallies_with step.taking step.tables.now step.level step.literal other (tallies_at rows other).tallies) in
     let new : c.move_at-change.new.rows ≡ set rows other row = c.move_at-change.ensures.rows in
-    let after : c.move_at-change.result.after ≡ row.least = c.move_at-change.ensures.after ∙ (ap (λ (rs : List Row). (row_at rs other).least) new ∙ ap (λ (r : Row). r.least) (get_or-set_same rows other row no_row (omega arith))) in
+    let after : c.move_at-change.result.after ≡ row.least = c.move_at-change.ensures.after ∙ (ap (λ (rs : List PathTallies). (tallies_at rs other).least) new ∙ ap (λ (r : PathTallies). r.least) (get_or-set_same rows other row no_tallies (omega arith))) in
     let stuck = open_changed stuck_part slots rows other row (omega arith) (omega arith) free in
     let least = open_changed least_part slots rows other row (omega arith) (omega arith) free in
     record {
@@ -52,7 +52,7 @@ returns-then-is_some-clause-open c =
     let other = c.args.other in
     let step = c.args.step.now in
     let taken : is_some (choice_given slots other) ≡ true = sym (c.is_some.ensures ∙ ap is_some c.get.ensures) ∙ c.if-is_some.true in
-    let row : Row = row_by (words_with step.taking step.tables.now step.level step.literal other (row_at rows other).words) in
+    let row : PathTallies = tallies_by (tallies_with step.taking step.tables.now step.level step.literal other (tallies_at rows other).tallies) in
     let new : c.move_at-change.new.rows ≡ set rows other row = c.move_at-change.ensures.rows in
     record {
       stuck = c.requires.open.stuck ∙ sym (ap (open_sum stuck_part slots) new ∙ open_kept stuck_part slots rows other row taken);

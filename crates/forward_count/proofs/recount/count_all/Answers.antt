@@ -9,7 +9,7 @@ use Rattle.choice_counts.specs.Kept.{AreKept}
 use Rattle.choice_counts.specs.Moves.{CanMoveAll, moved, rows_with}
 use Rattle.choice_counts.specs.Totals.{AreRows}
 use Rattle.choice_counts.proofs.DeadByBound.{level_few}
-use Rattle.choice_counts.proofs.KeptLaws.{own_word}
+use Rattle.choice_counts.proofs.KeptLaws.{own_tally}
 use Rattle.forward_count.specs.Steps.{CanCount, slots_after}
 use Rattle.forward_count.proofs.StepLaws.{IsCounted, forward_rows, pushes, pushes_can, pushes_fit, pushes_slot, same_step}
 use Rattle.forward_count.proofs.TakeLaws.{forward_take, fresh_at}
@@ -38,7 +38,7 @@ count_step-counted-requires-clause-can c =
 
 pub count_step-counted-requires-clause-fits : goal.count_step-counted-requires-clause-fits
 count_step-counted-requires-clause-fits c =
-    same_step (λ t i k b rs. CanCount t c.loop-index.counted (own_word rs b)) c.new-step.result.taking false c.new-step.result.tables.now c.args.tables.now c.new-step.result.level c.args.level c.new-step.result.literal (get_or c.args.literals.now c.loop-index.index (literal 0 0)) c.loop-index.rows c.loop-index.rows
+    same_step (λ t i k b rs. CanCount t c.loop-index.counted (own_tally rs b)) c.new-step.result.taking false c.new-step.result.tables.now c.args.tables.now c.new-step.result.level c.args.level c.new-step.result.literal (get_or c.args.literals.now c.loop-index.index (literal 0 0)) c.loop-index.rows c.loop-index.rows
     c.new-step.ensures.taking c.new-step.ensures.tables c.new-step.ensures.level c.new-step.ensures.literal refl
     (pushes_fit c.args.tables.now c.args.level (take c.loop-index.index c.args.literals.now) c.loop-index.partial c.loop-index.rows c.loop-index.counted (length c.args.tables.now.paths) (forward_take c.args.tables.now c.args.level c.args.literals.now c.loop-index.index c.loop-index.partial c.loop-index.rows c.loop-index.counted c.requires.instance c.requires.level c.requires.literals (omega arith) c.loop-index.invariant) (get_or c.args.literals.now c.loop-index.index (literal 0 0)) (c.requires.literals.in_range c.loop-index.index (literal 0 0) c.loop-index-test.true) (fresh_at c.args.literals.now c.loop-index.index (literal 0 0) c.loop-index-test.true c.requires.literals.distinct))
 
@@ -53,9 +53,9 @@ loop-index-preserved c =
       rows_are = same_step (λ t i k b rs. now.new.rows ≡ rows_with t i k b rs) false c.new-step.result.taking c.args.tables.now c.new-step.result.tables.now c.args.level c.new-step.result.level (get_or c.args.literals.now c.loop-index.index (literal 0 0)) c.new-step.result.literal c.loop-index.rows c.loop-index.rows
           (sym c.new-step.ensures.taking) (sym c.new-step.ensures.tables) (sym c.new-step.ensures.level) (sym c.new-step.ensures.literal) refl now.ensures.rows;
       open_paths = now.ensures.open;
-      conflicts = same_step (λ t i k b rs. now.result.conflicts ≡ moved t c.loop-index.counted.conflicts (own_word rs b / HARD * 2)) false c.new-step.result.taking c.args.tables.now c.new-step.result.tables.now c.args.level c.new-step.result.level (get_or c.args.literals.now c.loop-index.index (literal 0 0)) c.new-step.result.literal c.loop-index.rows c.loop-index.rows
+      conflicts = same_step (λ t i k b rs. now.result.conflicts ≡ moved t c.loop-index.counted.conflicts (own_tally rs b / HARD * 2)) false c.new-step.result.taking c.args.tables.now c.new-step.result.tables.now c.args.level c.new-step.result.level (get_or c.args.literals.now c.loop-index.index (literal 0 0)) c.new-step.result.literal c.loop-index.rows c.loop-index.rows
           (sym c.new-step.ensures.taking) (sym c.new-step.ensures.tables) (sym c.new-step.ensures.level) (sym c.new-step.ensures.literal) refl now.ensures.conflicts;
-      inside = same_step (λ t i k b rs. now.result.twice_inside ≡ moved t c.loop-index.counted.twice_inside (own_word rs b % HARD * 2)) false c.new-step.result.taking c.args.tables.now c.new-step.result.tables.now c.args.level c.new-step.result.level (get_or c.args.literals.now c.loop-index.index (literal 0 0)) c.new-step.result.literal c.loop-index.rows c.loop-index.rows
+      inside = same_step (λ t i k b rs. now.result.twice_inside ≡ moved t c.loop-index.counted.twice_inside (own_tally rs b % HARD * 2)) false c.new-step.result.taking c.args.tables.now c.new-step.result.tables.now c.args.level c.new-step.result.level (get_or c.args.literals.now c.loop-index.index (literal 0 0)) c.new-step.result.literal c.loop-index.rows c.loop-index.rows
           (sym c.new-step.ensures.taking) (sym c.new-step.ensures.tables) (sym c.new-step.ensures.level) (sym c.new-step.ensures.literal) refl now.ensures.inside;
     } in
     let after = pushes c.args.tables.now c.args.level (take c.loop-index.index c.args.literals.now) c.loop-index.partial c.loop-index.rows c.loop-index.counted (length c.args.tables.now.paths) before a (c.requires.literals.in_range c.loop-index.index (literal 0 0) c.loop-index-test.true) (fresh_at c.args.literals.now c.loop-index.index (literal 0 0) c.loop-index-test.true c.requires.literals.distinct) now.new.partial now.new.rows now.result (length c.args.tables.now.paths) (omega arith) counted in

@@ -1,5 +1,5 @@
 use Rattle.fapp_model.specs.search.Partials.{literal}
-use Rattle.choice_counts.specs.Counts.{pair_word}
+use Rattle.choice_counts.specs.Counts.{pair_tally}
 use Rattle.choice_counts.specs.Moves.{moved}
 use Rattle.forward_count.specs.Floors.{IsFloor}
 use Rattle.forward_count.proofs.RowLaws.{IsMapped}
@@ -7,6 +7,6 @@ use Rattle.forward_count.proofs.rows.move_by_records.Given as goal
 
 abbrev pub invariant-loop-index : goal.invariant-loop-index
 invariant-loop-index l = record {
-  mapped : IsMapped (λ k word. moved l.step.taking word (pair_word l.step.tables.now l.step.level (literal l.other k) l.step.literal)) l.fn.words l.words l.index;
-  floor : IsFloor l.words l.lowest;
+  mapped : IsMapped (λ k tally. moved l.step.taking tally (pair_tally l.step.tables.now l.step.level (literal l.other k) l.step.literal)) l.fn.tallies l.tallies l.index;
+  floor : IsFloor l.tallies l.lowest;
 }

@@ -7,14 +7,14 @@ use Rattle.std.proofs.lemmas.List.Elements.{All-push}
 use Rattle.nogood.specs.Partials.{choice_given}
 use Rattle.fapp_model.specs.declared.literal.Literal.{Literal}
 use Rattle.fapp_model.specs.search.Partials.{literal, IsLiteral}
-use Rattle.choice_counts.specs.declared.rows.Row.{Row}
+use Rattle.choice_counts.specs.declared.rows.PathTallies.{PathTallies}
 use Rattle.choice_counts.specs.ForwardStates.{ForwardState, with_pushed}
 use Rattle.choice_counts.specs.Moves.{CanMoveAll, moved, rows_with}
 use Rattle.choice_counts.specs.Totals.{AreRows}
 use Rattle.choice_counts.specs.declared.rows.TheConstants.{HARD}
 use Rattle.choice_counts.proofs.Bounds.{distinct_push, few_literals}
 use Rattle.choice_counts.proofs.DeadByBound.{level_few}
-use Rattle.choice_counts.proofs.KeptLaws.{own_word}
+use Rattle.choice_counts.proofs.KeptLaws.{own_tally}
 use Rattle.forward_count.specs.Forwards.{IsForward}
 use Rattle.forward_count.specs.Steps.{CanCount, slots_after}
 use Rattle.forward_count.proofs.StepLaws.{IsCounted, forward_rows, home_of, pushes, pushes_can, pushes_fit, pushes_slot, same_step, unset_of}
@@ -54,7 +54,7 @@ count_step-self-inside-requires-clause-fits c =
     let s = c.self.inside in
     let step = c.new-step in
     let a = literal c.args.path c.args.choice in
-    same_step (λ t i k b rs. CanCount t s.totals (own_word rs b)) step.result.taking false step.result.tables.now s.tables.now step.result.level s.level step.result.literal a c.as_mut_slice.result.now s.rows.items
+    same_step (λ t i k b rs. CanCount t s.totals (own_tally rs b)) step.result.taking false step.result.tables.now s.tables.now step.result.level s.level step.result.literal a c.as_mut_slice.result.now s.rows.items
     step.ensures.taking step.ensures.tables step.ensures.level step.ensures.literal c.as_mut_slice.ensures.value
     (pushes_fit s.tables.now s.level s.pushed.items s.partial s.rows.items s.totals s.pushed.cap c.self.invariant.1 a (home_of c.self.inside.tables.now c.self.inside.level c.self.inside.pushed.items c.args.self.now c.args.path c.args.choice c.self.view_is c.requires.path c.requires.choice) (unset_of c.self.inside.tables.now c.self.inside.level c.self.inside.pushed.items c.args.self.now c.args.path c.self.view_is c.requires.free))
 
@@ -84,15 +84,15 @@ invariant_of-self c =
       rows_are = same_step (λ t i k b rs. now.new.rows ≡ rows_with t i k b rs) false step.result.taking s.tables.now step.result.tables.now s.level step.result.level a step.result.literal s.rows.items c.as_mut_slice.result.now
           (sym step.ensures.taking) (sym step.ensures.tables) (sym step.ensures.level) (sym step.ensures.literal) (sym c.as_mut_slice.ensures.value) now.ensures.rows;
       open_paths = now.ensures.open;
-      conflicts = same_step (λ t i k b rs. now.result.conflicts ≡ moved t s.totals.conflicts (own_word rs b / HARD * 2)) false step.result.taking s.tables.now step.result.tables.now s.level step.result.level a step.result.literal s.rows.items c.as_mut_slice.result.now
+      conflicts = same_step (λ t i k b rs. now.result.conflicts ≡ moved t s.totals.conflicts (own_tally rs b / HARD * 2)) false step.result.taking s.tables.now step.result.tables.now s.level step.result.level a step.result.literal s.rows.items c.as_mut_slice.result.now
           (sym step.ensures.taking) (sym step.ensures.tables) (sym step.ensures.level) (sym step.ensures.literal) (sym c.as_mut_slice.ensures.value) now.ensures.conflicts;
-      inside = same_step (λ t i k b rs. now.result.twice_inside ≡ moved t s.totals.twice_inside (own_word rs b % HARD * 2)) false step.result.taking s.tables.now step.result.tables.now s.level step.result.level a step.result.literal s.rows.items c.as_mut_slice.result.now
+      inside = same_step (λ t i k b rs. now.result.twice_inside ≡ moved t s.totals.twice_inside (own_tally rs b % HARD * 2)) false step.result.taking s.tables.now step.result.tables.now s.level step.result.level a step.result.literal s.rows.items c.as_mut_slice.result.now
           (sym step.ensures.taking) (sym step.ensures.tables) (sym step.ensures.level) (sym step.ensures.literal) (sym c.as_mut_slice.ensures.value) now.ensures.inside;
     } in
     let after = pushes s.tables.now s.level s.pushed.items s.partial s.rows.items s.totals s.pushed.cap c.self.invariant.1 a (home_of c.self.inside.tables.now c.self.inside.level c.self.inside.pushed.items c.args.self.now c.args.path c.args.choice c.self.view_is c.requires.path c.requires.choice) (unset_of c.self.inside.tables.now c.self.inside.level c.self.inside.pushed.items c.args.self.now c.args.path c.self.view_is c.requires.free) now.new.partial now.new.rows now.result c.push.new.self.cap c.push.ensures.capacity counted in (
       c.self.invariant.0,
       subst (λ (ls : List Literal). IsForward s.tables.now s.level ls now.new.partial (take s.rows.len (now.new.rows ++ drop (length now.new.rows) s.rows.items)) now.result c.push.new.self.cap) (sym (stored c))
-          (subst (λ (rs : List Row). IsForward s.tables.now s.level (s.pushed.items ++ a ∷ []) now.new.partial rs now.result c.push.new.self.cap) (sym written) after),
+          (subst (λ (rs : List PathTallies). IsForward s.tables.now s.level (s.pushed.items ++ a ∷ []) now.new.partial rs now.result c.push.new.self.cap) (sym written) after),
     )
 
 pub returns : goal.returns

@@ -1,4 +1,4 @@
--- What two choices count in each other's words is a matter of how far apart they are, and whether their polarizations are
+-- What two choices count in each other's tallies is a matter of how far apart they are, and whether their polarizations are
 -- equal.
 use Rattle.std.proofs.Common.{◌≡◌, ◌≢◌, ◌⊎◌, ℕ, ◌+◌, ◌*◌, ◌<◌, ◌≤◌, Bool, true, false, cond, ltb, ◌&&◌, ◌||◌, ◌-◌, slice_index, get_or, ◌==◌, not, List, refl, sym, ap, ◌∙◌, inl, inr, arith, count_by, All}
 use Rattle.std.specs.Int.{abs_diff}
@@ -18,10 +18,10 @@ use Rattle.fapp_tables.specs.Indexes.{between_choices, record_at, records_of, tu
 use Rattle.fapp_tables.specs.Measures.{both_between, coded_part, hard_part}
 use Rattle.fapp_tables.proofs.PairLaws.{both_is, over_positions}
 use Rattle.choice_counts.specs.declared.rows.TheConstants.{HARD}
-use Rattle.choice_counts.specs.Counts.{pair_word}
+use Rattle.choice_counts.specs.Counts.{pair_tally}
 use Rattle.choice_counts.proofs.Clash.{clash_found, flag, pair_turned}
 use Rattle.choice_counts.specs.Breaks.{IsSteady}
-use Rattle.choice_counts.specs.Distances.{choices_word, far, near, word_apart, word_by}
+use Rattle.choice_counts.specs.Distances.{choices_tally, far, near, tally_apart, tally_by}
 
 -- ---- a record says the same of two choices in either order
 
@@ -88,23 +88,23 @@ module _ (measure : Record → Choice → Choice → ℕ) (keeps : (r : Record) 
 
 module _ (instance : Instance) (level path other : ℕ) (apart : path ≢ other) where
   -- choices of which each record between two paths says the same count the same
-  pub words_same : (a b x y : Choice) → All (λ k. SaysSame (record_at instance k) a b x y) (records_of instance path other) →
-      choices_word instance level path other a b ≡ choices_word instance level path other x y
-  words_same a b x y all =
-      ap (λ h. word_by h (between_choices instance (coded_part level) path other a b)) (between_same (hard_part level) (hard_same level) instance path other apart a b x y all)
-      ∙ ap (word_by (between_choices instance (hard_part level) path other x y)) (between_same (coded_part level) (further_same level) instance path other apart a b x y all)
+  pub tallies_same : (a b x y : Choice) → All (λ k. SaysSame (record_at instance k) a b x y) (records_of instance path other) →
+      choices_tally instance level path other a b ≡ choices_tally instance level path other x y
+  tallies_same a b x y all =
+      ap (λ h. tally_by h (between_choices instance (coded_part level) path other a b)) (between_same (hard_part level) (hard_same level) instance path other apart a b x y all)
+      ∙ ap (tally_by (between_choices instance (hard_part level) path other x y)) (between_same (coded_part level) (further_same level) instance path other apart a b x y all)
 
-  -- up to the reach of each record the words stay
-  pub words_steady : (start reach : ℕ) → All (λ k. IsSteady (record_at instance k) start reach) (records_of instance path other) →
-      (same : Bool) (d : ℕ) → start ≤ d → d < reach → word_apart instance level path other same d ≡ word_apart instance level path other same start
-  words_steady start reach all same d from below =
-      words_same near (far same d) near (far same start) (λ k e inside.
+  -- up to the reach of each record the tallies stay
+  pub tallies_steady : (start reach : ℕ) → All (λ k. IsSteady (record_at instance k) start reach) (records_of instance path other) →
+      (same : Bool) (d : ℕ) → start ≤ d → d < reach → tally_apart instance level path other same d ≡ tally_apart instance level path other same start
+  tallies_steady start reach all same d from below =
+      tallies_same near (far same d) near (far same start) (λ k e inside.
       let steady = all k e inside in
       record { broken = steady.broken same d from below; bad = λ m. steady.bad m same d from below })
 
   -- two choices count what those as far apart do
-  pub words_apart : (a b : Choice) (same : Bool) (d : ℕ) → same_polarization a b ≡ same → distance a b ≡ d → choices_word instance level path other a b ≡ word_apart instance level path other same d
-  words_apart a b same d es ed = words_same a b near (far same d) (λ k e inside. says_apart (record_at instance (get_or (records_of instance path other) k e)))
+  pub tallies_apart : (a b : Choice) (same : Bool) (d : ℕ) → same_polarization a b ≡ same → distance a b ≡ d → choices_tally instance level path other a b ≡ tally_apart instance level path other same d
+  tallies_apart a b same d es ed = tallies_same a b near (far same d) (λ k e inside. says_apart (record_at instance (get_or (records_of instance path other) k e)))
     where
       near_far : (t : Bool) → same_polarization near (far t d) ≡ t
       near_far true = refl
@@ -127,11 +127,11 @@ module _ (instance : Instance) (level path other : ℕ) (apart : path ≢ other)
       says_apart (Same i j dist) = record { broken = refl; bad = λ m. ap (λ t. t && is_closer m dist a b) polarizations ∙ ap (λ n. same_polarization near (far same d) && ltb n (slice_index dist m)) distances }
       says_apart (Other i j dist) = record { broken = refl; bad = λ m. ap (λ t. not t && is_closer m dist a b) polarizations ∙ ap (λ n. not (same_polarization near (far same d)) && ltb n (slice_index dist m)) distances }
 
--- the word of two literals, by their choices
-pub word_is : (instance : Instance) (level : ℕ) (a b : Literal) → choices_word instance level a.path b.path (choice_of instance a) (choice_of instance b) ≡ pair_word instance level b a
-word_is instance level a b =
-    ap (λ h. word_by h (between_choices instance (coded_part level) a.path b.path (choice_of instance a) (choice_of instance b))) (sym (both_is instance (hard_part level) a b))
-    ∙ (ap (word_by (both_between instance (hard_part level) a b)) (sym (both_is instance (coded_part level) a b))
+-- the tally of two literals, by their choices
+pub tally_is : (instance : Instance) (level : ℕ) (a b : Literal) → choices_tally instance level a.path b.path (choice_of instance a) (choice_of instance b) ≡ pair_tally instance level b a
+tally_is instance level a b =
+    ap (λ h. tally_by h (between_choices instance (coded_part level) a.path b.path (choice_of instance a) (choice_of instance b))) (sym (both_is instance (hard_part level) a b))
+    ∙ (ap (tally_by (both_between instance (hard_part level) a b)) (sym (both_is instance (coded_part level) a b))
     ∙ (by_cases (ltb 0 (both_between instance (hard_part level) a b)) (both_between instance (coded_part level) a b)
     ∙ (ap (λ t. flag t * HARD + both_between instance (coded_part level) a b) (sym (clash_found instance level a b)) ∙ pair_turned instance level a b)))
   where
