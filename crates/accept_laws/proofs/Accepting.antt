@@ -28,9 +28,9 @@ use Rattle.cert_lines.specs.acceptance.Accepts.{answer_fault}
 use Rattle.accept_laws.specs.Answers.{HasNoFault, IsRight, Shows}
 use Rattle.cert_lines.specs.acceptance.Deleted.{kept}
 use Rattle.cert_lines.specs.acceptance.LineFaults.{lines_fault, rejected_at}
-use Rattle.accept_laws.specs.Lines.{IsImplied}
+use Rattle.accept_laws.specs.Lines.{IsLineImplied}
 use Rattle.cert_lines.specs.acceptance.PlanFaults.{demanded, indices, is_same_triple, plan_fault, shown_fault_by}
-use Rattle.cert_lines.specs.acceptance.RootFaults.{greater, is_root, root_fault, root_fault_by, root_tag, tag_by, tag_for, verdict_tag, with_line}
+use Rattle.cert_lines.specs.acceptance.RootFaults.{greater, is_root, root_fault, root_fault_by, root_tag, tag_by, tag_for, verdict_tag, with_root_line}
 use Rattle.accept_laws.proofs.CodeOrder.{codes-at_most}
 use Rattle.cert_lines.proofs.Deleting.{all-kept, entries-of}
 use Rattle.accept_laws.proofs.GoodLines.{clean-lines, good-none, good-lines}
@@ -55,16 +55,16 @@ module _ (instance : Instance) where
       by_order true = g
       by_order false = h
 
-  step : (found : Option Tag) (line : Line) → IsRootImplied instance found → IsImplied instance line → (b : Bool) → is_root line ≡ b → IsRootImplied instance (cond b (Some (greater found line.tag)) found)
+  step : (found : Option Tag) (line : Line) → IsRootImplied instance found → IsLineImplied instance line → (b : Bool) → is_root line ≡ b → IsRootImplied instance (cond b (Some (greater found line.tag)) found)
   step found line h g true e = greater-implied found line.tag h (subst (Implied instance (triple_from line.tag.code)) (no-literals line.lits e) g)
   step found line h g false e = h
 
-  roots-implied : (found : Option Tag) (lines : List Line) → IsRootImplied instance found → All (IsImplied instance) lines → IsRootImplied instance (fold with_line found lines)
+  roots-implied : (found : Option Tag) (lines : List Line) → IsRootImplied instance found → All (IsLineImplied instance) lines → IsRootImplied instance (fold with_root_line found lines)
   roots-implied found [] h all = h
   roots-implied found (line ∷ lines) h all =
-      roots-implied (with_line found line) lines (step found line h (All-head (IsImplied instance) line lines all) (is_root line) refl) (All-tail (IsImplied instance) line lines all)
+      roots-implied (with_root_line found line) lines (step found line h (All-head (IsLineImplied instance) line lines all) (is_root line) refl) (All-tail (IsLineImplied instance) line lines all)
 
-  pub root-implied : (lines : List Line) → All (IsImplied instance) lines → IsRootImplied instance (root_tag lines)
+  pub root-implied : (lines : List Line) → All (IsLineImplied instance) lines → IsRootImplied instance (root_tag lines)
   unfolding root_tag
   root-implied lines all = roots-implied None lines tt all
 
@@ -72,9 +72,9 @@ module _ (instance : Instance) where
   at-root claimed None h e = absurd (cc)
   at-root claimed (Some t) h e = Implied-lower instance (triple_from t.code) (triple_from claimed.code) [] (codes-at_most claimed.code t.code (leb-true _ _ (cause_unless-none _ _ e))) h
 
-  pub claimed-implied : (verdict : Verdict) (lines : List Line) → All (IsImplied instance) lines → root_fault instance verdict lines ≡ None → Implied instance (triple_from (verdict_tag instance verdict).code) []
+  pub claimed-implied : (verdict : Verdict) (lines : List Line) → All (IsLineImplied instance) lines → root_fault instance verdict lines ≡ None → Implied instance (triple_from (verdict_tag instance verdict).code) []
   unfolding root_fault
-  claimed-implied verdict lines all e = at-root (verdict_tag instance verdict) (root_tag (kept lines)) (root-implied (kept lines) (all-kept (IsImplied instance) lines all)) e
+  claimed-implied verdict lines all e = at-root (verdict_tag instance verdict) (root_tag (kept lines)) (root-implied (kept lines) (all-kept (IsLineImplied instance) lines all)) e
 
 tag_by-code : (code : ℕ) (b : Bool) (h : is_code code ≡ b) → b ≡ true → (tag_by code b h).code ≡ code
 tag_by-code code true h e = refl

@@ -14,7 +14,7 @@ use Rattle.cert_lines.specs.declared.answer.Child.{Child}
 use Rattle.cert_lines.specs.declared.answer.Line.{Line}
 use Rattle.cert_lines.specs.declared.answer.Rule.{Rule}
 use Rattle.cert_lines.specs.declared.answer.Rule.TheVariants.{Branch, Count, Delete}
-use Rattle.cert_lines.specs.WellFormed.{IsChild, IsDelete, IsEntry, IsLine, IsRule}
+use Rattle.cert_lines.specs.WellFormed.{IsChild, IsDelete, IsLineOrDelete, IsLine, IsRule}
 use Rattle.cert_lines.specs.acceptance.Excluded.{line_at, no_line}
 use Rattle.cert_lines.specs.Renumbering.{cited, renumbered, renumbered_child, renumbered_rule}
 use Rattle.accept_laws.specs.Compacting.{IsCompactable, cites, compacted, compacted_at, compacted_number, compacted_to, delete_behind, delete_line, ended, is_cited_behind, is_empty, is_last_cite}
@@ -78,18 +78,18 @@ module _ (instance : Instance) (lines : List Line) (formed : All (IsLine instanc
     };
   }
 
-  behind-formed : (n : ℕ) → n ≤ length lines → All (IsEntry instance) (delete_behind lines n)
+  behind-formed : (n : ℕ) → n ≤ length lines → All (IsLineOrDelete instance) (delete_behind lines n)
   behind-formed n most = by_empty (is_empty (ended lines n))
     where
-      by_empty : (b : Bool) → All (IsEntry instance) (cond b [] (delete_line (map number (ended lines n)) ∷ []))
-      by_empty true = All-nil (IsEntry instance)
-      by_empty false = All-cons (IsEntry instance) (delete_line (map number (ended lines n))) [] (inr (delete-formed n most)) (All-nil (IsEntry instance))
+      by_empty : (b : Bool) → All (IsLineOrDelete instance) (cond b [] (delete_line (map number (ended lines n)) ∷ []))
+      by_empty true = All-nil (IsLineOrDelete instance)
+      by_empty false = All-cons (IsLineOrDelete instance) (delete_line (map number (ended lines n))) [] (inr (delete-formed n most)) (All-nil (IsLineOrDelete instance))
 
-  fronts-formed : (n : ℕ) → n ≤ length lines → All (IsEntry instance) (compacted_to lines n)
-  fronts-formed zero most = All-nil (IsEntry instance)
-  fronts-formed (suc n) most = All-append (IsEntry instance) (compacted_to lines n) (compacted_at lines (suc n)) (fronts-formed n (omega arith))
-      (All-cons (IsEntry instance) (renumbered number (line_at lines (suc n))) (delete_behind lines (suc n)) (inl (line-formed n (omega arith))) (behind-formed (suc n) (omega arith)))
+  fronts-formed : (n : ℕ) → n ≤ length lines → All (IsLineOrDelete instance) (compacted_to lines n)
+  fronts-formed zero most = All-nil (IsLineOrDelete instance)
+  fronts-formed (suc n) most = All-append (IsLineOrDelete instance) (compacted_to lines n) (compacted_at lines (suc n)) (fronts-formed n (omega arith))
+      (All-cons (IsLineOrDelete instance) (renumbered number (line_at lines (suc n))) (delete_behind lines (suc n)) (inl (line-formed n (omega arith))) (behind-formed (suc n) (omega arith)))
 
-pub compacted-formed : (instance : Instance) (lines : List Line) → All (IsLine instance) lines → IsNumber (length (compacted lines)) → ((n : ℕ) → 0 < n → n ≤ length lines → IsCompactable lines n) → All (IsEntry instance) (compacted lines)
+pub compacted-formed : (instance : Instance) (lines : List Line) → All (IsLine instance) lines → IsNumber (length (compacted lines)) → ((n : ℕ) → 0 < n → n ≤ length lines → IsCompactable lines n) → All (IsLineOrDelete instance) (compacted lines)
 unfolding compacted
 compacted-formed instance lines formed few ready = fronts-formed instance lines formed few ready (length lines) (omega arith)

@@ -20,7 +20,7 @@ use Rattle.cert_lines.specs.declared.answer.Child.{Child}
 use Rattle.cert_lines.specs.declared.answer.Line.{Line}
 use Rattle.cert_lines.specs.declared.answer.Rule.{Rule}
 use Rattle.cert_lines.specs.declared.answer.Rule.TheVariants.{Count, Branch, Delete}
-use Rattle.cert_lines.specs.WellFormed.{IsEntry, IsRule}
+use Rattle.cert_lines.specs.WellFormed.{IsLineOrDelete, IsRule}
 use Rattle.fapp_model.specs.search.Implied.{RulesOut}
 use Rattle.fapp_model.specs.search.Partials.{HasAll}
 use Rattle.fapp_model.proofs.Anys.{none-member, passing}
@@ -33,7 +33,7 @@ use Rattle.cert_lines.specs.acceptance.Contained.{has_all, has_all_but_one}
 use Rattle.cert_lines.specs.acceptance.Deleted.{deletes, is_deleted, kept}
 use Rattle.cert_lines.specs.acceptance.Excluded.{no_line, line_at, is_only, is_marked, is_cited, is_excluded}
 use Rattle.cert_lines.specs.acceptance.LineFaults.{first_of, cause_unless, cite_fault, child_fault, delete_fault, is_dead, is_settled, count_fault, branch_fault, rule_fault, line_fault, fault_at, lines_fault, rejected_at}
-use Rattle.accept_laws.specs.Lines.{AreGood, IsImplied}
+use Rattle.accept_laws.specs.Lines.{AreGood, IsLineImplied}
 use Rattle.accept_laws.proofs.CodeOrder.{codes-at_most}
 use Rattle.cert_lines.proofs.Deleting.{all-kept}
 use Rattle.accept_laws.proofs.Having.{has_all-each, only-literal, formed-partial}
@@ -66,8 +66,8 @@ good-cite earlier t contains n h =
 one-of-more : (a : Literal) (literals : List Literal) → HasAll (a ∷ literals) (a ∷ [])
 one-of-more a literals = All-cons (Contains (a ∷ literals)) a [] (0, omega arith, refl) (All-nil (Contains (a ∷ literals)))
 
-module _ (instance : Instance) (valid : IsInstance instance) (earlier : List Line) (implied : All (IsImplied instance) earlier) (t : Tag) (own : IsTagFor instance t) where
-  line-implied : (line : Line) → IsImplied instance line → t.code ≤ line.tag.code → Implied instance (triple_from t.code) line.lits
+module _ (instance : Instance) (valid : IsInstance instance) (earlier : List Line) (implied : All (IsLineImplied instance) earlier) (t : Tag) (own : IsTagFor instance t) where
+  line-implied : (line : Line) → IsLineImplied instance line → t.code ≤ line.tag.code → Implied instance (triple_from t.code) line.lits
   line-implied line h most = Implied-lower instance (triple_from line.tag.code) (triple_from t.code) line.lits (codes-at_most t.code line.tag.code most) h
 
   pub cite-implied : (contains : List Literal → Bool) (n : ℕ) → IsGoodCite earlier t contains n → Implied instance (triple_from t.code) (line_at earlier n).lits
@@ -77,7 +77,7 @@ module _ (instance : Instance) (valid : IsInstance instance) (earlier : List Lin
   marked-implied a literals h =
       let found = passing (λ line. is_only a line.lits && leb t.code line.tag.code) (kept earlier) h in
       let parts = and_parts (is_only a found.item.lits) (leb t.code found.item.tag.code) found.passes in
-      let one = line-implied found.item (All-contains (IsImplied instance) (kept earlier) found.item (all-kept (IsImplied instance) earlier implied) found.member) (leb-true _ _ parts.1) in
+      let one = line-implied found.item (All-contains (IsLineImplied instance) (kept earlier) found.item (all-kept (IsLineImplied instance) earlier implied) found.member) (leb-true _ _ parts.1) in
       Implied-more instance (triple_from t.code) (a ∷ []) (a ∷ literals) (one-of-more a literals)
       (subst (Implied instance (triple_from t.code)) (only-literal a found.item.lits parts.0) one)
 
@@ -162,13 +162,13 @@ module _ (instance : Instance) (valid : IsInstance instance) (earlier : List Lin
 zero-implied : (instance : Instance) (code : ℕ) (literals : List Literal) → code ≡ 0 → Implied instance (triple_from code) literals
 zero-implied instance code literals e = λ plan feasible extends below. nothing_below (cost instance plan) (subst (λ c. IsBelow (cost instance plan) (triple_from c)) e below)
 
-pub good-line : (instance : Instance) → IsInstance instance → (earlier : List Line) → All (IsImplied instance) earlier → (line : Line) → IsEntry instance line → line_fault instance earlier line ≡ None → IsImplied instance line
+pub good-line : (instance : Instance) → IsInstance instance → (earlier : List Line) → All (IsLineImplied instance) earlier → (line : Line) → IsLineOrDelete instance line → line_fault instance earlier line ≡ None → IsLineImplied instance line
 unfolding line_fault
 good-line instance valid earlier implied line (inr deleting) h = zero-implied instance line.tag.code line.lits deleting.tag
 good-line instance valid earlier implied line (inl formed) h =
     by_code (eqb line.tag.code 0) refl (neither (first_of (delete_fault earlier) (deletes line.rule)) (cond (eqb line.tag.code 0) None (rule_fault instance earlier line.tag line.lits line.rule)) h).1
   where
-    by_code : (b : Bool) → eqb line.tag.code 0 ≡ b → cond b None (rule_fault instance earlier line.tag line.lits line.rule) ≡ None → IsImplied instance line
+    by_code : (b : Bool) → eqb line.tag.code 0 ≡ b → cond b None (rule_fault instance earlier line.tag line.lits line.rule) ≡ None → IsLineImplied instance line
     by_code true e g = zero-implied instance line.tag.code line.lits (eqb-true _ _ e)
     by_code false e g = rule-implied instance valid earlier implied line.tag formed.tag line.lits line.rule (formed-partial instance line.lits formed.lits) formed.rule g
 
@@ -192,15 +192,15 @@ pub good-none : (instance : Instance) (lines : List Line) → AreGood instance l
 unfolding lines_fault
 good-none instance lines good = none-first_of (fault_at instance lines) (range_with_len 0 (length lines)) (All-range (λ k. fault_at instance lines k ≡ None) (length lines) good)
 
-pub good-lines : (instance : Instance) (lines : List Line) → IsInstance instance → All (IsEntry instance) lines → AreGood instance lines → All (IsImplied instance) lines
+pub good-lines : (instance : Instance) (lines : List Line) → IsInstance instance → All (IsLineOrDelete instance) lines → AreGood instance lines → All (IsLineImplied instance) lines
 good-lines instance lines valid formed good =
-    subst (All (IsImplied instance)) (take-whole lines)
-    (All-by-earlier (IsImplied instance) lines no_line each (length lines) (omega arith))
+    subst (All (IsLineImplied instance)) (take-whole lines)
+    (All-by-earlier (IsLineImplied instance) lines no_line each (length lines) (omega arith))
   where
     take-whole : (xs : List Line) → take (length xs) xs ≡ xs
     take-whole xs = take_all (length xs) xs (omega arith)
 
-    each : (n : ℕ) → n < length lines → All (IsImplied instance) (take n lines) → IsImplied instance (get_or lines n no_line)
+    each : (n : ℕ) → n < length lines → All (IsLineImplied instance) (take n lines) → IsLineImplied instance (get_or lines n no_line)
     each n small before =
         let clean = mapped-none (rejected_at (n + 1)) (line_fault instance (take n lines) (line_at lines (n + 1))) (good n small) in
         let same : n + 1 - 1 ≡ n = omega arith in

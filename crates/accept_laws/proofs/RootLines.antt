@@ -13,7 +13,7 @@ use Rattle.cert_lines.specs.declared.reject.RejectCause.TheVariants.{RootTagTooL
 use Rattle.cert_lines.specs.WellFormed.{IsLine}
 use Rattle.cert_lines.specs.acceptance.Deleted.{is_delete, is_deleted, kept}
 use Rattle.cert_lines.specs.acceptance.Excluded.{line_at, no_line}
-use Rattle.cert_lines.specs.acceptance.RootFaults.{greater, is_root, root_fault, root_fault_by, root_tag, verdict_tag, with_line}
+use Rattle.cert_lines.specs.acceptance.RootFaults.{greater, is_root, root_fault, root_fault_by, root_tag, verdict_tag, with_root_line}
 use Rattle.cert_lines.specs.Stripping.{stays, stripped, stripped_from, stripped_line}
 use Rattle.accept_laws.specs.Compacting.{compacted, compacted_number, compacted_to}
 use Rattle.accept_laws.proofs.Compacting.{new_line, one-stays, plain-at, plain-renumbered, stands-at, within}
@@ -44,22 +44,22 @@ greater-right (Some u) t = by_order (ltb u.code t.code) refl
     by_order true e = omega arith
     by_order false e = ltb-false u.code t.code e
 
-keeps-line : (code : ℕ) (found : Option Tag) (line : Line) → AtLeast code found → AtLeast code (with_line found line)
+keeps-line : (code : ℕ) (found : Option Tag) (line : Line) → AtLeast code found → AtLeast code (with_root_line found line)
 keeps-line code found line h = by_root (is_root line)
   where
     by_root : (b : Bool) → AtLeast code (let o : Option Tag = cond b (Some (greater found line.tag)) found in o)
     by_root true = greater-left code found line.tag h
     by_root false = h
 
-keeps-all : (code : ℕ) (lines : List Line) (found : Option Tag) → AtLeast code found → AtLeast code (fold with_line found lines)
+keeps-all : (code : ℕ) (lines : List Line) (found : Option Tag) → AtLeast code found → AtLeast code (fold with_root_line found lines)
 keeps-all code [] found h = h
-keeps-all code (line ∷ lines) found h = keeps-all code lines (with_line found line) (keeps-line code found line h)
+keeps-all code (line ∷ lines) found h = keeps-all code lines (with_root_line found line) (keeps-line code found line h)
 
-found-root : (lines : List Line) (found : Option Tag) (line : Line) → Contains lines line → is_root line ≡ true → AtLeast line.tag.code (fold with_line found lines)
+found-root : (lines : List Line) (found : Option Tag) (line : Line) → Contains lines line → is_root line ≡ true → AtLeast line.tag.code (fold with_root_line found lines)
 found-root [] found line m e = absurd (no_member line m)
 found-root (first ∷ lines) found line m e = ⊎_elim
-    (λ same. keeps-all line.tag.code lines (with_line found first) (subst (λ (x : Line). AtLeast line.tag.code (with_line found x)) (sym same) (rw e (greater-right found line.tag))))
-    (λ later. found-root lines (with_line found first) line later e)
+    (λ same. keeps-all line.tag.code lines (with_root_line found first) (subst (λ (x : Line). AtLeast line.tag.code (with_root_line found x)) (sym same) (rw e (greater-right found line.tag))))
+    (λ later. found-root lines (with_root_line found first) line later e)
     (front_or_behind first lines line m)
 
 enough : (claimed : Tag) (code : ℕ) (found : Option Tag) → claimed.code ≤ code → AtLeast code found → root_fault_by claimed found ≡ None
@@ -75,7 +75,7 @@ pub record IsRootOf (lines : List Line) (code : ℕ) : Type 0 where
 
 pub root-enough : (claimed : Tag) (lines : List Line) → IsRootOf lines claimed.code → root_fault_by claimed (root_tag lines) ≡ None
 unfolding root_tag
-root-enough claimed lines h = enough claimed h.line.tag.code (fold with_line None lines) h.reaches (found-root lines None h.line h.member h.root)
+root-enough claimed lines h = enough claimed h.line.tag.code (fold with_root_line None lines) h.reaches (found-root lines None h.line h.member h.root)
 
 -- ---- the other way round
 
@@ -98,9 +98,9 @@ module _ (all : List Line) where
       by_order true = g
       by_order false = h
 
-  tags-in : (lines : List Line) (found : Option Tag) → ((line : Line) → Contains lines line → Contains all line) → AreTags all found → AreTags all (fold with_line found lines)
+  tags-in : (lines : List Line) (found : Option Tag) → ((line : Line) → Contains lines line → Contains all line) → AreTags all found → AreTags all (fold with_root_line found lines)
   tags-in [] found inside h = h
-  tags-in (line ∷ lines) found inside h = tags-in lines (with_line found line) (λ x m. inside x (behind line lines x m)) (by_root (is_root line) refl)
+  tags-in (line ∷ lines) found inside h = tags-in lines (with_root_line found line) (λ x m. inside x (behind line lines x m)) (by_root (is_root line) refl)
     where
       by_root : (b : Bool) → is_root line ≡ b → AreTags all (let o : Option Tag = cond b (Some (greater found line.tag)) found in o)
       by_root true e = greater-in found line.tag h (record { line = line; member = inside line (at_front line lines); root = e; tag = refl })
@@ -108,7 +108,7 @@ module _ (all : List Line) where
 
 pub root-there : (claimed : Tag) (lines : List Line) → root_fault_by claimed (root_tag lines) ≡ None → IsRootOf lines claimed.code
 unfolding root_tag
-root-there claimed lines h = by_tag (fold with_line None lines) (tags-in lines lines None (λ x m. m) tt) h
+root-there claimed lines h = by_tag (fold with_root_line None lines) (tags-in lines lines None (λ x m. m) tt) h
   where
     by_tag : (found : Option Tag) → AreTags lines found → root_fault_by claimed found ≡ None → IsRootOf lines claimed.code
     by_tag None t h = absurd (cc)

@@ -32,7 +32,7 @@ use Rattle.fapp_model.proofs.Sums.{sum_by-same-members}
 use Rattle.cert_lines.specs.declared.answer.Verdict.TheVariants.{Best, NoneFeasible, Open}
 use Rattle.cert_lines.specs.declared.reject.RejectCause.{RejectCause}
 use Rattle.cert_lines.specs.declared.reject.RejectCause.TheVariants.{AssignmentLength, ChoiceNotInDomain, ImperativeBroken, TripleDiffers}
-use Rattle.cert_lines.specs.WellFormed.{IsShown}
+use Rattle.cert_lines.specs.WellFormed.{IsShownChoice}
 use Rattle.cert_lines.specs.acceptance.LineFaults.{cause_unless}
 use Rattle.cert_lines.specs.acceptance.PlanFaults.{all_offered, cost_fault, indices, is_offered, is_same_choice, is_same_triple, plan_fault, shown_at, shown_fault, shown_fault_by}
 use Rattle.accept_laws.specs.ShownPlans.{IsWellShown, NoPlanHasNoFault, shown}
@@ -96,20 +96,20 @@ module _ (path : Path) (home : IsPath path) where
   freq-number : (k : ℕ) → k < length path.freqs → IsNumber (get_or path.freqs k 0)
   freq-number k small = home.numbers k 0 small
 
-  fixed-shown : IsFixed path.pol → (index : ℕ) → index < length (choices path) → IsShown (choice path index)
+  fixed-shown : IsFixed path.pol → (index : ℕ) → index < length (choices path) → IsShownChoice (choice path index)
   fixed-shown fixed index small =
       let below : index < length path.freqs = (let e = fixed_count path fixed in omega arith) in
-      subst IsShown (sym (fixed_choice path index fixed below)) (record { freq = freq-number index below; pol = fixed })
+      subst IsShownChoice (sym (fixed_choice path index fixed below)) (record { freq = freq-number index below; pol = fixed })
 
-  free-shown : path.pol ≡ pos 0 → (index : ℕ) → index < length (choices path) → IsShown (choice path index)
+  free-shown : path.pol ≡ pos 0 → (index : ℕ) → index < length (choices path) → IsShownChoice (choice path index)
   free-shown free index small =
       let below : index < 2 * length path.freqs = (let e = free_count path free in omega arith) in
-      subst IsShown (sym (free_choice path index free below)) (record { freq = freq-number (index / 2) (omega arith); pol = signed (index % 2) (omega arith) })
+      subst IsShownChoice (sym (free_choice path index free below)) (record { freq = freq-number (index / 2) (omega arith); pol = signed (index % 2) (omega arith) })
 
-  choice-shown : (index : ℕ) → index < length (choices path) → IsShown (choice path index)
+  choice-shown : (index : ℕ) → index < length (choices path) → IsShownChoice (choice path index)
   choice-shown index small = by_pol home.polarization
     where
-      by_pol : IsPolarization path.pol → IsShown (choice path index)
+      by_pol : IsPolarization path.pol → IsShownChoice (choice path index)
       by_pol (inl minus) = fixed-shown (inl minus) index small
       by_pol (inr (inl free)) = free-shown free index small
       by_pol (inr (inr plus)) = fixed-shown (inr plus) index small
@@ -175,10 +175,10 @@ module _ (instance : Instance) (valid : IsInstance instance) (plan : List ℕ) (
   pub well-shown : IsWellShown instance plan
   well-shown = record {
     few = (let e = length-list in omega arith);
-    choices = All-from_members IsShown list (λ c m.
+    choices = All-from_members IsShownChoice list (λ c m.
         let found = from-map (chosen instance plan) (range_with_len 0 (length plan)) c m in
         let small : found.0 < length instance.paths = (let l = from-range (length plan) found.0 found.1 in let w = whole in omega arith) in
-        subst IsShown found.2 (choice-shown (path_at instance found.0) (path-home found.0 small) (slice_index plan found.0) (feasible.assignment.in_range found.0 small)));
+        subst IsShownChoice found.2 (choice-shown (path_at instance found.0) (path-home found.0 small) (slice_index plan found.0) (feasible.assignment.in_range found.0 small)));
     best = best-clean;
     open_at = open-clean;
   }

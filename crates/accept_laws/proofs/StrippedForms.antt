@@ -14,7 +14,7 @@ use Rattle.cert_lines.specs.declared.answer.Child.{Child}
 use Rattle.cert_lines.specs.declared.answer.Line.{Line}
 use Rattle.cert_lines.specs.declared.answer.Rule.{Rule}
 use Rattle.cert_lines.specs.declared.answer.Rule.TheVariants.{Branch, Count, Delete}
-use Rattle.cert_lines.specs.WellFormed.{IsChild, IsEntry, IsLine, IsRule}
+use Rattle.cert_lines.specs.WellFormed.{IsChild, IsLineOrDelete, IsLine, IsRule}
 use Rattle.cert_lines.specs.acceptance.Contained.{has_all_but_one}
 use Rattle.cert_lines.specs.acceptance.Deleted.{deletes}
 use Rattle.cert_lines.specs.acceptance.Excluded.{line_at, no_line}
@@ -26,7 +26,7 @@ use Rattle.accept_laws.proofs.GoodLines.{good-cite}
 use Rattle.accept_laws.proofs.Options.{first_of-none, mapped-none, neither}
 use Rattle.accept_laws.proofs.Stripping.{above-stays, stays-line}
 
-module _ (instance : Instance) (all : List Line) (formed : All (IsEntry instance) all) where
+module _ (instance : Instance) (all : List Line) (formed : All (IsLineOrDelete instance) all) where
   abbrev number : ℕ → ℕ
   number = stripped_number all
 
@@ -107,5 +107,5 @@ module _ (instance : Instance) (all : List Line) (formed : All (IsEntry instance
       at line (i, small, e) stay =
           let same : i + 1 - 1 ≡ i = omega arith in
           let here : get_or all (i + 1 - 1) no_line ≡ line = ap (λ m. get_or all m no_line) same ∙ (get_or_default all i no_line line small ∙ e) in
-          line-formed i small line (stays-line instance all formed line (All-contains (IsEntry instance) all line formed (i, small, e)) stay)
+          line-formed i small line (stays-line instance all formed line (All-contains (IsLineOrDelete instance) all line formed (i, small, e)) stay)
           (subst (λ l. line_fault instance (take i all) l ≡ None) here (mapped-none (rejected_at (i + 1)) (line_fault instance (take i all) (line_at all (i + 1))) (good i small)))

@@ -11,7 +11,7 @@ use Rattle.fapp_model.proofs.Members.{All-from_members, from-filter, from-map, i
 use Rattle.cert_lines.specs.declared.answer.Line.{Line}
 use Rattle.cert_lines.specs.declared.answer.Rule.{Rule}
 use Rattle.cert_lines.specs.declared.answer.Rule.TheVariants.{Branch, Count, Delete}
-use Rattle.cert_lines.specs.WellFormed.{IsEntry, IsLine}
+use Rattle.cert_lines.specs.WellFormed.{IsLineOrDelete, IsLine}
 use Rattle.cert_lines.specs.acceptance.Deleted.{deletes, is_delete, is_deleted, kept}
 use Rattle.cert_lines.specs.acceptance.Excluded.{is_marked, is_only, line_at, no_line}
 use Rattle.cert_lines.specs.acceptance.LineFaults.{delete_fault, first_of, line_fault, rejected_at}
@@ -141,13 +141,13 @@ module _ (all : List Line) where
       (in-map (stripped_line all) (filter stays (take n all)) found.item (in-filter stays (take n all) found.item member plain))
       (rw (same-lits found.item, same-tag found.item) found.passes))
 
-module _ (instance : Instance) (all : List Line) (formed : All (IsEntry instance) all) where
+module _ (instance : Instance) (all : List Line) (formed : All (IsLineOrDelete instance) all) where
   -- an entry above (0, 0, 0) is no Delete line
-  pub above-stays : (line : Line) → IsEntry instance line → 0 < line.tag.code → stays line ≡ true
+  pub above-stays : (line : Line) → IsLineOrDelete instance line → 0 < line.tag.code → stays line ≡ true
   above-stays line (inl is) some = not_from_false (is_delete line.rule) (plain-rule instance line.rule is.rule)
   above-stays line (inr is) some = absurd (let e = is.tag in omega arith)
 
-  pub stays-line : (line : Line) → IsEntry instance line → stays line ≡ true → IsLine instance line
+  pub stays-line : (line : Line) → IsLineOrDelete instance line → stays line ≡ true → IsLine instance line
   stays-line line (inl is) e = is
   stays-line line (inr is) e = absurd (true≢false (sym e ∙ ap (λ r. not (is_delete r)) is.rule))
 

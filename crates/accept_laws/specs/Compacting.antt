@@ -5,7 +5,7 @@ use Rattle.fapp_model.specs.declared.instance.Instance.{Instance}
 use Rattle.fapp_model.specs.Instances.{IsNumber}
 use Rattle.cert_lines.specs.declared.answer.Line.{Line}
 use Rattle.cert_lines.specs.declared.answer.Rule.TheVariants.{Delete}
-use Rattle.cert_lines.specs.WellFormed.{IsEntry, IsLine}
+use Rattle.cert_lines.specs.WellFormed.{IsLineOrDelete, IsLine}
 use Rattle.cert_lines.specs.acceptance.Deleted.{is_delete}
 use Rattle.cert_lines.specs.acceptance.Excluded.{line_at}
 use Rattle.accept_laws.specs.Lines.{AreGood}
@@ -74,4 +74,4 @@ StrippedAgain = (lines : List Line) → All (λ line. is_delete line.rule ≡ fa
 -- The lines with these Delete lines are well formed in version 2.
 abbrev pub CompactedLinesAreFormed : Type 0
 CompactedLinesAreFormed = (instance : Instance) (lines : List Line) → All (IsLine instance) lines → IsNumber (length (compacted lines)) →
-    ((n : ℕ) → 0 < n → n ≤ length lines → IsCompactable lines n) → All (IsEntry instance) (compacted lines)
+    ((n : ℕ) → 0 < n → n ≤ length lines → IsCompactable lines n) → All (IsLineOrDelete instance) (compacted lines)

@@ -11,7 +11,7 @@ use Rattle.fapp_model.specs.Instances.{IsInstance}
 use Rattle.fapp_model.specs.Least.{IsFeasible}
 use Rattle.fapp_model.specs.Tags.{top_tag}
 use Rattle.cert_lines.specs.declared.answer.Verdict.TheVariants.{Best, NoneFeasible, Open}
-use Rattle.cert_lines.specs.WellFormed.{IsShown}
+use Rattle.cert_lines.specs.WellFormed.{IsShownChoice}
 use Rattle.cert_lines.specs.acceptance.PlanFaults.{plan_fault}
 
 -- what a plan chooses for each path, in order
@@ -21,7 +21,7 @@ shown instance plan = map (chosen instance plan) (range_with_len 0 (length plan)
 -- a shown plan has a text, and no fault where the verdict states its cost
 pub record IsWellShown (instance : Instance) (plan : List ℕ) : Type 0 where
   pub few : length (shown instance plan) ≤ length instance.paths
-  pub choices : All IsShown (shown instance plan)
+  pub choices : All IsShownChoice (shown instance plan)
   pub best : plan_fault instance (shown instance plan) (Best (cost instance plan)) ≡ None
   pub open_at : (lower : Tag) (level : ℕ) (prefix : List Literal) →
       plan_fault instance (shown instance plan) (Open (cost instance plan) lower level prefix) ≡ None

@@ -17,7 +17,7 @@ use Rattle.nogood.specs.declared.row.Row.{Row}
 use Rattle.search_log.specs.declared.piece.Piece.{Piece}
 use Rattle.merge_laws.specs.Conditions.{AreOld, IsMergeableAfter}
 use Rattle.merge_laws.specs.GoodLogs.{IsPlacedIn}
-use Rattle.search_log.specs.GoodLogs.{IsHome, pieces_of}
+use Rattle.search_log.specs.GoodLogs.{IsHomeRow, pieces_of}
 use Rattle.merge_laws.specs.OldRoots.{old_root}
 use Rattle.fapp_workers.specs.SharingLaws.{AreGoodLogsOver}
 use Rattle.fapp_workers.proofs.SharedRuns.{outcomes-are}
@@ -35,9 +35,9 @@ mergeable-on split fuel old numbers first pairs rows logs word root outcomes ver
   rows = numbered_rows first ++ rows;
   logs_are = record {
     good = good.good;
-    home = All-append (λ (row : KnownRow). IsHome logs row ⊎ IsPlacedIn old pairs row) (numbered_rows first) rows
-        (All-weaker (IsPlacedIn old pairs) (λ (row : KnownRow). IsHome logs row ⊎ IsPlacedIn old pairs row) (λ row h. inr h) (numbered_rows first) (placed-in old numbers first pairs said paired))
-        (All-weaker (IsHome logs) (λ (row : KnownRow). IsHome logs row ⊎ IsPlacedIn old pairs row) (λ row h. inl h) rows good.home);
+    home = All-append (λ (row : KnownRow). IsHomeRow logs row ⊎ IsPlacedIn old pairs row) (numbered_rows first) rows
+        (All-weaker (IsPlacedIn old pairs) (λ (row : KnownRow). IsHomeRow logs row ⊎ IsPlacedIn old pairs row) (λ row h. inr h) (numbered_rows first) (placed-in old numbers first pairs said paired))
+        (All-weaker (IsHomeRow logs) (λ (row : KnownRow). IsHomeRow logs row ⊎ IsPlacedIn old pairs row) (λ row h. inl h) rows good.home);
     once = good.once;
     placed_once = placed-once old numbers first pairs said paired;
     apart = placed-at old numbers first pairs said paired (λ n. All (λ (q : Piece). n ≢ q.row) (pieces_of logs))

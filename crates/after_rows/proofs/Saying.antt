@@ -9,34 +9,34 @@ use Rattle.fapp_model.specs.Tags.{IsTagOf, triple_from}
 use Rattle.fapp_model.specs.search.Implied.{Implied}
 use Rattle.fapp_model.specs.search.Partials.{AreLiterals}
 use Rattle.cert_lines.specs.declared.answer.Line.{Line}
-use Rattle.cert_lines.specs.WellFormed.{IsEntry, IsLine}
+use Rattle.cert_lines.specs.WellFormed.{IsLineOrDelete, IsLine}
 use Rattle.cert_lines.specs.acceptance.Excluded.{line_at, no_line}
-use Rattle.accept_laws.specs.Lines.{AreGood, IsImplied}
+use Rattle.accept_laws.specs.Lines.{AreGood, IsLineImplied}
 use Rattle.accept_laws.proofs.GoodLines.{good-lines}
 use Rattle.search_log.specs.Contents.{Content, KnownRow, known_row}
 use Rattle.merge_laws.specs.Conditions.{AreOld}
 use Rattle.merge_laws.specs.GoodLogs.{IsPlacedIn}
 use Rattle.nogood.specs.declared.row.Row.{Row}
-use Rattle.nogood_pool.specs.Pool.{IsRow, content_of}
+use Rattle.nogood_pool.specs.Pool.{IsPoolRow, content_of_row}
 use Rattle.search_log.specs.NumberedRows.{numbered_from, numbered_rows}
 use Rattle.search_log.specs.Shares.{row_content}
 use Rattle.fapp_workers.specs.FirstRows.{ArePublishable}
 use Rattle.after_rows.specs.Placing.{ArePaired, AreSaid, IsSaid, says}
 
 -- what an old line says may be published
-said-row : (instance : Instance) (old : List Line) (number : ℕ) (row : Row) → IsInstance instance → AreOld instance old → IsSaid old number row → IsRow instance (content_of row)
+said-row : (instance : Instance) (old : List Line) (number : ℕ) (row : Row) → IsInstance instance → AreOld instance old → IsSaid old number row → IsPoolRow instance (content_of_row row)
 said-row instance old number row valid are said =
     let stands = said.stands in
     let inside : number - 1 < length old = omega (arith, stands.low, stands.high) in
     let formed : IsLine instance (line_at old number) = are.formed (number - 1) no_line inside in
-    let entries : All (IsEntry instance) old = λ k d l. inl (are.formed k d l) in
-    let implied : IsImplied instance (line_at old number) = good-lines instance old valid entries are.good (number - 1) no_line inside in
+    let entries : All (IsLineOrDelete instance) old = λ k d l. inl (are.formed k d l) in
+    let implied : IsLineImplied instance (line_at old number) = good-lines instance old valid entries are.good (number - 1) no_line inside in
     record {
       literals = subst (AreLiterals instance) stands.lits_are formed.lits;
       code = row.tag.of_tag;
       tag = subst (λ code. IsTagOf instance (triple_from code)) stands.tag_is formed.tag;
       above = said.above;
-      implied = subst (λ code. Implied instance (triple_from code) (content_of row).lits) stands.tag_is (subst (Implied instance (triple_from (line_at old number).tag.code)) stands.lits_are implied);
+      implied = subst (λ code. Implied instance (triple_from code) (content_of_row row).lits) stands.tag_is (subst (Implied instance (triple_from (line_at old number).tag.code)) stands.lits_are implied);
     }
 
 pub publishable : (instance : Instance) (old : List Line) (numbers : List ℕ) (rows : List Row) → IsInstance instance → AreOld instance old → AreSaid old numbers rows → ArePublishable instance rows

@@ -2,7 +2,7 @@
 use Rattle.std.specs.Prelude.{◌≡◌, ℕ, ◌<◌, List, length, slice_index_or}
 use Rattle.cert_lines.specs.declared.answer.Line.{Line}
 use Rattle.search_log.specs.Contents.{Content}
-use Rattle.merge_laws.specs.Fates.{Stands}
+use Rattle.merge_laws.specs.Fates.{StandsAt}
 use Rattle.nogood.specs.declared.row.Row.{Row}
 use Rattle.search_log.specs.Shares.{row_content}
 
@@ -11,7 +11,7 @@ says line = record { tag = line.tag.code; lits = line.lits }
 
 -- the row says, above (0, 0, 0), what the old line of that number says
 pub record IsSaid (old : List Line) (number : ℕ) (row : Row) : Type 0 where
-  pub stands : Stands old (row_content row) number
+  pub stands : StandsAt old (row_content row) number
   pub above : 0 < row.tag.code
 
 -- so does each row what the line of its number says

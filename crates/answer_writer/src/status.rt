@@ -1,5 +1,5 @@
 ghost use Rattle.std.specs.Prelude.{◌≡◌};
-ghost use Rattle.answer_writer.specs.Statuses.{code_of};
+ghost use Rattle.answer_writer.specs.Statuses.{exit_code_of};
 
 use crate::{BadCert, BadInput, Rejected};
 
@@ -39,7 +39,7 @@ pub enum Status {
 impl Status {
     /// The program's exit status.
     pub fn code(&self) -> u8
-        ensures { result ≡ code_of self.now }
+        ensures { result ≡ exit_code_of self.now }
     {
         match self {
             Status::Best | Status::Accepted | Status::Written => 0,

@@ -17,12 +17,12 @@ use Rattle.fapp_model.proofs.Members.{from-filter, from-range}
 use Rattle.fapp_tables.specs.Indexes.{neighbours_of, record_at, records_of, turned_bad}
 use Rattle.fapp_tables.proofs.ClashLaws.{clash_found, no_clash}
 use Rattle.fapp_tables.proofs.IndexMembers.{records-turned}
-use Rattle.arc_levels.specs.declared.gaps.Pair.{Pair}
-use Rattle.arc_levels.specs.Gaps.{IsNext, IsPair, IsPairOf, pair_clash}
+use Rattle.arc_levels.specs.declared.gaps.Edge.{Edge}
+use Rattle.arc_levels.specs.Gaps.{IsNextApart, IsPair, IsPairOf, pair_clash}
 use Rattle.cert_lines.specs.declared.answer.Line.{Line}
 use Rattle.arc_levels.specs.declared.left.Left.{Left}
 use Rattle.arc_levels.specs.Left.{IsLeft}
-use Rattle.arc_levels.specs.Marks.{mark_at}
+use Rattle.arc_levels.specs.Heights.{height_at}
 use Rattle.arc_levels.specs.Removals.{AreRemovals, IsRevision}
 use Rattle.arc_levels.proofs.LeftLaws.{left_as}
 use Rattle.arc_levels.proofs.StepLaws.{shares_apart, shares_back}
@@ -56,34 +56,34 @@ turned_is level path r a b = by_end (cases_Bool (first_path r == path))
 -- ---- over the records of a pair
 
 -- a record of the pair is hard-bad
-abbrev pub bad_at : Pair → ℕ → Choice → Choice → Bool
+abbrev pub bad_at : Edge → ℕ → Choice → Choice → Bool
 bad_at pair index a b = is_hard_bad pair.level (record_at pair.instance.now (slice_index pair.positions.now index)) a b
 
-pair_apart : (pair : Pair) → IsPair pair → pair.path ≡ pair.other → ⊥
+pair_apart : (pair : Edge) → IsPair pair → pair.path ≡ pair.other → ⊥
 pair_apart pair is same = shares_apart pair.instance.now is.valid pair.path pair.other is.shares (sym same)
 
-pub pair_found : (pair : Pair) → IsPair pair → (index : ℕ) → index < length pair.positions.now → (a b : Choice) → bad_at pair index a b ≡ true → pair_clash pair a b ≡ true
+pub pair_found : (pair : Edge) → IsPair pair → (index : ℕ) → index < length pair.positions.now → (a b : Choice) → bad_at pair index a b ≡ true → pair_clash pair a b ≡ true
 pair_found pair is index below a b bad =
     clash_found pair.level pair.path pair.other (pair_apart pair is) a b pair.instance.now (slice_index pair.positions.now index)
     (subst (λ (xs : List ℕ). Contains xs (slice_index pair.positions.now index)) is.positions (Contains-get_or pair.positions.now index 0 below))
     (turned_is pair.level pair.path (record_at pair.instance.now (slice_index pair.positions.now index)) a b ∙ bad)
 
-pub pair_free : (pair : Pair) → IsPair pair → (a b : Choice) → ((index : ℕ) → index < length pair.positions.now → bad_at pair index a b ≡ false) → pair_clash pair a b ≡ false
+pub pair_free : (pair : Edge) → IsPair pair → (a b : Choice) → ((index : ℕ) → index < length pair.positions.now → bad_at pair index a b ≡ false) → pair_clash pair a b ≡ false
 pair_free pair is a b none =
     let Free : ℕ → Type 0 = λ k. turned_bad pair.level pair.path a b (record_at pair.instance.now k) ≡ false in
     no_clash pair.level pair.path pair.other (pair_apart pair is) a b pair.instance.now
     (subst (All Free) is.positions (All-from_get_or Free pair.positions.now 0 (λ k below. turned_is pair.level pair.path (record_at pair.instance.now (slice_index pair.positions.now k)) a b ∙ none k below)))
 
 -- the next frequency at which none of so many records is hard-bad
-pub record IsNextOf (pair : Pair) (a b : Choice) (index next : ℕ) : Type 0 where
+pub record IsNextOf (pair : Edge) (a b : Choice) (index next : ℕ) : Type 0 where
   pub from : b.freq ≤ next
   pub before : (c : Choice) → c.pol ≡ b.pol → b.freq ≤ c.freq → c.freq < next → pair_clash pair a c ≡ true
   pub here : next ≡ b.freq → (k : ℕ) → k < index → bad_at pair k a b ≡ false
 
-pub next_none : (pair : Pair) (a b : Choice) → IsNextOf pair a b 0 b.freq
+pub next_none : (pair : Edge) (a b : Choice) → IsNextOf pair a b 0 b.freq
 next_none pair a b = record { from = omega arith; before = λ c pol low high. absurd (omega (arith, low, high)); here = λ e k below. absurd (omega (arith, below)) }
 
-pub next_more : (pair : Pair) (a b : Choice) (index next mine more : ℕ) → IsPair pair → index < length pair.positions.now → IsNextOf pair a b index next → IsNext (bad_at pair index a) b mine →
+pub next_more : (pair : Edge) (a b : Choice) (index next mine more : ℕ) → IsPair pair → index < length pair.positions.now → IsNextOf pair a b index next → IsNextApart (bad_at pair index a) b mine →
     next ≤ more → mine ≤ more → (more ≡ next) ⊎ (more ≡ mine) → IsNextOf pair a b (index + 1) more
 next_more pair a b index next mine more is inside so_far found over above reached = record {
   from = omega (arith, so_far.from, over);
@@ -98,7 +98,7 @@ next_more pair a b index next mine more is inside so_far found over above reache
   ];
 }
 
-pub next_all : (pair : Pair) (a b : Choice) (index next : ℕ) → IsPair pair → length pair.positions.now ≤ index → IsNextOf pair a b index next → IsNext (pair_clash pair a) b next
+pub next_all : (pair : Edge) (a b : Choice) (index next : ℕ) → IsPair pair → length pair.positions.now ≤ index → IsNextOf pair a b index next → IsNextApart (pair_clash pair a) b next
 next_all pair a b index next is all found = record {
   from = found.from;
   before = found.before;
@@ -117,7 +117,7 @@ near instance other place below =
     let parts = from-filter (shares_record instance other) (range_with_len 0 (length instance.paths)) (get_or (neighbours_of instance other) place 0) (Contains-get_or (neighbours_of instance other) place 0 below) in
     record { inside = from-range (length instance.paths) _ parts.0; shares = shares_back instance other _ parts.1 }
 
-pub is_pair : (instance : Instance) (level other place : ℕ) (pair : Pair) → IsInstance instance → level ≤ MAX_LEVELS → other < length instance.paths → place < length (neighbours_of instance other) →
+pub is_pair : (instance : Instance) (level other place : ℕ) (pair : Edge) → IsInstance instance → level ≤ MAX_LEVELS → other < length instance.paths → place < length (neighbours_of instance other) →
     IsPairOf instance level (get_or (neighbours_of instance other) place 0) other pair → pair.positions.now ≡ records_of instance other (get_or (neighbours_of instance other) place 0) → IsPair pair
 is_pair instance level other place pair valid small inside below of positions =
     let beside = near instance other place below in
@@ -132,7 +132,7 @@ is_pair instance level other place pair valid small inside below of positions =
           ∙ (ap (λ x. records_of instance x other) (sym of.path_is) ∙ (ap (λ x. records_of instance pair.path x) (sym of.other_is) ∙ ap (λ (i : Instance). records_of i pair.path pair.other) (sym of.instance_is))));
     }
 
-module _ (instance : Instance) (level path other : ℕ) (pair : Pair) (of : IsPairOf instance level path other pair) where
+module _ (instance : Instance) (level path other : ℕ) (pair : Edge) (of : IsPairOf instance level path other pair) where
   pub kept_of : (rows : List (List ℕ)) (lines : List Line) → AreRemovals pair.instance.now pair.level rows lines → AreRemovals instance level rows lines
   kept_of rows lines kept = subst (λ x. AreRemovals instance x rows lines) of.level_is (subst (λ (i : Instance). AreRemovals i pair.level rows lines) of.instance_is kept)
 
@@ -142,7 +142,7 @@ module _ (instance : Instance) (level path other : ℕ) (pair : Pair) (of : IsPa
       (subst (λ x. IsRevision instance x pair.path pair.other rows new lost) of.level_is
       (subst (λ (i : Instance). IsRevision i pair.level pair.path pair.other rows new lost) of.instance_is revision))
 
-  pub left_of : (old rows : List (List ℕ)) (left : Left) → ((k : ℕ) → mark_at rows other k ≡ mark_at old other k) → IsLeft instance level old other left → IsLeft pair.instance.now pair.level rows pair.other left
+  pub left_of : (old rows : List (List ℕ)) (left : Left) → ((k : ℕ) → height_at rows other k ≡ height_at old other k) → IsLeft instance level old other left → IsLeft pair.instance.now pair.level rows pair.other left
   left_of old rows left same l =
       subst (λ (i : Instance). IsLeft i pair.level rows pair.other left) (sym of.instance_is)
       (subst (λ x. IsLeft instance x rows pair.other left) (sym of.level_is)

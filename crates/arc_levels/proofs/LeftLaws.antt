@@ -24,11 +24,11 @@ use Rattle.fapp_model.proofs.InOrder.{pairs-filter, pairs-flat_map, pairs-map, p
 use Rattle.fapp_model.proofs.Members.{All-from_members, front_or_behind, no_member, from-filter, from-flat_map, from-map, from-range, in-filter, in-map, in-range}
 use Rattle.fapp_tables.proofs.ClashLaws.{clashes_is}
 use Rattle.fapp_tables.proofs.FilterLaws.{filter-range_more}
-use Rattle.arc_levels.specs.declared.gaps.Pair.{Pair}
+use Rattle.arc_levels.specs.declared.gaps.Edge.{Edge}
 use Rattle.arc_levels.specs.declared.left.Left.{Left}
-use Rattle.arc_levels.specs.Gaps.{IsNext, IsPair, pair_clash}
+use Rattle.arc_levels.specs.Gaps.{IsNextApart, IsPair, pair_clash}
 use Rattle.arc_levels.specs.Left.{AreRising, IsLeft, IsPlaceOf, has_partner, is_left, is_met, left_freqs}
-use Rattle.arc_levels.specs.Marks.{IsLonelyFrom, arc_of, is_partner, mark_at}
+use Rattle.arc_levels.specs.Heights.{IsLonelyFrom, arc_of, is_partner, height_at}
 
 not_true : {x : Bool} → x ≡ true → not x ≡ false
 not_true h = ap not h
@@ -123,7 +123,7 @@ left_rising instance level rows path z valid inside = record {
       rw (here, there, zero-add i, zero-add j) (rising_choices (path_at instance path) (path_valid instance valid path inside) i j no_choice less short)));
 }
 
-pub left_as : (instance : Instance) (level : ℕ) (old rows : List (List ℕ)) (path : ℕ) (left : Left) → ((k : ℕ) → mark_at rows path k ≡ mark_at old path k) → IsLeft instance level old path left → IsLeft instance level rows path left
+pub left_as : (instance : Instance) (level : ℕ) (old rows : List (List ℕ)) (path : ℕ) (left : Left) → ((k : ℕ) → height_at rows path k ≡ height_at old path k) → IsLeft instance level old path left → IsLeft instance level rows path left
 left_as instance level old rows path left same l = record { minus = l.minus ∙ freqs (negsuc 0); plus = l.plus ∙ freqs (pos 1) }
   where
     freqs : (z : ℤ) → left_freqs instance level old path z (count_at instance path) ≡ left_freqs instance level rows path z (count_at instance path)
@@ -144,14 +144,14 @@ rising_by freqs rising i j d upto within = elim (cases_eq i j) [
 ]
 
 -- none of the first of some frequencies goes with a choice
-pub record AreUnmet (pair : Pair) (first : Choice) (z : ℤ) (freqs : List ℕ) (place : ℕ) : Type 0 where
+pub record AreUnmet (pair : Edge) (first : Choice) (z : ℤ) (freqs : List ℕ) (place : ℕ) : Type 0 where
   pub within : place ≤ length freqs
   pub each : (k : ℕ) → k < place → pair_clash pair first (record { freq = get_or freqs k 0; pol = z }) ≡ true
 
-pub unmet_none : (pair : Pair) (first : Choice) (z : ℤ) (freqs : List ℕ) → AreUnmet pair first z freqs 0
+pub unmet_none : (pair : Edge) (first : Choice) (z : ℤ) (freqs : List ℕ) → AreUnmet pair first z freqs 0
 unmet_none pair first z freqs = record { within = omega arith; each = λ k below. absurd (omega (arith, below)) }
 
-pub unmet_more : (pair : Pair) (first : Choice) (z : ℤ) (freqs : List ℕ) (place next more : ℕ) → AreRising freqs → AreUnmet pair first z freqs place → IsNext (pair_clash pair first) (record { freq = get_or freqs place 0; pol = z }) next →
+pub unmet_more : (pair : Edge) (first : Choice) (z : ℤ) (freqs : List ℕ) (place next more : ℕ) → AreRising freqs → AreUnmet pair first z freqs place → IsNextApart (pair_clash pair first) (record { freq = get_or freqs place 0; pol = z }) next →
     IsPlaceOf freqs next more → AreUnmet pair first z freqs more
 unmet_more pair first z freqs place next more rising so_far found at = record {
   within = at.within;
@@ -171,19 +171,19 @@ place_nearer freqs place next found at inside under = elim (cases_lt place found
   | inr more ↦ absurd (omega (arith, at.behind place more inside, under))
 ]
 
-pub unmet_all : (pair : Pair) (first : Choice) (z : ℤ) (freqs : List ℕ) (place : ℕ) → length freqs ≤ place → AreUnmet pair first z freqs place → is_met pair first z freqs ≡ false
+pub unmet_all : (pair : Edge) (first : Choice) (z : ℤ) (freqs : List ℕ) (place : ℕ) → length freqs ≤ place → AreUnmet pair first z freqs place → is_met pair first z freqs ≡ false
 unmet_all pair first z freqs place all found = no-member (λ n. not (pair_clash pair first (record { freq = n; pol = z }))) freqs (λ n m.
     let bad = found.each m.0 (omega (arith, m.1, all)) in
     let same : get_or freqs m.0 0 ≡ n = get_or_default freqs m.0 0 n m.1 ∙ m.2 in
     not_true (subst (λ x. pair_clash pair first (record { freq = x; pol = z }) ≡ true) same bad))
 
-pub met_here : (pair : Pair) (first : Choice) (z : ℤ) (freqs : List ℕ) (place : ℕ) → place < length freqs → pair_clash pair first (record { freq = get_or freqs place 0; pol = z }) ≡ false → is_met pair first z freqs ≡ true
+pub met_here : (pair : Edge) (first : Choice) (z : ℤ) (freqs : List ℕ) (place : ℕ) → place < length freqs → pair_clash pair first (record { freq = get_or freqs place 0; pol = z }) ≡ false → is_met pair first z freqs ≡ true
 met_here pair first z freqs place inside free =
     any-member (λ n. not (pair_clash pair first (record { freq = n; pol = z }))) freqs (get_or freqs place 0) (Contains-get_or freqs place 0 inside) (not_from_false _ free)
 
 -- ---- partners
 
-module _ (pair : Pair) (is : IsPair pair) (rows : List (List ℕ)) (left : Left) (k : ℕ) (l : IsLeft pair.instance.now pair.level rows pair.other left) where
+module _ (pair : Edge) (is : IsPair pair) (rows : List (List ℕ)) (left : Left) (k : ℕ) (l : IsLeft pair.instance.now pair.level rows pair.other left) where
   abbrev instance : Instance
   instance = pair.instance.now
 

@@ -1,6 +1,6 @@
 pub mod GapLaws
 pub mod LeftLaws
-pub mod MarkLaws
+pub mod HeightLaws
 pub mod LineLaws
 pub mod StepLaws
 pub mod LevelLaws

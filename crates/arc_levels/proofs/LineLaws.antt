@@ -26,10 +26,10 @@ use Rattle.cert_lines.proofs.Deleting.{IsPlain, plain-excluded, plain-line}
 use Rattle.cert_lines.specs.acceptance.Contained.{is_same}
 use Rattle.cert_lines.specs.acceptance.Excluded.{line_at, no_line, is_excluded, is_marked, is_cited, is_only}
 use Rattle.cert_lines.specs.acceptance.Judged.{has_clash, is_over, is_stuck, judged_dead, least_pair, lesser, remains, with_choice}
-use Rattle.cert_lines.specs.acceptance.LineFaults.{IsGood, line_fault, is_dead, rejected_at, rule_fault}
-use Rattle.arc_levels.specs.Marks.{IsLonelyFrom, arc_of, is_partner, mark_at}
+use Rattle.cert_lines.specs.acceptance.LineFaults.{IsGoodLine, line_fault, is_dead, rejected_at, rule_fault}
+use Rattle.arc_levels.specs.Heights.{IsLonelyFrom, arc_of, is_partner, height_at}
 use Rattle.arc_levels.specs.Removals.{AreLines, IsLineAt, IsLineHere, marked, plain_tag}
-use Rattle.arc_levels.proofs.MarkLaws.{mark_either, mark_same}
+use Rattle.arc_levels.proofs.HeightLaws.{height_either, height_same}
 
 -- ---- what the choices before a line exclude
 
@@ -81,17 +81,17 @@ gone : (instance : Instance) (level : ℕ) (rows : List (List ℕ)) (lines : Lis
     is_partner instance level rows a b ≡ false → remains (is_excluded lines t [] (a ∷ [])) instance level (a ∷ []) b ≡ false
 gone instance level rows lines t a b lined home code lone =
     elim (and_cases (arc_of rows level b) (not (clashes instance level a b)) lone) [
-      | inl out ↦ and_left (not (is_excluded lines t [] (a ∷ []) b)) _ (not_true (excluded (cases_lt level (mark_at rows b.path b.choice)) out))
+      | inl out ↦ and_left (not (is_excluded lines t [] (a ∷ []) b)) _ (not_true (excluded (cases_lt level (height_at rows b.path b.choice)) out))
       | inr bad ↦ and_right (not (is_excluded lines t [] (a ∷ []) b)) (not (clashes_with instance level (a ∷ []) b)) (not_true (clashes_turned instance level a b (not-false _ bad)))
     ]
   where
     not_true : {x : Bool} → x ≡ true → not x ≡ false
     not_true e = ap not e
 
-    excluded : (level < mark_at rows b.path b.choice) ⊎ (mark_at rows b.path b.choice ≤ level) → arc_of rows level b ≡ false → is_excluded lines t [] (a ∷ []) b ≡ true
+    excluded : (level < height_at rows b.path b.choice) ⊎ (height_at rows b.path b.choice ≤ level) → arc_of rows level b ≡ false → is_excluded lines t [] (a ∷ []) b ≡ true
     excluded (inl above) out =
         let line = lined.each b home (omega (arith, above)) in
-        line_excludes lines line.0 b (mark_at rows b.path b.choice) (level + 1) t (a ∷ []) (lines-plain instance rows lines lined) line.1 line.2 code (omega (arith, above))
+        line_excludes lines line.0 b (height_at rows b.path b.choice) (level + 1) t (a ∷ []) (lines-plain instance rows lines lined) line.1 line.2 code (omega (arith, above))
     excluded (inr low) out = absurd (both_ways _ out (le-leb _ _ low))
 
 -- ---- the line of a lonely choice
@@ -139,7 +139,7 @@ no_fault instance level rows lines line a q lined inside apart is lonely =
 
 -- ---- one more line
 
-good_from : (instance : Instance) (lines earlier : List Line) (line : Line) (n : ℕ) → take n lines ≡ earlier → get_or lines n no_line ≡ line → line_fault instance earlier line ≡ None → IsGood instance lines n
+good_from : (instance : Instance) (lines earlier : List Line) (line : Line) (n : ℕ) → take n lines ≡ earlier → get_or lines n no_line ≡ line → line_fault instance earlier line ≡ None → IsGoodLine instance lines n
 good_from instance lines earlier line n before here fine =
     ap (λ x. option_map (rejected_at (n + 1)) (line_fault instance (take n lines) (get_or lines x no_line))) (back n)
     ∙ (ap (λ (xs : List Line). option_map (rejected_at (n + 1)) (line_fault instance xs (get_or lines n no_line))) before
@@ -153,32 +153,32 @@ mapped_none : {X Y : Type 0} (f : X → Y) (o : Option X) → option_map f o ≡
 mapped_none f None h = refl
 mapped_none f (Some x) h = absurd (cc)
 
-fine_from : (instance : Instance) (lines : List Line) (n : ℕ) → IsGood instance lines n → line_fault instance (take n lines) (get_or lines n no_line) ≡ None
+fine_from : (instance : Instance) (lines : List Line) (n : ℕ) → IsGoodLine instance lines n → line_fault instance (take n lines) (get_or lines n no_line) ≡ None
 fine_from instance lines n good =
     ap (λ x. line_fault instance (take n lines) (get_or lines x no_line)) (sym (back n)) ∙ mapped_none (rejected_at (n + 1)) (line_fault instance (take n lines) (line_at lines (n + 1))) good
   where
     back : (n : ℕ) → (n + 1) - 1 ≡ n
     back n = omega arith
 
-good_more : (instance : Instance) (lines : List Line) (line : Line) → ((n : ℕ) → n < length lines → IsGood instance lines n) → line_fault instance lines line ≡ None →
-    (n : ℕ) → n < length (lines ++ line ∷ []) → IsGood instance (lines ++ line ∷ []) n
+good_more : (instance : Instance) (lines : List Line) (line : Line) → ((n : ℕ) → n < length lines → IsGoodLine instance lines n) → line_fault instance lines line ≡ None →
+    (n : ℕ) → n < length (lines ++ line ∷ []) → IsGoodLine instance (lines ++ line ∷ []) n
 good_more instance lines line good fine n below = by_place (cases_lt n (length lines))
   where
-    by_place : (n < length lines) ⊎ (length lines ≤ n) → IsGood instance (lines ++ line ∷ []) n
+    by_place : (n < length lines) ⊎ (length lines ≤ n) → IsGoodLine instance (lines ++ line ∷ []) n
     by_place (inl less) = good_from instance (lines ++ line ∷ []) (take n lines) (get_or lines n no_line) n
         (take-append-le n lines (line ∷ []) (omega arith)) (get_or_append_left lines (line ∷ []) no_line n less) (fine_from instance lines n (good n less))
     by_place (inr more) =
         let place : length lines ≡ n = omega (arith, length_push lines line) in
         good_from instance (lines ++ line ∷ []) lines line n (take_at lines (line ∷ []) n place) (get_or_push lines line no_line n place) fine
 
-module _ (instance : Instance) (rows : List (List ℕ)) (p k level : ℕ) (h : p < length rows) (l : k < length (get_or rows p [])) (fresh : mark_at rows p k ≡ 0) where
+module _ (instance : Instance) (rows : List (List ℕ)) (p k level : ℕ) (h : p < length rows) (l : k < length (get_or rows p [])) (fresh : height_at rows p k ≡ 0) where
   abbrev after : List (List ℕ)
   after = marked rows p k (level + 1)
 
   -- a choice that was removed before is another one
-  still : (b : Literal) → 0 < mark_at rows b.path b.choice → mark_at after b.path b.choice ≡ mark_at rows b.path b.choice
-  still b some = elim (mark_either rows p k (level + 1) b.path b.choice h) [
-    | inl (same, here) ↦ absurd (let e : mark_at rows b.path b.choice ≡ 0 = subst (λ x. mark_at rows x b.choice ≡ 0) (sym same) (subst (λ x. mark_at rows p x ≡ 0) (sym here) fresh) in omega (arith, e, some))
+  still : (b : Literal) → 0 < height_at rows b.path b.choice → height_at after b.path b.choice ≡ height_at rows b.path b.choice
+  still b some = elim (height_either rows p k (level + 1) b.path b.choice h) [
+    | inl (same, here) ↦ absurd (let e : height_at rows b.path b.choice ≡ 0 = subst (λ x. height_at rows x b.choice ≡ 0) (sym same) (subst (λ x. height_at rows p x ≡ 0) (sym here) fresh) in omega (arith, e, some))
     | inr stays ↦ stays
   ]
 
@@ -193,16 +193,16 @@ module _ (instance : Instance) (rows : List (List ℕ)) (p k level : ℕ) (h : p
   other_lits : (line new : Line) → IsLineHere instance rows line → new.lits ≡ literal p k ∷ [] → line.lits ≢ new.lits
   other_lits line new f is same =
       let lit : f.lit ≡ literal p k = ap (λ (xs : List Literal). get_or xs 0 (literal p k)) (sym f.is.lits ∙ (same ∙ is)) in
-      let e : mark_at rows f.lit.path f.lit.choice ≡ 0 = subst (λ (b : Literal). mark_at rows b.path b.choice ≡ 0) (sym lit) fresh in
+      let e : height_at rows f.lit.path f.lit.choice ≡ 0 = subst (λ (b : Literal). height_at rows b.path b.choice ≡ 0) (sym lit) fresh in
       omega (arith, e, f.removed)
 
-  each_more : (lines : List Line) (line : Line) → AreLines instance rows lines → IsLineAt (literal p k) (level + 1) line → (a : Literal) → 0 < mark_at after a.path a.choice → IsLiteral instance a →
-      (other : Line) × Contains (lines ++ line ∷ []) other × IsLineAt a (mark_at after a.path a.choice) other
-  each_more lines line lined is a some home = elim (mark_either rows p k (level + 1) a.path a.choice h) [
+  each_more : (lines : List Line) (line : Line) → AreLines instance rows lines → IsLineAt (literal p k) (level + 1) line → (a : Literal) → 0 < height_at after a.path a.choice → IsLiteral instance a →
+      (other : Line) × Contains (lines ++ line ∷ []) other × IsLineAt a (height_at after a.path a.choice) other
+  each_more lines line lined is a some home = elim (height_either rows p k (level + 1) a.path a.choice h) [
     | inl (same, here) ↦
         let lit : literal p k ≡ a = sym (ap (λ x. literal x a.choice) same ∙ ap (literal p) here) in
-        let at : IsLineAt (literal p k) (mark_at after p k) line = subst (λ x. IsLineAt (literal p k) x line) (sym (mark_same rows p k (level + 1) h l)) is in
-        (line, Contains-push lines line, subst (λ (b : Literal). IsLineAt b (mark_at after b.path b.choice) line) lit at)
+        let at : IsLineAt (literal p k) (height_at after p k) line = subst (λ x. IsLineAt (literal p k) x line) (sym (height_same rows p k (level + 1) h l)) is in
+        (line, Contains-push lines line, subst (λ (b : Literal). IsLineAt b (height_at after b.path b.choice) line) lit at)
     | inr stays ↦
         let old = lined.each a home (subst (λ x. 0 < x) stays some) in
         (old.0, Contains-append_left lines (line ∷ []) old.0 old.1, subst (λ x. IsLineAt a x old.0) (sym stays) old.2)
@@ -216,8 +216,8 @@ module _ (instance : Instance) (rows : List (List ℕ)) (p k level : ℕ) (h : p
         (record {
           lit = literal p k;
           inside = home;
-          is = subst (λ x. IsLineAt (literal p k) x line) (sym (mark_same rows p k (level + 1) h l)) is;
-          removed = omega (arith, mark_same rows p k (level + 1) h l);
+          is = subst (λ x. IsLineAt (literal p k) x line) (sym (height_same rows p k (level + 1) h l)) is;
+          removed = omega (arith, height_same rows p k (level + 1) h l);
         });
     each = λ a home some. each_more lines line lined is a some home;
     once = all_pairs_push (λ x y. x.lits ≢ y.lits) lines line lined.once (λ i d less.

@@ -18,10 +18,10 @@ use Rattle.fapp_model.proofs.Members.{in-filter, in-range}
 use Rattle.dead_laws.proofs.RecordEnds.{joins-ends, shares-range}
 use Rattle.fapp_tables.specs.Indexes.{neighbours_of}
 use Rattle.cert_lines.specs.declared.answer.Line.{Line}
-use Rattle.arc_levels.specs.Marks.{mark_at, Falls, IsLonelyFrom, IsServed, arc_of, size_of}
+use Rattle.arc_levels.specs.Heights.{height_at, Falls, IsLonelyFrom, HasPartners, arc_of, size_of}
 use Rattle.arc_levels.specs.Removals.{AreFresh, AreRemovals, IsRemoval, IsRevision, IsSweep, IsTurn, is_stale, marked}
 use Rattle.arc_levels.proofs.LineLaws.{lines_more, no_fault}
-use Rattle.arc_levels.proofs.MarkLaws.{falls_both, falls_marked, falls_none, fewer, mark_row, mark_same, marks_still, partner_still, wide_still, within_before, within_range}
+use Rattle.arc_levels.proofs.HeightLaws.{falls_both, falls_marked, falls_none, fewer, height_row, height_same, heights_still, partner_still, wide_still, within_before, within_range}
 
 pub shares_apart : (instance : Instance) → IsInstance instance → (p q : ℕ) → IsTrue (shares_record instance p q) → q ≡ p → ⊥
 shares_apart instance v p q h same =
@@ -34,7 +34,7 @@ shares_apart instance v p q h same =
 
 -- what was removed is outside
 pub marked_out : (rows : List (List ℕ)) (p k level : ℕ) → p < length rows → k < length (get_or rows p []) → arc_of (marked rows p k (level + 1)) level (literal p k) ≡ false
-marked_out rows p k level h l = false_from_ne_true _ (λ e. absurd (omega (arith, leb-true _ _ e, mark_same rows p k (level + 1) h l)))
+marked_out rows p k level h l = false_from_ne_true _ (λ e. absurd (omega (arith, leb-true _ _ e, height_same rows p k (level + 1) h l)))
 
 -- ---- turns
 
@@ -72,12 +72,12 @@ pub record MayFall (instance : Instance) (level path other choice : ℕ) (rows :
 
 module _ (instance : Instance) (level path other choice : ℕ) (rows new : List (List ℕ)) (lines after : List Line) (m : MayFall instance level path other choice rows lines) (r : IsRemoval level (literal path choice) rows new lines after) where
   inside : path < length rows
-  inside = omega (arith, m.kept.marks.paths, m.home.path)
+  inside = omega (arith, m.kept.heights.paths, m.home.path)
 
   place : choice < length (get_or rows path [])
-  place = omega (arith, m.kept.marks.counts path m.home.path, m.home.choice)
+  place = omega (arith, m.kept.heights.counts path m.home.path, m.home.choice)
 
-  fresh : mark_at rows path choice ≡ 0
+  fresh : height_at rows path choice ≡ 0
   fresh = m.kept.clear path choice (leb-true _ _ m.within)
 
   step : Falls level rows (marked rows path choice (level + 1))
@@ -88,12 +88,12 @@ module _ (instance : Instance) (level path other choice : ℕ) (rows new : List 
 
   kept_marked : AreRemovals instance level (marked rows path choice (level + 1)) (lines ++ r.line ∷ [])
   kept_marked = record {
-    marks = marks_still instance rows path choice (level + 1) m.kept.marks m.home.path;
+    heights = heights_still instance rows path choice (level + 1) m.kept.heights m.home.path;
     clear = λ p k low. elim (step p k) [
       | inl same ↦ same ∙ m.kept.clear p k (omega (arith, same, low))
       | inr (before, is) ↦ absurd (omega (arith, is, low))
     ];
-    wide = wide_still instance level rows path choice other m.kept.marks m.small m.home.path m.shares m.kept.wide m.lonely;
+    wide = wide_still instance level rows path choice other m.kept.heights m.small m.home.path m.shares m.kept.wide m.lonely;
     lined = lines_more instance rows path choice level inside place fresh lines r.line m.kept.lined m.home r.is
         (no_fault instance level rows lines r.line (literal path choice) other m.kept.lined m.end apart r.is m.lonely);
   }
@@ -110,8 +110,8 @@ module _ (instance : Instance) (level path other choice : ℕ) (rows new : List 
     loses = λ e. fewer instance level rows (marked rows path choice (level + 1)) step (literal path choice) m.home m.within (marked_out rows path choice level inside place);
   })
 
-  pub removed_others : (p k : ℕ) → p ≢ path → mark_at new p k ≡ mark_at rows p k
-  removed_others p k apart = subst (λ (x : List (List ℕ)). mark_at x p k ≡ mark_at rows p k) (sym r.rows) (mark_row rows path choice (level + 1) p k apart)
+  pub removed_others : (p k : ℕ) → p ≢ path → height_at new p k ≡ height_at rows p k
+  removed_others p k apart = subst (λ (x : List (List ℕ)). height_at x p k ≡ height_at rows p k) (sym r.rows) (height_row rows path choice (level + 1) p k apart)
 
   pub removed_out : IsTrue (arc_of new level (literal path choice)) → ⊥
   removed_out h = both_ways _ (marked_out rows path choice level inside place) (subst (λ (x : List (List ℕ)). IsTrue (arc_of x level (literal path choice))) r.rows h)
@@ -128,7 +128,7 @@ module _ (instance : Instance) (level path other choice : ℕ) (rows new : List 
 pub record IsRevised (instance : Instance) (level path other : ℕ) (old rows : List (List ℕ)) (lines : List Line) (changed : Bool) (choice : ℕ) : Type 0 where
   pub kept : AreRemovals instance level rows lines
   pub turn : IsTurn instance level old rows changed
-  pub others : (p k : ℕ) → p ≢ path → mark_at rows p k ≡ mark_at old p k
+  pub others : (p k : ℕ) → p ≢ path → height_at rows p k ≡ height_at old p k
   pub served : (k : ℕ) → k < choice → IsTrue (arc_of rows level (literal path k)) → HasPartner instance level (arc_of rows level) (literal path k) other
 
 pub revised_kept : (instance : Instance) (level path other : ℕ) (old rows : List (List ℕ)) (lines : List Line) (changed : Bool) (choice : ℕ) → IsRevised instance level path other old rows lines changed choice →
@@ -166,13 +166,13 @@ pub revised_all : (instance : Instance) (level path other : ℕ) (old rows : Lis
 revised_all instance level path other old rows lines changed choice small all r = record {
   turn = r.turn;
   others = r.others;
-  served = λ k within. r.served k (omega (arith, (within_range instance level rows r.kept.marks small (literal path k) within).choice, all)) within;
+  served = λ k within. r.served k (omega (arith, (within_range instance level rows r.kept.heights small (literal path k) within).choice, all)) within;
 }
 
 -- ---- the neighbours of a path, up to one
 
 -- what had a partner on a path has one while nothing of that path is removed
-pub served_still : (instance : Instance) (level : ℕ) (old new : List (List ℕ)) (p q : ℕ) → Falls level old new → ((k : ℕ) → mark_at new q k ≡ mark_at old q k) → IsServed instance level old p q → IsServed instance level new p q
+pub served_still : (instance : Instance) (level : ℕ) (old new : List (List ℕ)) (p q : ℕ) → Falls level old new → ((k : ℕ) → height_at new q k ≡ height_at old q k) → HasPartners instance level old p q → HasPartners instance level new p q
 served_still instance level old new p q falls same served index within =
     let friend = served index (within_before level old new falls (literal p index) within) in
     record { index = friend.index; member = subst (λ x. leb x level ≡ true) (sym (same friend.index)) friend.member; apart = friend.apart }
@@ -193,7 +193,7 @@ pub shares_back : (instance : Instance) (p q : ℕ) → IsTrue (shares_record in
 shares_back instance p q h = shares_turned instance q p ∙ h
 
 pub fresh_lost : (instance : Instance) (level path : ℕ) (rows new : List (List ℕ)) (stale : List Bool) → path < length instance.paths → AreFresh instance level rows stale → Falls level rows new →
-    ((p k : ℕ) → p ≢ path → mark_at new p k ≡ mark_at rows p k) → AreFresh instance level new (set stale path true)
+    ((p k : ℕ) → p ≢ path → height_at new p k ≡ height_at rows p k) → AreFresh instance level new (set stale path true)
 fresh_lost instance level path rows new stale inside fresh falls others = record {
   whole = length-set stale path true ∙ fresh.whole;
   served = λ p q shares flag. elim (cases_eq q path) [
@@ -207,8 +207,8 @@ pub record IsTurned (instance : Instance) (level other : ℕ) (old rows : List (
   pub kept : AreRemovals instance level rows lines
   pub turn : IsTurn instance level old rows changed
   pub fresh : AreFresh instance level rows stale
-  pub mine : (k : ℕ) → mark_at rows other k ≡ mark_at old other k
-  pub done : (n : ℕ) → n < place → IsServed instance level rows (get_or (neighbours_of instance other) n 0) other
+  pub mine : (k : ℕ) → height_at rows other k ≡ height_at old other k
+  pub done : (n : ℕ) → n < place → HasPartners instance level rows (get_or (neighbours_of instance other) n 0) other
   pub same : changed ≡ false → stale ≡ before
 
 pub turned_none : (instance : Instance) (level other : ℕ) (rows : List (List ℕ)) (lines : List Line) (stale : List Bool) → AreRemovals instance level rows lines → AreFresh instance level rows stale → IsTurned instance level other rows rows lines stale stale false 0
@@ -227,14 +227,14 @@ module _ (instance : Instance) (level other path : ℕ) (old rows new : List (Li
   unlike : other ≢ path
   unlike = shares_apart instance valid path other shares
 
-  still : (k : ℕ) → mark_at new other k ≡ mark_at rows other k
+  still : (k : ℕ) → height_at new other k ≡ height_at rows other k
   still k = revision.others other k unlike
 
-  done_more : (n : ℕ) → n < place + 1 → IsServed instance level new (get_or (neighbours_of instance other) n 0) other
+  done_more : (n : ℕ) → n < place + 1 → HasPartners instance level new (get_or (neighbours_of instance other) n 0) other
   done_more n below = elim (cases_lt n place) [
     | inl less ↦ served_still instance level rows new (get_or (neighbours_of instance other) n 0) other revision.turn.falls still (t.done n less)
     | inr more ↦ let here : n ≡ place = omega (arith, below, more) in
-        subst (λ x. IsServed instance level new x other) (sym is ∙ ap (λ x. get_or (neighbours_of instance other) x 0) (sym here)) revision.served
+        subst (λ x. HasPartners instance level new x other) (sym is ∙ ap (λ x. get_or (neighbours_of instance other) x 0) (sym here)) revision.served
   ]
 
   pub turned_lost : lost ≡ true → IsTurned instance level other old new after before (set stale path true) true (place + 1)
@@ -266,7 +266,7 @@ turned_fresh instance level other old rows lines before stale changed place vali
         let here : IsTrue (shares_record instance p other) = subst (λ x. IsTrue (shares_record instance p x)) same shares in
         let member = in-filter (shares_record instance other) (range_with_len 0 (length instance.paths)) p (in-range _ _ (shares-range instance valid p other here).0) (shares_back instance p other here) in
         let is : get_or (neighbours_of instance other) member.0 0 ≡ p = get_or_default (neighbours_of instance other) member.0 0 p member.1 ∙ member.2 in
-        subst (λ x. IsServed instance level rows p x) (sym same) (subst (λ x. IsServed instance level rows x other) is (t.done member.0 (omega (arith, member.1, all))))
+        subst (λ x. HasPartners instance level rows p x) (sym same) (subst (λ x. HasPartners instance level rows x other) is (t.done member.0 (omega (arith, member.1, all))))
     | inr apart ↦ t.fresh.served p q shares (sym (get_or-set_other stale other q false true apart) ∙ flag)
   ];
 }

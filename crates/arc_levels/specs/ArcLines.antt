@@ -7,7 +7,7 @@ use Rattle.fapp_model.specs.search.Arcs.{OutsideArc}
 use Rattle.fapp_model.specs.search.Partials.{IsLiteral}
 use Rattle.cert_lines.specs.declared.answer.Line.{Line}
 use Rattle.cert_lines.specs.declared.answer.Rule.TheVariants.{Count}
-use Rattle.cert_lines.specs.acceptance.LineFaults.{IsGood}
+use Rattle.cert_lines.specs.acceptance.LineFaults.{IsGoodLine}
 use Rattle.arc_levels.specs.Outside.{IsOutsideTag}
 
 -- the Count line of a choice alone, without cites, at the choice's tag, which is above (0, 0, 0)
@@ -23,4 +23,4 @@ pub record AreArcLines (instance : Instance) (lines : List Line) : Type 0 where
   pub each : (a : Literal) → IsLiteral instance a → OutsideArc instance 0 a →
       (line : Line) × Contains lines line × IsLineOf instance a line
   pub once : AllPairs (λ x y. x.lits ≢ y.lits) lines
-  pub good : (n : ℕ) → n < length lines → IsGood instance lines n
+  pub good : (n : ℕ) → n < length lines → IsGoodLine instance lines n

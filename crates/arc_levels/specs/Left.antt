@@ -7,10 +7,10 @@ use Rattle.fapp_model.specs.declared.instance.Instance.{Instance}
 use Rattle.fapp_model.specs.Assignments.{count_at}
 use Rattle.fapp_model.specs.Instances.{IsNumber}
 use Rattle.fapp_model.specs.search.Partials.{choice_of, literal}
-use Rattle.arc_levels.specs.declared.gaps.Pair.{Pair}
+use Rattle.arc_levels.specs.declared.gaps.Edge.{Edge}
 use Rattle.arc_levels.specs.declared.left.Left.{Left}
 use Rattle.arc_levels.specs.Gaps.{pair_clash}
-use Rattle.arc_levels.specs.Marks.{arc_of}
+use Rattle.arc_levels.specs.Heights.{arc_of}
 
 -- a choice of a path is within the arcs and has a polarization
 abbrev pub is_left : Instance → ℕ → List (List ℕ) → ℕ → ℤ → ℕ → Bool
@@ -39,9 +39,9 @@ pub record IsPlaceOf (freqs : List ℕ) (next found : ℕ) : Type 0 where
   pub behind : (k : ℕ) → found ≤ k → k < length freqs → next ≤ slice_index freqs k
 
 -- no record of a pair is hard-bad between a choice and one of some frequency and polarization
-abbrev pub is_met : Pair → Choice → ℤ → List ℕ → Bool
+abbrev pub is_met : Edge → Choice → ℤ → List ℕ → Bool
 is_met pair first polarization freqs = list_any (λ n. not (pair_clash pair first (record { freq = n; pol = polarization }))) freqs
 
 -- no record of a pair is hard-bad between a choice and one that is left
-abbrev pub has_partner : Pair → Choice → Left → Bool
+abbrev pub has_partner : Edge → Choice → Left → Bool
 has_partner pair first left = is_met pair first (negsuc 0) left.minus.items || is_met pair first (pos 1) left.plus.items

@@ -2,5 +2,5 @@ pub mod Gaps
 pub mod Left
 pub mod Outside
 pub mod ArcLines
-pub mod Marks
+pub mod Heights
 pub mod Removals

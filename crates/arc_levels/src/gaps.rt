@@ -6,14 +6,14 @@ ghost use Rattle.fapp_model.specs.Instances.{IsNumber};
 ghost use Rattle.fapp_model.specs.Records.{is_closer, same_polarization};
 ghost use Rattle.fapp_model.specs.search.Clashes.{is_hard_bad};
 ghost use Rattle.fapp_tables.specs.Indexes.{neighbours_of};
-ghost use Rattle.arc_levels.specs.Gaps.{IsFirst, IsNext, IsPair, IsPairOf, pair_clash};
+ghost use Rattle.arc_levels.specs.Gaps.{IsFirst, IsNextApart, IsPair, IsPairOf, pair_clash};
 
 use fapp_model::{Choice, Instance, MAX_LEVELS, Record};
 use fapp_tables::Tables;
 
 /// Two paths that share records, at a level.
 #[derive(Clone, Copy)]
-pub struct Pair<'a> {
+pub struct Edge<'a> {
     pub instance: &'a Instance,
     pub level: u32,
     pub path: u16,
@@ -23,14 +23,14 @@ pub struct Pair<'a> {
 }
 
 /// The pair of a path's neighbour, by its place among all, and the path itself as the other one.
-pub fn pair_at<'t>(tables: &'t Tables, level: u32, other: u16, place: usize) -> Pair<'t>
+pub fn pair_at<'t>(tables: &'t Tables, level: u32, other: u16, place: usize) -> Edge<'t>
     requires level { level ≤ MAX_LEVELS }
     requires other { other < length tables.now.paths }
     requires place { place < length (neighbours_of tables.now other) }
     ensures pair { IsPair result }
     ensures of { IsPairOf tables.now level (slice_index (neighbours_of tables.now other) place) other result }
 {
-    Pair {
+    Edge {
         instance: tables.instance(),
         level,
         path: tables.neighbours(other)[place],
@@ -91,7 +91,7 @@ fn unlike(middle: u32, number: u32, far: u32) -> u32
 fn level_next(dist: &[u32], level: u32, first: Choice, second: Choice) -> u32
     requires first { IsNumber first.freq }
     requires second { IsNumber second.freq }
-    ensures { IsNext (is_closer level dist.now first) second result }
+    ensures { IsNextApart (is_closer level dist.now first) second result }
 {
     match dist.get(level as usize) {
         Some(least) => away(first.freq, second.freq, *least),
@@ -103,7 +103,7 @@ fn level_next(dist: &[u32], level: u32, first: Choice, second: Choice) -> u32
 fn record_next(constraint: &Record, level: u32, first: Choice, second: Choice) -> u32
     requires first { IsNumber first.freq }
     requires second { IsNumber second.freq }
-    ensures { IsNext (is_hard_bad level constraint.now first) second result }
+    ensures { IsNextApart (is_hard_bad level constraint.now first) second result }
 {
     let is_alike = is_same(first, second);
     match constraint {
@@ -121,11 +121,11 @@ fn record_next(constraint: &Record, level: u32, first: Choice, second: Choice) -
 }
 
 /// The next frequency from that of a choice of the other path on at which no record of the pair is hard-bad.
-pub fn pair_next(pair: &Pair, first: Choice, second: Choice) -> u32
+pub fn pair_next(pair: &Edge, first: Choice, second: Choice) -> u32
     requires pair { IsPair pair.now }
     requires first { IsNumber first.freq }
     requires second { IsNumber second.freq }
-    ensures { IsNext (pair_clash pair.now first) second result }
+    ensures { IsNextApart (pair_clash pair.now first) second result }
 {
     let records = pair.instance.records.as_slice();
     let mut next = second.freq;

@@ -7,9 +7,9 @@ ghost use Rattle.fapp_model.specs.search.Arcs.{HasPartner};
 ghost use Rattle.fapp_model.specs.search.Partials.{literal};
 ghost use Rattle.arc_levels.specs.Gaps.{IsPair};
 ghost use Rattle.arc_levels.specs.Left.{AreRising, IsLeft, IsPlaceOf, has_partner, is_met, left_freqs};
-ghost use Rattle.arc_levels.specs.Marks.{AreMarks, IsLonely, arc_of};
+ghost use Rattle.arc_levels.specs.Heights.{AreHeights, IsLonely, arc_of};
 
-use crate::gaps::{Pair, pair_next};
+use crate::gaps::{Edge, pair_next};
 use crate::removals::Removals;
 use crate::rounds::path_at;
 use fapp_model::{Choice, Instance, NoMemory, choice_at, choice_count};
@@ -39,7 +39,7 @@ fn left_at(
     polarization: i8,
 ) -> Result<Vec<u32>, NoMemory>
     requires instance { IsInstance instance.now }
-    requires rows { AreMarks instance.now removals.now.rows.items }
+    requires rows { AreHeights instance.now removals.now.rows.items }
     requires path { path < length instance.now.paths }
     ensures { IfOk result (λ freqs. freqs.items ≡
         left_freqs instance.now level removals.now.rows.items path polarization (count_at instance.now path)) }
@@ -64,7 +64,7 @@ pub fn left_of(
     path: u16,
 ) -> Result<Left, NoMemory>
     requires instance { IsInstance instance.now }
-    requires rows { AreMarks instance.now removals.now.rows.items }
+    requires rows { AreHeights instance.now removals.now.rows.items }
     requires path { path < length instance.now.paths }
     ensures { IfOk result (IsLeft instance.now level removals.now.rows.items path) }
 {
@@ -83,7 +83,7 @@ fn place_of(freqs: &[u32], next: u32) -> usize
 }
 
 /// Whether a choice goes with one at some of the frequencies and at a polarization.
-fn is_met(pair: &Pair, first: Choice, polarization: i8, freqs: &[u32]) -> bool
+fn is_met(pair: &Edge, first: Choice, polarization: i8, freqs: &[u32]) -> bool
     requires pair { IsPair pair.now }
     requires first { IsNumber first.freq }
     requires rising { AreRising freqs.now }
@@ -105,7 +105,7 @@ fn is_met(pair: &Pair, first: Choice, polarization: i8, freqs: &[u32]) -> bool
 }
 
 /// Whether a choice goes with one that is left.
-fn has_partner(pair: &Pair, first: Choice, left: &Left) -> bool
+fn has_partner(pair: &Edge, first: Choice, left: &Left) -> bool
     requires pair { IsPair pair.now }
     requires first { IsNumber first.freq }
     requires minus { AreRising left.now.minus.items }
@@ -116,9 +116,9 @@ fn has_partner(pair: &Pair, first: Choice, left: &Left) -> bool
 }
 
 /// Whether a choice of a pair's path is left and goes with none that is left of the other path.
-pub fn is_lonely(pair: &Pair, left: &Left, removals: &Removals, choice: u16) -> bool
+pub fn is_lonely(pair: &Edge, left: &Left, removals: &Removals, choice: u16) -> bool
     requires pair { IsPair pair.now }
-    requires rows { AreMarks pair.now.instance.now removals.now.rows.items }
+    requires rows { AreHeights pair.now.instance.now removals.now.rows.items }
     requires left { IsLeft pair.now.instance.now pair.now.level removals.now.rows.items pair.now.other left.now }
     requires choice { choice < count_at pair.now.instance.now pair.now.path }
     ensures yes { IsTrue result → IsLonely pair.now.instance.now pair.now.level removals.now.rows.items

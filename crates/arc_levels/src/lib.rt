@@ -5,7 +5,7 @@ mod gaps;
 mod laws;
 mod left;
 mod levels;
-mod marks;
+mod heights;
 mod removals;
 mod rounds;
 mod table;

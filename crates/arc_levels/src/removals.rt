@@ -1,19 +1,19 @@
 ghost use Rattle.std.specs.Prelude.{◌≡◌, ◌+◌, ◌<◌, ◌≤◌, [], length, slice_index_or, IfOk, OnOk};
 ghost use Rattle.fapp_model.specs.declared.level.TheConstants.{MAX_LEVELS};
 ghost use Rattle.fapp_model.specs.search.Partials.{literal};
-ghost use Rattle.arc_levels.specs.Marks.{arc_of, mark_at};
+ghost use Rattle.arc_levels.specs.Heights.{arc_of, height_at};
 ghost use Rattle.arc_levels.specs.Removals.{IsLineAt, IsRemoval};
 
-use crate::marks::Marks;
+use crate::heights::Heights;
 use cert_lines::{Line, Rule};
 use fapp_model::{Items, Literal, MAX_LEVELS, NoMemory, Triple, tag_of};
 use std::alloc::Global;
 
-/// The choices that were removed from the arcs: marks of all choices, and a line for each removed one in the order of
+/// The choices that were removed from the arcs: heights of all choices, and a line for each removed one in the order of
 /// removal.
 #[derive(Debug, Drop)]
 pub struct Removals {
-    pub rows: Vec<Marks>,
+    pub rows: Vec<Heights>,
     pub lines: Items<Line>,
 }
 
@@ -37,11 +37,11 @@ fn line_at(alloc: Global, number: u32, path: u16, choice: u16) -> Result<Line, N
 }
 
 impl Removals {
-    /// A choice's mark.
-    pub fn mark(&self, path: u16, choice: u16) -> u8
+    /// A choice's height.
+    pub fn height(&self, path: u16, choice: u16) -> u8
         requires path { path < length self.now.rows.items }
         requires choice { choice < length (slice_index_or self.now.rows.items path []) }
-        ensures { result ≡ mark_at self.now.rows.items path choice }
+        ensures { result ≡ height_at self.now.rows.items path choice }
     {
         self.rows[path as usize].get(choice as usize)
     }
@@ -52,7 +52,7 @@ impl Removals {
         requires choice { choice < length (slice_index_or self.now.rows.items path []) }
         ensures { result ≡ arc_of self.now.rows.items level (literal path choice) }
     {
-        u32::from(self.mark(path, choice)) <= level
+        u32::from(self.height(path, choice)) <= level
     }
 
     /// Removes a choice at a level.

@@ -5,10 +5,10 @@ ghost use Rattle.fapp_model.specs.Assignments.{count_at, path_at};
 ghost use Rattle.fapp_model.specs.Instances.{IsInstance, IsPath};
 ghost use Rattle.arc_levels.specs.Gaps.{IsPair};
 ghost use Rattle.arc_levels.specs.Left.{IsLeft};
-ghost use Rattle.arc_levels.specs.Marks.{Falls, arc_of};
+ghost use Rattle.arc_levels.specs.Heights.{Falls, arc_of};
 ghost use Rattle.arc_levels.specs.Removals.{AreFresh, AreRemovals, IsRevision, IsSweep, IsTurn};
 
-use crate::gaps::{Pair, pair_at};
+use crate::gaps::{Edge, pair_at};
 use crate::left::{Left, is_lonely, left_of};
 use crate::removals::Removals;
 use fapp_model::{Instance, MAX_LEVELS, NoMemory, Path, choice_count};
@@ -39,7 +39,7 @@ pub fn count(instance: &Instance, path: u16) -> u32
 /// there were any.
 fn revise(
     alloc: Global,
-    pair: &Pair,
+    pair: &Edge,
     left: &Left,
     removals: &mut Removals,
 ) -> Result<bool, NoMemory>

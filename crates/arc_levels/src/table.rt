@@ -8,7 +8,7 @@ ghost use Rattle.fapp_model.specs.search.Arcs.{OutsideArc};
 ghost use Rattle.fapp_model.specs.search.Partials.{IsLiteral, literal};
 ghost use Rattle.arc_levels.specs.ArcLines.{AreArcLines};
 ghost use Rattle.arc_levels.specs.Outside.{IsOutsideTag, IsRootTag};
-ghost use Rattle.arc_levels.specs.Marks.{AreArcs, AreMarks, IsGreatestLeast, IsLeastMark};
+ghost use Rattle.arc_levels.specs.Heights.{AreArcs, AreHeights, IsGreatestLeast, IsLeastHeight};
 
 use crate::levels::{blank_rows, settle_all};
 use crate::removals::Removals;
@@ -54,15 +54,15 @@ fn plain_tag(number: u32) -> Tag
 }
 
 /// At how many levels a path has no choice in the arcs.
-fn least_mark(instance: &Instance, removals: &Removals, path: u16) -> u32
+fn least_height(instance: &Instance, removals: &Removals, path: u16) -> u32
     requires instance { IsInstance instance.now }
-    requires marks { AreMarks instance.now removals.now.rows.items }
+    requires heights { AreHeights instance.now removals.now.rows.items }
     requires path { path < length instance.now.paths }
-    ensures { IsLeastMark instance.now removals.now.rows.items path (count_at instance.now path) result }
+    ensures { IsLeastHeight instance.now removals.now.rows.items path (count_at instance.now path) result }
 {
     let mut least = levels(instance) + 1;
     for choice in 0..count(instance, path) {
-        least = least.min(u32::from(removals.mark(path, choice as u16)));
+        least = least.min(u32::from(removals.height(path, choice as u16)));
     }
     least
 }
@@ -70,12 +70,12 @@ fn least_mark(instance: &Instance, removals: &Removals, path: u16) -> u32
 /// At how many levels some path has no choice in the arcs.
 fn greatest_least(instance: &Instance, removals: &Removals) -> u32
     requires instance { IsInstance instance.now }
-    requires marks { AreMarks instance.now removals.now.rows.items }
+    requires heights { AreHeights instance.now removals.now.rows.items }
     ensures { IsGreatestLeast instance.now removals.now.rows.items (length instance.now.paths) result }
 {
     let mut greatest = 0;
     for path in 0..instance.paths.len() as u16 {
-        let least = least_mark(instance, removals, path);
+        let least = least_height(instance, removals, path);
         if greatest < least {
             greatest = least;
         }
@@ -104,7 +104,7 @@ impl<'a> ArcTable<'a> {
         requires choice { IsLiteral self.now (literal path choice) }
         ensures { IsTrue result ↔ OutsideArc self.now level (literal path choice) }
     {
-        level < u32::from(self.removals.mark(path, choice))
+        level < u32::from(self.removals.height(path, choice))
     }
 
     /// The tag (`l + 1`, 0, 0) for the greatest level `l`, from 0 to the instance's number of levels, at which a choice
@@ -113,7 +113,7 @@ impl<'a> ArcTable<'a> {
         requires { IsLiteral self.now (literal path choice) }
         ensures { IsOutsideTag self.now (literal path choice) (triple_from result.code) }
     {
-        plain_tag(u32::from(self.removals.mark(path, choice)))
+        plain_tag(u32::from(self.removals.height(path, choice)))
     }
 
     /// The tag (`l + 1`, 0, 0) for the greatest level `l` at which some path has no choice in the arcs, else

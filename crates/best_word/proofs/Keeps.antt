@@ -14,8 +14,8 @@ use Rattle.seat_laws.specs.Shares.{Live}
 use Rattle.seat_laws.proofs.Views.{set_at, each_set, some_set, shared_set, each_split, some_split, shared_split, each_join, some_join, shared_join, part_live, alone}
 use Rattle.seat_laws.proofs.Sums.{one_within}
 use Rattle.best_word.specs.declared.view.BestView.{BestView}
-use Rattle.best_word.specs.Bound.{IsBound, IsCodeFor, Knows, Words, word_of, IsOffered, is_spent, share_of, top_code, kept_half, given_half, after_join, spent_view, after_load, after_offer}
-use Rattle.best_word.specs.Steps.{Looks, Lowers, HasPart}
+use Rattle.best_word.specs.Bound.{IsBestWord, IsCodeFor, Knows, Words, word_of, IsSeatOffer, is_spent, share_of, top_code, kept_half, given_half, after_join, spent_view, after_load, after_offer}
+use Rattle.best_word.specs.Steps.{LoadsBest, Lowers, HasPart}
 use Rattle.best_word.specs.Seats.{IsLeastOf}
 
 -- a lower word is known by whoever knew the word
@@ -23,9 +23,9 @@ knows-lower : (levels word n : ℕ) → n ≤ word → (v : BestView) → Knows 
 knows-lower levels word n low v k = record { same_levels = k.same_levels; below = le_trans low k.below; most = k.most; offers = k.offers; found = k.found }
 
 -- One live view changes, with the same share, and the word does not rise.
-kept : (levels : ℕ) (s : Words) (b : IsBound levels s) (id : ℕ) (v w : BestView) (n : ℕ) → Live is_spent s.views id v → w.spent ≡ false → w.share ≡ v.share → IsCodeFor levels n → n ≤ word_of s → Knows levels n w
+kept : (levels : ℕ) (s : Words) (b : IsBestWord levels s) (id : ℕ) (v w : BestView) (n : ℕ) → Live is_spent s.views id v → w.spent ≡ false → w.share ≡ v.share → IsCodeFor levels n → n ≤ word_of s → Knows levels n w
     → ((n ≡ word_of s) ⊎ Contains w.offers n) → (Contains v.offers (word_of s) → Contains w.offers (word_of s))
-    → IsBound levels (stepped s 0 n id [] w keeps)
+    → IsBestWord levels (stepped s 0 n id [] w keeps)
 kept levels s b id v w n l un sh code low known from more =
     let is : get_or (set s.words 0 n) 0 0 ≡ n = get_or-set_same s.words 0 n 0 (let one = b.one in omega arith) in
     record {
@@ -34,7 +34,7 @@ kept levels s b id v w n l un sh code low known from more =
       offered = rw is (⊎_elim
           (λ (same : n ≡ word_of s). ⊎_elim
           (λ t. inl (same ∙ t))
-          (λ (o : IsOffered s.views (word_of s)). inr (subst (IsOffered (set s.views id w)) (sym same) (some_set is_spent (λ u. Contains u.offers (word_of s)) s.views id v w l un more o)))
+          (λ (o : IsSeatOffer s.views (word_of s)). inr (subst (IsSeatOffer (set s.views id w)) (sym same) (some_set is_spent (λ u. Contains u.offers (word_of s)) s.views id v w l un more o)))
           b.offered)
           (λ c. inr (id, w, record { there = set_at s.views id v w l.there; unspent = un }, c))
           from);
@@ -49,7 +49,7 @@ live_me s id v un at = record { there = at; unspent = un }
 own-code : (levels n : ℕ) (v : BestView) → v.levels ≡ levels → IsCodeFor levels n → IsCodeFor v.levels n
 own-code levels n v e c = subst (λ l. IsCodeFor l n) (sym e) c
 
-pub looks : (levels slots id : ℕ) (me : Me (Unit {0}) BestView) → me.1 ≡ [] → me.0.spent ≡ false → Allows (IsBound levels) slots id me 0 (λ n. n) (Looks (step slots 0 0 0 none) me)
+pub looks : (levels slots id : ℕ) (me : Me (Unit {0}) BestView) → me.1 ≡ [] → me.0.spent ≡ false → Allows (IsBestWord levels) slots id me 0 (λ n. n) (LoadsBest (step slots 0 0 0 none) me)
 looks levels slots id me empty un s b _ at _ =
     let n : ℕ = word_of s in
     let v : BestView = me.0 in
@@ -75,7 +75,7 @@ lesser-code levels n k c d = dite (dec_le n k)
     (λ h. subst (IsCodeFor levels) (let e : n ≡ min n k = omega arith in e) c)
     (λ h. subst (IsCodeFor levels) (let e : k ≡ min n k = omega arith in e) d)
 
-pub lowers : (levels slots id k : ℕ) (me : Me (Unit {0}) BestView) → me.1 ≡ [] → me.0.spent ≡ false → IsTrue (is_code k) → k ≤ top_code me.0.levels → Allows (IsBound levels) slots id me 0 (λ n. min n k) (Lowers (step slots 0 k 0 none) me)
+pub lowers : (levels slots id k : ℕ) (me : Me (Unit {0}) BestView) → me.1 ≡ [] → me.0.spent ≡ false → IsTrue (is_code k) → k ≤ top_code me.0.levels → Allows (IsBestWord levels) slots id me 0 (λ n. min n k) (Lowers (step slots 0 k 0 none) me)
 lowers levels slots id k me empty un code small s b _ at _ =
     let n : ℕ = word_of s in
     let v : BestView = me.0 in
@@ -102,7 +102,7 @@ lowers levels slots id k me empty un code small s b _ at _ =
       (own-code levels n v kn.same_levels b.tag, kn.below, refl, refl),
     )
 
-pub splits : (levels id : ℕ) (v : BestView) → v.spent ≡ false → 2 ≤ v.share → Splits (IsBound levels) id v (kept_half v) (given_half v)
+pub splits : (levels id : ℕ) (v : BestView) → v.spent ≡ false → 2 ≤ v.share → Splits (IsBestWord levels) id v (kept_half v) (given_half v)
 splits levels id v un two s b at =
     let l : Live is_spent s.views id v = live_me s id v un at in
     let left : BestView = kept_half v in
@@ -120,7 +120,7 @@ splits levels id v un two s b at =
           (let h : 1 ≤ v.share - v.share / 2 = omega arith in h) (let h : 1 ≤ v.share / 2 = omega arith in h) (let h : v.share - v.share / 2 + v.share / 2 ≡ v.share = omega arith in h);
     }
 
-pub joins : (levels id : ℕ) (v : BestView) (other : ℕ) (w : BestView) → v.spent ≡ false → w.spent ≡ false → Joins (IsBound levels) id v other w (after_join v w) spent_view
+pub joins : (levels id : ℕ) (v : BestView) (other : ℕ) (w : BestView) → v.spent ≡ false → w.spent ≡ false → Joins (IsBestWord levels) id v other w (after_join v w) spent_view
 joins levels id v other w unv unw s b at apart at' =
     let both : BestView = after_join v w in
     let l : Live is_spent s.views id v = live_me s id v unv at in
@@ -153,7 +153,7 @@ joins levels id v other w unv unw s b at apart at' =
       shares = shared_join is_spent share_of WHOLE_SHARE s.views id other v w both spent_view b.shares ne l r refl refl refl;
     }
 
-pub has_part : (levels slots id : ℕ) (me : Me (Unit {0}) BestView) → me.1 ≡ [] → me.0.spent ≡ false → Allows (IsBound levels) slots id me 0 (λ n. n) (HasPart (step slots 0 0 0 none) me)
+pub has_part : (levels slots id : ℕ) (me : Me (Unit {0}) BestView) → me.1 ≡ [] → me.0.spent ≡ false → Allows (IsBestWord levels) slots id me 0 (λ n. n) (HasPart (step slots 0 0 0 none) me)
 has_part levels slots id me empty un s b _ at _ =
     let n : ℕ = word_of s in
     let v : BestView = me.0 in
@@ -169,10 +169,10 @@ has_part levels slots id me empty un s b _ at _ =
       (omega arith, refl),
     )
 
-pub closes : (levels id : ℕ) (v : BestView) (words : List ℕ) (slots : List (Unit {0})) (n : ℕ) → v.spent ≡ false → v.share ≡ WHOLE_SHARE → Final (Seen (IsBound levels) id v) words slots → get_elem? words 0 ≡ some n → IsLeastOf v n
+pub closes : (levels id : ℕ) (v : BestView) (words : List ℕ) (slots : List (Unit {0})) (n : ℕ) → v.spent ≡ false → v.share ≡ WHOLE_SHARE → Final (Seen (IsBestWord levels) id v) words slots → get_elem? words 0 ≡ some n → IsLeastOf v n
 closes levels id v words slots n un all f at =
     let s : Words = f.0 in
-    let b : IsBound levels s = f.1.0 in
+    let b : IsBestWord levels s = f.1.0 in
     let l : Live is_spent s.views id v = live_me s id v un f.1.1 in
     let k = b.known id v l in
     let is : word_of s ≡ n = first_word s.words n (ap (λ (ws : List ℕ). get_elem? ws 0) f.2 ∙ at) in
@@ -180,7 +180,7 @@ closes levels id v words slots n un all f at =
       tag = own-code levels (word_of s) v k.same_levels b.tag;
       from = ⊎_elim
           (λ t. inl (t ∙ ap top_code (sym k.same_levels)))
-          (λ (o : IsOffered s.views (word_of s)). inr (subst (λ (u : BestView). Contains u.offers (word_of s)) (sym (alone is_spent share_of WHOLE_SHARE s.views b.shares id o.0 v o.1 l all o.2)) o.3))
+          (λ (o : IsSeatOffer s.views (word_of s)). inr (subst (λ (u : BestView). Contains u.offers (word_of s)) (sym (alone is_spent share_of WHOLE_SHARE s.views b.shares id o.0 v o.1 l all o.2)) o.3))
           b.offered;
       least = k.below;
       offers = All-weaker (λ m. v.least ≤ m) (λ m. word_of s ≤ m) (λ m h. le_trans k.below h) v.offers k.offers;

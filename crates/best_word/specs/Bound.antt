@@ -36,14 +36,14 @@ pub record Knows (levels word : ℕ) (v : BestView) : Type 0 where
   pub found : All (λ n. v.least ≤ n) v.found
 
 -- some seat has offered it
-abbrev pub IsOffered : List BestView → ℕ → Type 0
-IsOffered views n = SomeLive is_spent (λ v. Contains v.offers n) views
+abbrev pub IsSeatOffer : List BestView → ℕ → Type 0
+IsSeatOffer views n = SomeLive is_spent (λ v. Contains v.offers n) views
 
 -- what holds between any two steps: the word is a tag, offered or the first one, and no more than what each seat knows
-pub record IsBound (levels : ℕ) (s : Words) : Type 0 where
+pub record IsBestWord (levels : ℕ) (s : Words) : Type 0 where
   pub one : length s.words ≡ 1
   pub tag : IsCodeFor levels (word_of s)
-  pub offered : (word_of s ≡ top_code levels) ⊎ IsOffered s.views (word_of s)
+  pub offered : (word_of s ≡ top_code levels) ⊎ IsSeatOffer s.views (word_of s)
   pub known : EachLive is_spent (Knows levels (word_of s)) s.views
   pub shares : IsShared is_spent share_of WHOLE_SHARE s.views
 

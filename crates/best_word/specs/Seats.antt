@@ -3,7 +3,7 @@ use Rattle.std.specs.Prelude.{◌≡◌, ◌⊎◌, ℕ, ◌≤◌, List, [], Al
 use Rattle.best_word.specs.declared.view.BestView.{BestView}
 use Rattle.best_word.specs.declared.seat.BestSeat.{BestSeat}
 use Rattle.best_word.specs.declared.seat.BestWord.{BestWord}
-use Rattle.best_word.specs.Bound.{Words, word_of, IsCodeFor, IsOffered, is_spent, top_code}
+use Rattle.best_word.specs.Bound.{Words, word_of, IsCodeFor, IsSeatOffer, is_spent, top_code}
 use Rattle.seat_laws.specs.Shares.{EachLive}
 
 abbrev pub view_of : BestSeat → BestView
@@ -26,8 +26,8 @@ pub record IsLeastOf (v : BestView) (n : ℕ) : Type 0 where
   pub found : All (λ m. n ≤ m) v.found
 
 -- The word is the least that the live views offered, or the top code where none did.
-pub record IsLeastOffered (levels : ℕ) (s : Words) : Type 0 where
-  pub from : (word_of s ≡ top_code levels) ⊎ IsOffered s.views (word_of s)
+pub record IsLeastOffer (levels : ℕ) (s : Words) : Type 0 where
+  pub from : (word_of s ≡ top_code levels) ⊎ IsSeatOffer s.views (word_of s)
   pub least : EachLive is_spent (λ v. All (λ m. word_of s ≤ m) v.offers) s.views
 
 -- a seat that has offered and found nothing, for costs of an instance with so many levels

@@ -6,9 +6,9 @@ use atomic_table::{Join, Play, Split};
 pub struct Look;
 
 impl Play<(), BestView> for Look {
-    ghost use Rattle.best_word.specs.Steps.{Looks};
+    ghost use Rattle.best_word.specs.Steps.{LoadsBest};
 
-    ghost then = { Looks };
+    ghost then = { LoadsBest };
 }
 
 /// The word is lowered to an offer, where that is less.

@@ -22,9 +22,9 @@ pub struct BestView {
 pub struct BoundRule;
 
 impl TableRule<(), BestView, u64> for BoundRule {
-    ghost use Rattle.best_word.specs.Bound.{IsBound, first_view};
+    ghost use Rattle.best_word.specs.Bound.{IsBestWord, first_view};
 
-    ghost holds = { IsBound };
+    ghost holds = { IsBestWord };
 
     ghost first = { first_view };
 }

@@ -14,7 +14,7 @@ use Rattle.cert_lines.proofs.Ascending.{few_items}
 use Rattle.cert_lines.proofs.Deleting.{plain-deletes, plain-rule}
 use Rattle.fapp_model.proofs.TagParts.{TagShape, limited, plain, shape, mode-limited, mode-plain}
 use Rattle.cert_lines.specs.declared.reject.RejectCause.{RejectCause}
-use Rattle.cert_lines.specs.WellFormed.{IsEntry, IsLine}
+use Rattle.cert_lines.specs.WellFormed.{IsLineOrDelete, IsLine}
 use Rattle.cert_lines.specs.acceptance.Deleted.{deletes}
 use Rattle.cert_lines.specs.acceptance.LineFaults.{cite_fault, delete_fault, first_of, line_fault, rule_fault}
 use Rattle.accept_laws.proofs.GoodLines.{good-cite}
@@ -61,12 +61,12 @@ other-line instance earlier line formed h =
     ∙ cond-false (eqb line.tag.code 0) None (rule_fault instance earlier line.tag line.lits line.rule) (ne_eqb line.tag.code 0 h)
 
 -- a line that has a tag above (0, 0, 0) is no Delete line
-pub entry-line : (instance : Instance) (line : Line) → IsEntry instance line → (line.tag.code ≡ 0 → ⊥) → IsLine instance line
+pub entry-line : (instance : Instance) (line : Line) → IsLineOrDelete instance line → (line.tag.code ≡ 0 → ⊥) → IsLine instance line
 entry-line instance line (inl formed) h = formed
 entry-line instance line (inr deleting) h = absurd (h deleting.tag)
 
 -- a Delete line has no literals
-pub entry-literals : (instance : Instance) (line : Line) → IsEntry instance line → AreLiterals instance line.lits
+pub entry-literals : (instance : Instance) (line : Line) → IsLineOrDelete instance line → AreLiterals instance line.lits
 entry-literals instance line (inl formed) = formed.lits
 entry-literals instance line (inr deleting) = subst (AreLiterals instance) (sym deleting.lits) (record { in_range = λ k d l. absurd (omega arith); ascending = λ i j d l m. absurd (omega arith) })
 

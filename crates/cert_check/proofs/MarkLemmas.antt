@@ -11,7 +11,7 @@ use Rattle.cert_lines.specs.declared.answer.Line.{Line}
 use Rattle.fapp_model.specs.declared.instance.Instance.{Instance}
 use Rattle.fapp_model.proofs.Anys.{any-member, passing}
 use Rattle.fapp_model.proofs.Members.{from-range, in-range}
-use Rattle.cert_lines.specs.WellFormed.{IsEntry}
+use Rattle.cert_lines.specs.WellFormed.{IsLineOrDelete}
 use Rattle.cert_lines.specs.acceptance.Deleted.{is_delete, is_deleted, is_kept, kept}
 use Rattle.cert_lines.specs.acceptance.Excluded.{no_line, is_only, is_marked, line_at}
 use Rattle.cert_lines.proofs.Deleting.{kept-line, kept-there, plain-rule}
@@ -19,7 +19,7 @@ use Rattle.cert_check.specs.Marked.{line_on, ones_of, is_mark, has_mark}
 use Rattle.cert_check.proofs.Filters.{any-filter, same-tests}
 
 -- a line with a literal is no Delete line
-only-plain : (instance : Instance) (line : Line) (a : Literal) → IsEntry instance line → is_only a line.lits ≡ true → is_delete line.rule ≡ false
+only-plain : (instance : Instance) (line : Line) (a : Literal) → IsLineOrDelete instance line → is_only a line.lits ≡ true → is_delete line.rule ≡ false
 only-plain instance line a (inl formed) e = plain-rule instance line.rule formed.rule
 only-plain instance line a (inr deleting) e = absurd (no-literal (ap (is_only a) (sym deleting.lits) ∙ e))
   where
@@ -27,7 +27,7 @@ only-plain instance line a (inr deleting) e = absurd (no-literal (ap (is_only a)
     no-literal e = cc
 
 -- positions of lines of one literal mark it where a line that is kept of the first n does
-pub mark-ones : (instance : Instance) (lines : List Line) (n : ℕ) (t : Tag) (a : Literal) → All (IsEntry instance) lines → has_mark lines n t (ones_of lines a) ≡ is_marked (kept (take n lines)) t a
+pub mark-ones : (instance : Instance) (lines : List Line) (n : ℕ) (t : Tag) (a : Literal) → All (IsLineOrDelete instance) lines → has_mark lines n t (ones_of lines a) ≡ is_marked (kept (take n lines)) t a
 unfolding ones_of
 mark-ones instance lines n t a formed = any-filter (is_mark lines n t) only (range_with_len 0 (length lines)) ∙ same-tests _ _ to from
   where

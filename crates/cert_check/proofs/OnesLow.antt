@@ -9,7 +9,7 @@ use Rattle.fapp_model.specs.declared.literal.Literal.{Literal}
 use Rattle.fapp_model.specs.Assignments.{count_at}
 use Rattle.fapp_model.specs.search.Partials.{literal}
 use Rattle.cert_lines.specs.declared.answer.Line.{Line}
-use Rattle.cert_lines.specs.WellFormed.{IsEntry}
+use Rattle.cert_lines.specs.WellFormed.{IsLineOrDelete}
 use Rattle.cert_lines.specs.acceptance.Excluded.{no_line}
 use Rattle.cert_check.specs.Marked.{line_on}
 use Rattle.cert_check.specs.Ones.{is_one_of, first_literal, ones_by_path, AreLow}
@@ -24,7 +24,7 @@ own-path path [] h = absurd (cc)
 own-path path (b ∷ []) h = eqb-true b.path path h
 own-path path (b ∷ c ∷ more) h = absurd (cc)
 
-pub ones-low : (instance : Instance) (lines : List Line) (path : ℕ) → All (IsEntry instance) lines → AreLow lines (count_at instance path) (ones_by_path lines path)
+pub ones-low : (instance : Instance) (lines : List Line) (path : ℕ) → All (IsLineOrDelete instance) lines → AreLow lines (count_at instance path) (ones_by_path lines path)
 unfolding ones_by_path
 ones-low instance lines path formed = record {
   within = inside;

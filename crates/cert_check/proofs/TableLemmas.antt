@@ -9,13 +9,13 @@ use Rattle.cert_lines.specs.declared.answer.Line.{Line}
 use Rattle.cert_lines.specs.acceptance.Excluded.{is_only}
 use Rattle.cert_check.specs.Tables.{IsPushed}
 use Rattle.cert_check.specs.Ones.{is_one_of, first_literal, choice_on, ones_by_path}
-use Rattle.cert_check.specs.Marked.{row_of, line_on, ones_of}
+use Rattle.cert_check.specs.Marked.{marked_row, line_on, ones_of}
 use Rattle.cert_check.proofs.Steps.{range_more}
 
 pub filter_range : (p : ℕ → Bool) (n : ℕ) → filter p (range_with_len 0 (n + 1)) ≡ filter p (range_with_len 0 n) ++ cond (p n) (n ∷ []) []
 filter_range p n = ap (filter p) (range_more 0 n) ∙ (filter-append p (range_with_len 0 n) ((0 + n) ∷ []) ∙ ap (λ k. filter p (range_with_len 0 n) ++ cond (p k) (k ∷ []) []) (zero-add n))
 
-pub empty_push : (table : List (List ℕ)) → ((row : ℕ) → row_of table row ≡ []) → (row : ℕ) → row_of (table ++ [] ∷ []) row ≡ []
+pub empty_push : (table : List (List ℕ)) → ((row : ℕ) → marked_row table row ≡ []) → (row : ℕ) → marked_row (table ++ [] ∷ []) row ≡ []
 empty_push [] h zero = refl
 empty_push [] h (suc row) = refl
 empty_push (r ∷ table) h zero = h zero
@@ -26,15 +26,15 @@ nothing-more [] = refl
 nothing-more (x ∷ xs) = ap (λ ys. x ∷ ys) (nothing-more xs)
 
 -- a pushed row, by a test
-pub pushed-rows : (old new : List (List ℕ)) (row k : ℕ) → IsPushed old new row k → (path : ℕ) → row_of new path ≡ row_of old path ++ cond (eqb row path) (k ∷ []) []
+pub pushed-rows : (old new : List (List ℕ)) (row k : ℕ) → IsPushed old new row k → (path : ℕ) → marked_row new path ≡ marked_row old path ++ cond (eqb row path) (k ∷ []) []
 pushed-rows old new row k h path = by_test (eqb row path) refl
   where
-    by_test : (b : Bool) → eqb row path ≡ b → row_of new path ≡ row_of old path ++ cond b (k ∷ []) []
-    by_test true e = subst (λ (p : ℕ). row_of new p ≡ row_of old p ++ k ∷ []) (eqb-true row path e) h.here
-    by_test false e = h.there path (λ same. eqb-false row path e (sym same)) ∙ sym (nothing-more (row_of old path))
+    by_test : (b : Bool) → eqb row path ≡ b → marked_row new path ≡ marked_row old path ++ cond b (k ∷ []) []
+    by_test true e = subst (λ (p : ℕ). marked_row new p ≡ marked_row old p ++ k ∷ []) (eqb-true row path e) h.here
+    by_test false e = h.there path (λ same. eqb-false row path e (sym same)) ∙ sym (nothing-more (marked_row old path))
 
-pub same-row : (old new : List (List ℕ)) (path : ℕ) (b : Bool) (k : ℕ) → new ≡ old → b ≡ false → row_of new path ≡ row_of old path ++ cond b (k ∷ []) []
-same-row old new path b k e h = ap (λ (t : List (List ℕ)). row_of t path) e ∙ sym (ap (λ c. row_of old path ++ cond c (k ∷ []) []) h ∙ nothing-more (row_of old path))
+pub same-row : (old new : List (List ℕ)) (path : ℕ) (b : Bool) (k : ℕ) → new ≡ old → b ≡ false → marked_row new path ≡ marked_row old path ++ cond b (k ∷ []) []
+same-row old new path b k e h = ap (λ (t : List (List ℕ)). marked_row t path) e ∙ sym (ap (λ c. marked_row old path ++ cond c (k ∷ []) []) h ∙ nothing-more (marked_row old path))
 
 pub one-of : (path : ℕ) (literals : List Literal) → length literals ≡ 1 → is_one_of path literals ≡ eqb (first_literal literals).path path
 one-of path [] h = absurd (omega arith)

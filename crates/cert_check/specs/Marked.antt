@@ -21,8 +21,8 @@ unfoldable pub ones_of : List Line → Literal → List ℕ
 ones_of lines a = filter (λ k. is_only a (line_on lines k).lits) (range_with_len 0 (length lines))
 
 -- the row of a table
-abbrev pub row_of : {X : Type 0} → List (List X) → ℕ → List X
-row_of table k = slice_index_or table k []
+abbrev pub marked_row : {X : Type 0} → List (List X) → ℕ → List X
+marked_row table k = slice_index_or table k []
 
 -- where the first line stands that deletes a number, or how many lines there are where none does
 unfoldable pub deleter_of : List Line → ℕ → ℕ
@@ -36,12 +36,12 @@ pub record AreDeleters (lines : List Line) (deleters : List ℕ) : Type 0 where
 -- the lines of one literal, by path and choice, the lines that delete others, and the records by path
 pub record IsMarks (instance : Instance) (lines : List Line) (marks : Marks) : Type 0 where
   pub paths : length marks.ones ≡ length instance.paths
-  pub choices : (path : ℕ) → path < length instance.paths → length (row_of marks.ones path) ≡ count_at instance path
+  pub choices : (path : ℕ) → path < length instance.paths → length (marked_row marks.ones path) ≡ count_at instance path
   pub ones : (path index : ℕ) → path < length instance.paths → index < count_at instance path →
-      row_of (row_of marks.ones path) index ≡ ones_of lines (literal path index)
+      marked_row (marked_row marks.ones path) index ≡ ones_of lines (literal path index)
   pub deleters : AreDeleters lines marks.deleters
   pub rows : length marks.places ≡ length instance.paths
-  pub places : (path : ℕ) → path < length instance.paths → row_of marks.places path ≡ places_of instance path
+  pub places : (path : ℕ) → path < length instance.paths → marked_row marks.places path ≡ places_of instance path
 
 -- a position stands before n, has at least the tag, and is deleted by none of the first n lines
 abbrev pub is_mark : List Line → ℕ → Tag → ℕ → Bool

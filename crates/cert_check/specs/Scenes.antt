@@ -12,7 +12,7 @@ use Rattle.cert_lines.specs.declared.answer.Child.{Child}
 use Rattle.cert_lines.specs.declared.answer.Line.{Line}
 use Rattle.cert_lines.specs.declared.answer.Rule.{Rule}
 use Rattle.cert_lines.specs.declared.reject.RejectCause.{RejectCause}
-use Rattle.cert_lines.specs.WellFormed.{IsEntry}
+use Rattle.cert_lines.specs.WellFormed.{IsLineOrDelete}
 use Rattle.cert_lines.specs.acceptance.Judged.{judged_dead, least_pair, remains, with_choice}
 use Rattle.cert_lines.specs.acceptance.LineFaults.{is_settled, rule_fault}
 use Rattle.cert_lines.specs.acceptance.Excluded.{is_excluded}
@@ -22,7 +22,7 @@ use Rattle.cert_check.specs.Marked.{IsMarks, AreEarlier}
 pub record IsScene (scene : Scene) : Type 0 where
   pub instance : IsInstance scene.instance.now
   pub marks : IsMarks scene.instance.now scene.lines.now scene.marks.now
-  pub entries : All (IsEntry scene.instance.now) scene.lines.now
+  pub entries : All (IsLineOrDelete scene.instance.now) scene.lines.now
   pub n : scene.n ≤ length scene.lines.now
   pub cites : AreEarlier scene.n scene.cites.now
   pub level : scene.level ≤ MAX_LEVELS

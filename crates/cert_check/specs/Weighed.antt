@@ -17,9 +17,9 @@ use Rattle.cert_check.specs.Scenes.{excluded_by, pair_by}
 use Rattle.cert_check.specs.Weights.{added_most, row_most, whole_most}
 
 -- a record between a literal and the others is hard-bad, or what those add that name its path first
-abbrev pub IsRow : Instance → ℕ → List Literal → Literal → Option Weight → Type 0
-IsRow instance level literals a None = clashes_with instance level literals a ≡ true
-IsRow instance level literals a (Some w) = (clashes_with instance level literals a ≡ false)
+abbrev pub IsWeighedRow : Instance → ℕ → List Literal → Literal → Option Weight → Type 0
+IsWeighedRow instance level literals a None = clashes_with instance level literals a ≡ true
+IsWeighedRow instance level literals a (Some w) = (clashes_with instance level literals a ≡ false)
     × (w.v ≡ sum_by (λ b. between instance (bad_before level) a b) literals)
     × (w.s ≡ sum_by (λ b. between instance (bad_further level) a b) literals)
     × (w.v ≤ row_most) × (w.s ≤ row_most)
@@ -40,8 +40,8 @@ pub record IsNear (instance : Instance) (literals : List Literal) (near : List B
   pub apart : (path : ℕ) → path < length instance.paths → near_at near path ≡ false →
       ties_of instance literals path ≡ []
 
-abbrev pub paths_of : Scene → List ℕ
-paths_of scene = range_with_len 0 (length scene.instance.now.paths)
+abbrev pub weighed_paths : Scene → List ℕ
+weighed_paths scene = range_with_len 0 (length scene.instance.now.paths)
 
 -- a path has no choice left
 abbrev pub stuck_by : Scene → List Literal → ℕ → Bool
@@ -61,16 +61,16 @@ IsStep scene literals near path (Some w) = ((near_at near path && stuck_by scene
 -- some marked path is stuck
 abbrev pub near_stuck : Scene → List Literal → List Bool → Bool
 near_stuck scene literals near =
-    list_any (λ path. near_at near path && stuck_by scene literals path) (paths_of scene)
+    list_any (λ path. near_at near path && stuck_by scene literals path) (weighed_paths scene)
 
 -- some path without a mark is stuck
 abbrev pub far_stuck : Scene → List Literal → List Bool → Bool
 far_stuck scene literals near =
-    list_any (λ path. not (near_at near path) && stuck_by scene literals path) (paths_of scene)
+    list_any (λ path. not (near_at near path) && stuck_by scene literals path) (weighed_paths scene)
 
 -- some path is stuck
 abbrev pub any_stuck : Scene → List Literal → Bool
-any_stuck scene literals = list_any (stuck_by scene literals) (paths_of scene)
+any_stuck scene literals = list_any (stuck_by scene literals) (weighed_paths scene)
 
 -- the tag has a limit, and both weights together come to it
 abbrev pub over_by : Scene → Weight → Weight → Bool

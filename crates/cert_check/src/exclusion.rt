@@ -6,7 +6,7 @@ ghost use Rattle.cert_lines.specs.acceptance.Contained.{is_same, has, has_all};
 ghost use Rattle.cert_lines.specs.acceptance.Deleted.{is_deleted, kept};
 ghost use Rattle.cert_lines.specs.acceptance.Excluded.{is_marked, is_cited, is_excluded};
 ghost use Rattle.cert_check.specs.Scenes.{IsScene, excluded_by};
-ghost use Rattle.cert_check.specs.Marked.{IsMarks, AreEarlier, has_mark, is_mark, row_of, ones_of};
+ghost use Rattle.cert_check.specs.Marked.{IsMarks, AreEarlier, has_mark, is_mark, marked_row, ones_of};
 
 use crate::marks::Marks;
 use cert_lines::Line;

@@ -8,7 +8,7 @@ ghost use Rattle.fapp_model.specs.Assignments.{count_at};
 ghost use Rattle.fapp_model.specs.Instances.{IsInstance};
 ghost use Rattle.fapp_model.specs.Tags.{mode_level, triple_from};
 ghost use Rattle.cert_check.specs.Scenes.{IsScene, all_excluded, dead_by, excluded_by};
-ghost use Rattle.cert_check.specs.Weighed.{IsRow, IsOwn, IsNear, IsStep, IsWeighed, near_at, far_stuck, over_by, stuck_by};
+ghost use Rattle.cert_check.specs.Weighed.{IsWeighedRow, IsOwn, IsNear, IsStep, IsWeighed, near_at, far_stuck, over_by, stuck_by};
 ghost use Rattle.cert_check.specs.Weights.{whole_most};
 
 use crate::between::{clashes_with, row};
@@ -31,7 +31,7 @@ fn own_row(
     requires literals { All (IsLiteral scene.instance.now) literals.now }
     requires few { length literals.now ≤ 2 ^ 14 }
     requires literal { IsLiteral scene.instance.now a }
-    ensures { IfOk result (IsRow scene.entry.instance.now scene.entry.level literals.now a) }
+    ensures { IfOk result (IsWeighedRow scene.entry.instance.now scene.entry.level literals.now a) }
 {
     let ties = ties_of(alloc, scene, literals, a.path)?;
     let places = ties.as_slice();

@@ -6,7 +6,7 @@ ghost use Rattle.fapp_model.specs.Assignments.{count_at};
 ghost use Rattle.fapp_model.specs.Instances.{IsInstance};
 ghost use Rattle.fapp_model.specs.search.Partials.{IsLiteral};
 ghost use Rattle.fapp_model.specs.Tags.{mode_level, triple_from};
-ghost use Rattle.cert_lines.specs.WellFormed.{IsEntry, IsLine};
+ghost use Rattle.cert_lines.specs.WellFormed.{IsLineOrDelete, IsLine};
 ghost use Rattle.cert_lines.specs.acceptance.LineFaults.{cause_unless, delete_fault, first_of, line_fault};
 ghost use Rattle.cert_lines.specs.acceptance.Deleted.{deletes};
 ghost use Rattle.cert_lines.specs.declared.reject.RejectCause.TheVariants.{NotDead};
@@ -190,7 +190,7 @@ fn deleting_fault(
     requires instance { IsInstance instance.now }
     requires marks { IsMarks instance.now lines.now marks.now }
     requires n { n < length lines.now }
-    requires lines { All (IsEntry instance.now) lines.now }
+    requires lines { All (IsLineOrDelete instance.now) lines.now }
     ensures { result ≡ first_of (delete_fault (take n lines.now)) (deletes (line_on lines.now n).rule) }
 {
     let line = &lines[n];
@@ -217,7 +217,7 @@ pub(crate) fn line_fault(
     requires instance { IsInstance instance.now }
     requires marks { IsMarks instance.now lines.now marks.now }
     requires n { n < length lines.now }
-    requires lines { All (IsEntry instance.now) lines.now }
+    requires lines { All (IsLineOrDelete instance.now) lines.now }
     ensures { IfOk result (λ fault. fault ≡ line_fault instance.now (take n lines.now) (line_on lines.now n)) }
 {
     let line = &lines[n];

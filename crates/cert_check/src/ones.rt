@@ -2,7 +2,7 @@
 
 ghost use Rattle.std.specs.Prelude.{◌≡◌, ◌<◌, ◌^◌, length, IfOk, OnOk, All};
 ghost use Rattle.fapp_model.specs.Instances.{IsInstance};
-ghost use Rattle.cert_lines.specs.WellFormed.{IsEntry};
+ghost use Rattle.cert_lines.specs.WellFormed.{IsLineOrDelete};
 ghost use Rattle.cert_check.specs.Ones.{first_literal, ones_by_path, IsRowsOf, IsOnes, IsLineAdded, AreOnesByPath, AreByChoice, AreLow};
 ghost use Rattle.cert_check.specs.Tables.{AreEmpty};
 
@@ -24,7 +24,7 @@ fn add_line(table: &mut [Items<u32>], literals: &[Literal], place: u32) -> Resul
 }
 
 fn add_lines(table: &mut [Items<u32>], _instance: &Instance, lines: &[Line]) -> Result<(), NoMemory>
-    requires lines { All (IsEntry _instance.now) lines.now }
+    requires lines { All (IsLineOrDelete _instance.now) lines.now }
     requires few { length lines.now < 2 ^ 32 }
     requires empty { AreEmpty (length _instance.now.paths) table.old }
     ensures { OnOk result (AreOnesByPath lines.now (length _instance.now.paths) table.new) }
@@ -77,7 +77,7 @@ fn rows_of_path(
     path: u16,
 ) -> Result<Items<Items<u32>>, NoMemory>
     requires instance { IsInstance instance.now }
-    requires lines { All (IsEntry instance.now) lines.now }
+    requires lines { All (IsLineOrDelete instance.now) lines.now }
     requires path { path < length instance.now.paths }
     requires ones { ones.now ≡ ones_by_path lines.now path }
     ensures { IfOk result (IsRowsOf instance.now lines.now path) }
@@ -92,7 +92,7 @@ fn lines_by_path(
     instance: &Instance,
     lines: &[Line],
 ) -> Result<Vec<Items<u32>>, NoMemory>
-    requires lines { All (IsEntry instance.now) lines.now }
+    requires lines { All (IsLineOrDelete instance.now) lines.now }
     requires few { length lines.now < 2 ^ 32 }
     ensures { IfOk result (λ table. AreOnesByPath lines.now (length instance.now.paths) table.items) }
 {
@@ -108,7 +108,7 @@ pub(crate) fn ones_table(
     lines: &[Line],
 ) -> Result<Items<Items<Items<u32>>>, NoMemory>
     requires instance { IsInstance instance.now }
-    requires lines { All (IsEntry instance.now) lines.now }
+    requires lines { All (IsLineOrDelete instance.now) lines.now }
     requires few { length lines.now < 2 ^ 32 }
     ensures { IfOk result (IsOnes instance.now lines.now) }
 {

@@ -6,14 +6,14 @@ ghost use Rattle.fapp_model.specs.Tags.{is_tag};
 ghost use Rattle.cert_lines.specs.WellFormed.{IsVerdict, IsWellFormed};
 ghost use Rattle.cert_lines.specs.acceptance.Deleted.{is_kept, kept};
 ghost use Rattle.cert_lines.specs.acceptance.LineFaults.{rejected_at};
-ghost use Rattle.cert_lines.specs.acceptance.RootFaults.{tag_for, verdict_tag, root_tag, root_fault, root_fault_by, with_line};
+ghost use Rattle.cert_lines.specs.acceptance.RootFaults.{tag_for, verdict_tag, root_tag, root_fault, root_fault_by, with_root_line};
 ghost use Rattle.cert_lines.specs.acceptance.Excluded.{line_at};
 ghost use Rattle.cert_check.specs.Marked.{IsMarks, AreDeleters};
 
 use crate::acceptance::rejected_at;
 use crate::marks::Marks;
 use cert_lines::{
-    Answer, Line, RejectCause, Rejected, Verdict, is_delete, kept_root_tag, with_line,
+    Answer, Line, RejectCause, Rejected, Verdict, is_delete, kept_root_tag, with_root_line,
 };
 use fapp_model::{Instance, MAX_LEVELS, Tag, Triple, levels, tag_of};
 
@@ -95,10 +95,10 @@ fn with_kept(found: Option<Tag>, lines: &[Line], deleters: &[u32], place: usize)
     requires deleters { AreDeleters lines.now deleters.now }
     requires place { place < length lines.now }
     ensures { let line = line_at lines.now (place + 1) in
-        result ≡ (if is_kept lines.now (place + 1) line then with_line found line else found) }
+        result ≡ (if is_kept lines.now (place + 1) line then with_root_line found line else found) }
 {
     if is_kept(lines, deleters, place) {
-        with_line(found, &lines[place])
+        with_root_line(found, &lines[place])
     } else {
         found
     }

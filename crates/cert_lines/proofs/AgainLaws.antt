@@ -17,7 +17,7 @@ use Rattle.cert_lines.specs.declared.fault.CertCause.{CertCause}
 use Rattle.cert_lines.specs.declared.fault.CertCause.TheVariants.{AfterEnd}
 use Rattle.fapp_text.specs.Reading.{◌>>=◌, fault, at_line}
 use Rattle.cert_lines.specs.Spelling.{triple_numbers, tag_numbers, list_numbers, front_numbers, rule_word, rule_numbers, choice_fields, certificate_fields, verdict_fields, version_lines, plan_lines, answer_text}
-use Rattle.cert_lines.specs.WellFormed.{IsShown, IsLineIn, IsVersion, IsWellFormed}
+use Rattle.cert_lines.specs.WellFormed.{IsShownChoice, IsLineIn, IsVersion, IsWellFormed}
 use Rattle.cert_lines.specs.PlanReading.{plan_line}
 use Rattle.cert_lines.specs.VerdictReading.{verdict_line}
 use Rattle.cert_lines.specs.VersionReading.{version_line}
@@ -57,7 +57,7 @@ line_again {A} read number word fields parts x first plain e =
 abbrev pub Reaches : {A : Type 0} → Result (List A × Rest) TextFault → List A → ℕ → List (List ℕ) → Type 0
 Reaches read items number rest = read ≡ Ok (items, (number, rest))
 
-plan_lines_again : (instance : Instance) (paths : List Path) (plan : List Choice) (place number : ℕ) (rest : List (List ℕ)) → drop place instance.paths ≡ paths → length plan ≤ length paths → AllByRecursion (λ p. IsNumber p.number) paths → AllByRecursion IsShown plan → HasFirst rest
+plan_lines_again : (instance : Instance) (paths : List Path) (plan : List Choice) (place number : ℕ) (rest : List (List ℕ)) → drop place instance.paths ≡ paths → length plan ≤ length paths → AllByRecursion (λ p. IsNumber p.number) paths → AllByRecursion IsShownChoice plan → HasFirst rest
     → Reaches (until (plan_line instance) place number (map joined (plan_lines paths plan) ++ joined (codes "--" ∷ []) ∷ rest)) plan (number + (length plan + 1)) rest
 plan_lines_again instance paths [] place number rest here le numbers shown first =
     let end : Option Choice = None in
@@ -177,7 +177,7 @@ reading_upto instance valid answer good more =
     ∙ ap (λ (t : List (List ℕ)). map joined (p ++ dashes) ++ (joined (verdict_fields answer.verdict) ∷ (map joined said ++ t))) (map_both (map certificate_fields answer.lines) end rest)
     ∙ map_both p dashes behind in
     let numbers = path_numbers instance.paths (recursion_from_All IsPath instance.paths valid.paths) in
-    let choices = recursion_from_All IsShown answer.plan good.choices in
+    let choices = recursion_from_All IsShownChoice answer.plan good.choices in
     let certificate = recursion_from_All (IsLineIn answer.version instance) answer.lines good.lines in
     let plan = plan_lines_again instance instance.paths answer.plan 0 1 behind refl good.plan numbers choices (joined (verdict_fields answer.verdict), after, refl) in
     let n : ℕ = 1 + (length answer.plan + 1) in

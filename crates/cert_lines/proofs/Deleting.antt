@@ -12,13 +12,13 @@ use Rattle.cert_lines.specs.declared.answer.Answer.{Answer}
 use Rattle.cert_lines.specs.declared.answer.Line.{Line}
 use Rattle.cert_lines.specs.declared.answer.Rule.{Rule}
 use Rattle.cert_lines.specs.declared.answer.Rule.TheVariants.{Branch, Count, Delete}
-use Rattle.cert_lines.specs.WellFormed.{IsEntry, IsLine, IsLineIn, IsRule, IsWellFormed}
+use Rattle.cert_lines.specs.WellFormed.{IsLineOrDelete, IsLine, IsLineIn, IsRule, IsWellFormed}
 use Rattle.cert_lines.specs.acceptance.Deleted.{deletes, is_delete, is_deleted, is_kept, kept, kept_from}
 use Rattle.fapp_model.specs.declared.literal.Literal.{Literal}
 use Rattle.fapp_model.specs.declared.tag.Tag.{Tag}
 use Rattle.cert_lines.specs.acceptance.Excluded.{is_cited, is_excluded, is_marked, line_at, no_line}
 use Rattle.cert_lines.specs.acceptance.LineFaults.{line_fault, rule_fault}
-use Rattle.cert_lines.specs.acceptance.RootFaults.{with_line}
+use Rattle.cert_lines.specs.acceptance.RootFaults.{with_root_line}
 
 -- where a line that is kept stands
 pub record IsKeptAt (all lines : List Line) (first : ℕ) (x : Line) : Type 0 where
@@ -90,11 +90,11 @@ all-kept P lines h = All-from_members P (kept lines) (λ x m. let k = kept-line 
 
 -- ---- the lines of a version
 
-line-entry : (version : ℕ) (instance : Instance) (line : Line) → IsLineIn version instance line → IsEntry instance line
+line-entry : (version : ℕ) (instance : Instance) (line : Line) → IsLineIn version instance line → IsLineOrDelete instance line
 line-entry version instance line (inl h) = inl h
 line-entry version instance line (inr h) = inr h.1
 
-pub entries-of : (instance : Instance) (answer : Answer) → IsWellFormed instance answer → All (IsEntry instance) answer.lines
+pub entries-of : (instance : Instance) (answer : Answer) → IsWellFormed instance answer → All (IsLineOrDelete instance) answer.lines
 entries-of instance answer good k d l = line-entry answer.version instance (get_or answer.lines k d) (good.lines k d l)
 
 line-plain : (version : ℕ) (instance : Instance) (line : Line) → version ≡ 1 → IsLineIn version instance line → IsLine instance line
@@ -108,11 +108,11 @@ plain-lines instance answer one good k d l = line-plain answer.version instance 
 pub lines-in : (version : ℕ) (instance : Instance) (lines : List Line) → All (IsLine instance) lines → All (IsLineIn version instance) lines
 lines-in version instance lines h k d l = inl (h k d l)
 
-second-line : (instance : Instance) (line : Line) → IsEntry instance line → IsLineIn 2 instance line
+second-line : (instance : Instance) (line : Line) → IsLineOrDelete instance line → IsLineIn 2 instance line
 second-line instance line (inl h) = inl h
 second-line instance line (inr h) = inr (refl, h)
 
-pub entries-in : (instance : Instance) (lines : List Line) → All (IsEntry instance) lines → All (IsLineIn 2 instance) lines
+pub entries-in : (instance : Instance) (lines : List Line) → All (IsLineOrDelete instance) lines → All (IsLineIn 2 instance) lines
 entries-in instance lines h k d l = second-line instance (get_or lines k d) (h k d l)
 
 -- ---- lines that delete none
@@ -178,20 +178,20 @@ kept-more all n (line ∷ lines) (suc i) small =
     by_kept false e = e
 
 -- what was found so far, and what is found with the next line
-pub root-more : (lines : List Line) (i : ℕ) (found next : Option Tag) → i < length lines → found ≡ fold with_line None (kept_from lines 1 (take i lines))
-    → next ≡ cond (is_kept lines (i + 1) (line_at lines (i + 1))) (with_line found (line_at lines (i + 1))) found
-    → next ≡ fold with_line None (kept_from lines 1 (take (i + 1) lines))
+pub root-more : (lines : List Line) (i : ℕ) (found next : Option Tag) → i < length lines → found ≡ fold with_root_line None (kept_from lines 1 (take i lines))
+    → next ≡ cond (is_kept lines (i + 1) (line_at lines (i + 1))) (with_root_line found (line_at lines (i + 1))) found
+    → next ≡ fold with_root_line None (kept_from lines 1 (take (i + 1) lines))
 root-more lines i found next small e h =
     let line = get_or lines i no_line in
     let one : i + 1 ≡ suc i = omega arith in
     let place : 1 + i ≡ i + 1 = omega arith in
     let more = kept-more lines 1 lines i small ∙ ap (λ k. kept_from lines 1 (take i lines) ++ cond (is_kept lines k line) (line ∷ []) []) place in
     let here : i + 1 - 1 ≡ i = omega arith in
-    h ∙ ap (λ k. cond (is_kept lines (i + 1) (get_or lines k no_line)) (with_line found (get_or lines k no_line)) found) here
+    h ∙ ap (λ k. cond (is_kept lines (i + 1) (get_or lines k no_line)) (with_root_line found (get_or lines k no_line)) found) here
     ∙ by_kept (is_kept lines (i + 1) line) found e
-    ∙ sym (ap (λ k. fold with_line None (kept_from lines 1 (take k lines))) one ∙ ap (fold with_line None) more)
+    ∙ sym (ap (λ k. fold with_root_line None (kept_from lines 1 (take k lines))) one ∙ ap (fold with_root_line None) more)
   where
-    by_kept : (b : Bool) (found : Option Tag) → found ≡ fold with_line None (kept_from lines 1 (take i lines))
-        → cond b (with_line found (get_or lines i no_line)) found ≡ fold with_line None (kept_from lines 1 (take i lines) ++ cond b (get_or lines i no_line ∷ []) [])
-    by_kept true found e = ap (λ f. with_line f (get_or lines i no_line)) e ∙ sym (fold-append with_line None (kept_from lines 1 (take i lines)) (get_or lines i no_line ∷ []))
-    by_kept false found e = e ∙ ap (fold with_line None) (sym (append-nil (kept_from lines 1 (take i lines))))
+    by_kept : (b : Bool) (found : Option Tag) → found ≡ fold with_root_line None (kept_from lines 1 (take i lines))
+        → cond b (with_root_line found (get_or lines i no_line)) found ≡ fold with_root_line None (kept_from lines 1 (take i lines) ++ cond b (get_or lines i no_line ∷ []) [])
+    by_kept true found e = ap (λ f. with_root_line f (get_or lines i no_line)) e ∙ sym (fold-append with_root_line None (kept_from lines 1 (take i lines)) (get_or lines i no_line ∷ []))
+    by_kept false found e = e ∙ ap (fold with_root_line None) (sym (append-nil (kept_from lines 1 (take i lines))))

@@ -15,7 +15,7 @@ use Rattle.cert_lines.specs.declared.fault.CertCause.{CertCause}
 use Rattle.cert_lines.specs.declared.fault.CertCause.TheVariants.{BadKind, BadNumber}
 use Rattle.fapp_text.specs.Reading.{◌>>=◌, allowed}
 use Rattle.cert_lines.specs.Spelling.{choice_fields}
-use Rattle.cert_lines.specs.WellFormed.{IsShown}
+use Rattle.cert_lines.specs.WellFormed.{IsShownChoice}
 use Rattle.cert_lines.specs.FieldReading.{field_at, ended, number_at}
 use Rattle.cert_lines.specs.PlanReading.{polarization_at, misplaced, is_turn, choice_line, plan_line}
 use Rattle.fapp_text.proofs.Steps.{bind_ok, allowed_ok, chosen, ok_is}
@@ -66,7 +66,7 @@ turn_again instance place path others e =
 
 -- fields that are those of a path's choice
 abbrev pub IsChoiceOf : Instance → ℕ → List (List ℕ) → Choice → Type 0
-IsChoiceOf instance place fields choice = (path : Path) × (drop place instance.paths ≡ path ∷ drop (place + 1) instance.paths) × (fields ≡ choice_fields path choice) × IsShown choice
+IsChoiceOf instance place fields choice = (path : Path) × (drop place instance.paths ≡ path ∷ drop (place + 1) instance.paths) × (fields ≡ choice_fields path choice) × IsShownChoice choice
 
 choice_takes : (instance : Instance) (place : ℕ) (fields : List (List ℕ)) (x : Choice) → choice_line instance place fields ≡ Ok x → IsChoiceOf instance place (codes "AL" ∷ fields) x
 unfolding choice_line
@@ -88,7 +88,7 @@ choice_takes instance place fields x e =
     let text : fields ≡ decimal next.0.number ∷ decimal c.0.0 ∷ signed_decimal d.0.0 ∷ [] = number.0 ∙ ap (λ (t : List (List ℕ)). decimal a.0.0 ∷ t) later ∙ ap (λ (n : ℕ). decimal n ∷ decimal c.0.0 ∷ signed_decimal d.0.0 ∷ []) (sym next.2) in
     subst (IsChoiceOf instance place (codes "AL" ∷ fields)) (ok_is {E = CertCause} made x f.2) (next.0, next.1, ap (λ (t : List (List ℕ)). codes "AL" ∷ t) text, record { freq = freq.1; pol = sign.1 })
 
-choice_again : (instance : Instance) (place : ℕ) (path : Path) (others : List Path) (choice : Choice) → drop place instance.paths ≡ path ∷ others → IsNumber path.number → IsShown choice
+choice_again : (instance : Instance) (place : ℕ) (path : Path) (others : List Path) (choice : Choice) → drop place instance.paths ≡ path ∷ others → IsNumber path.number → IsShownChoice choice
     → choice_line instance place (decimal path.number ∷ decimal choice.freq ∷ signed_decimal choice.pol ∷ []) ≡ Ok choice
 unfolding choice_line
 choice_again instance place path others choice next number shown =
@@ -124,7 +124,7 @@ plan_takes instance place fields found e =
       ]
     ])
 
-pub plan_again : (instance : Instance) (place : ℕ) (path : Path) (others : List Path) (choice : Choice) → drop place instance.paths ≡ path ∷ others → IsNumber path.number → IsShown choice → plan_line instance place (choice_fields path choice) ≡ Ok (Some choice)
+pub plan_again : (instance : Instance) (place : ℕ) (path : Path) (others : List Path) (choice : Choice) → drop place instance.paths ≡ path ∷ others → IsNumber path.number → IsShownChoice choice → plan_line instance place (choice_fields path choice) ≡ Ok (Some choice)
 unfolding plan_line
 plan_again instance place path others choice next number shown = ap (λ (r : Result Choice CertCause). r >>= λ x. Ok (Some x)) (choice_again instance place path others choice next number shown)
 

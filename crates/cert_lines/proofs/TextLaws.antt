@@ -14,7 +14,7 @@ use Rattle.cert_lines.specs.declared.answer.Line.{Line}
 use Rattle.cert_lines.specs.declared.fault.CertCause.{CertCause}
 use Rattle.fapp_text.specs.Reading.{◌>>=◌, at_line}
 use Rattle.cert_lines.specs.Spelling.{line_text, choice_fields, certificate_fields, verdict_fields, version_lines, plan_lines, head_text, lines_text, answer_text}
-use Rattle.cert_lines.specs.WellFormed.{IsShown, IsLineIn, IsVersion, IsWellFormed}
+use Rattle.cert_lines.specs.WellFormed.{IsShownChoice, IsLineIn, IsVersion, IsWellFormed}
 use Rattle.cert_lines.specs.FieldReading.{fields_of}
 use Rattle.cert_lines.specs.PlanReading.{plan_line}
 use Rattle.cert_lines.specs.VerdictReading.{verdict_line}
@@ -104,14 +104,14 @@ until_takes read Q law place number (line ∷ parts) x e =
 -- ---- plans, certificates, and the whole text
 
 abbrev SaysPlan : Instance → ℕ → List Choice → List (List (List ℕ)) → Type 0
-SaysPlan instance place items lines = (lines ≡ plan_lines (drop place instance.paths) items ++ (codes "--" ∷ []) ∷ []) × (length items ≤ length (drop place instance.paths)) × AllByRecursion IsShown items
+SaysPlan instance place items lines = (lines ≡ plan_lines (drop place instance.paths) items ++ (codes "--" ∷ []) ∷ []) × (length items ≤ length (drop place instance.paths)) × AllByRecursion IsShownChoice items
 
 plan_end : (instance : Instance) (place : ℕ) (fields : List (List ℕ)) → plan_line instance place fields ≡ Ok None → SaysPlan instance place [] (fields ∷ [])
 plan_end instance place fields e = (ap (λ (f : List (List ℕ)). f ∷ []) (plan_takes instance place fields None e), omega arith, tt)
 
 -- the same by the paths that have no line yet
 abbrev SaysOf : List Path → List Choice → List (List (List ℕ)) → Type 0
-SaysOf paths items lines = (lines ≡ plan_lines paths items ++ (codes "--" ∷ []) ∷ []) × (length items ≤ length paths) × AllByRecursion IsShown items
+SaysOf paths items lines = (lines ≡ plan_lines paths items ++ (codes "--" ∷ []) ∷ []) × (length items ≤ length paths) × AllByRecursion IsShownChoice items
 
 plan_more : (instance : Instance) (place : ℕ) (fields : List (List ℕ)) (x : Choice) (items : List Choice) (lines : List (List (List ℕ))) → plan_line instance place fields ≡ Ok (Some x) → SaysPlan instance (place + 1) items lines → SaysPlan instance place (x ∷ items) (fields ∷ lines)
 plan_more instance place fields x items lines e said =
@@ -219,4 +219,4 @@ reading_takes instance valid bytes answer e =
     let parts : parts_of bytes ≡ map joined all ++ nothing = plan.2 ∙ ap (λ (r : List (List ℕ)). map joined plan.0 ++ r) middle ∙ sym (map_both plan.0 (verdict_fields b.0.0 ∷ (said ++ lines.0)) nothing) in
     let same : all ≡ lines_of instance.paths made = ap (λ (ls : List (List (List ℕ))). ls ++ (verdict_fields b.0.0 ∷ (said ++ lines.0))) plan.1.0 ∙ ap (λ (ls : List (List (List ℕ))). (plan_lines instance.paths a.0.0 ++ (codes "--" ∷ []) ∷ []) ++ (verdict_fields b.0.0 ∷ (said ++ ls))) lines.1.0 in
     let text : bytes ≡ answer_text instance made = sym (join_with_byte-slice_split 10 bytes) ∙ ap (join_with_byte 10) parts ∙ joined_text all ∙ ap (flat_map line_text) same ∙ text_is instance made in
-    subst (λ (x : Answer). IsWellFormed instance x × (bytes ≡ answer_text instance x)) (ok_is {E = TextFault} made answer d.2) (record { plan = plan.1.1; choices = All-from_recursion IsShown a.0.0 plan.1.2; verdict = verdict.1; version = version.0; lines = All-from_recursion (IsLineIn w.0.0 instance) c.0.0 lines.1.1 }, text)
+    subst (λ (x : Answer). IsWellFormed instance x × (bytes ≡ answer_text instance x)) (ok_is {E = TextFault} made answer d.2) (record { plan = plan.1.1; choices = All-from_recursion IsShownChoice a.0.0 plan.1.2; verdict = verdict.1; version = version.0; lines = All-from_recursion (IsLineIn w.0.0 instance) c.0.0 lines.1.1 }, text)

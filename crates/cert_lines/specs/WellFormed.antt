@@ -19,7 +19,7 @@ use Rattle.cert_lines.specs.declared.answer.Verdict.{Verdict}
 use Rattle.cert_lines.specs.declared.answer.Verdict.TheVariants.{Best, NoneFeasible, Open}
 
 -- a frequency and a polarization
-pub record IsShown (choice : Choice) : Type 0 where
+pub record IsShownChoice (choice : Choice) : Type 0 where
   pub freq : IsNumber choice.freq
   pub pol : IsSign choice.pol
 
@@ -59,8 +59,8 @@ pub record IsDelete (line : Line) : Type 0 where
   pub cites_are : AreCites cites
 
 -- a line of version 2
-abbrev pub IsEntry : Instance → Line → Type 0
-IsEntry instance line = IsLine instance line ⊎ IsDelete line
+abbrev pub IsLineOrDelete : Instance → Line → Type 0
+IsLineOrDelete instance line = IsLine instance line ⊎ IsDelete line
 
 -- a line of a version: Delete lines stand in version 2 alone
 abbrev pub IsLineIn : ℕ → Instance → Line → Type 0
@@ -86,7 +86,7 @@ IsVerdict instance (Open best lower level prefix) =
 
 pub record IsWellFormed (instance : Instance) (answer : Answer) : Type 0 where
   pub plan : length answer.plan ≤ length instance.paths
-  pub choices : All IsShown answer.plan
+  pub choices : All IsShownChoice answer.plan
   pub verdict : IsVerdict instance answer.verdict
   pub version : IsVersion answer.version
   pub lines : All (IsLineIn answer.version instance) answer.lines

@@ -29,7 +29,7 @@ pub use laws::{fault_behind, in_parts, no_fault, one_text, reads_back, text_of_a
 pub use reading::read_answer;
 pub use reject::{RejectCause, Rejected};
 pub use renumbering::{renumbered, renumbered_cites};
-pub use root::{kept_root_tag, root_tag, with_line};
+pub use root::{kept_root_tag, root_tag, with_root_line};
 pub use stripping::strip;
 pub use writing::{head_text, lines_text, plan_text, verdict_text, write_answer};
 

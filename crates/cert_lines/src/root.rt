@@ -3,7 +3,7 @@
 ghost use Rattle.std.specs.Prelude.{◌≡◌, ◌<◌, ◌+◌, length, if◌then◌else◌};
 ghost use Rattle.cert_lines.specs.acceptance.Deleted.{is_kept, kept};
 ghost use Rattle.cert_lines.specs.acceptance.Excluded.{line_at};
-ghost use Rattle.cert_lines.specs.acceptance.RootFaults.{greater, root_tag, with_line};
+ghost use Rattle.cert_lines.specs.acceptance.RootFaults.{greater, root_tag, with_root_line};
 
 use crate::Line;
 use crate::kept::is_kept;
@@ -20,8 +20,8 @@ fn greater(found: Option<Tag>, t: Tag) -> Tag
 }
 
 /// The greatest tag of the root lines before a line and of this one.
-pub fn with_line(found: Option<Tag>, line: &Line) -> Option<Tag>
-    ensures { result ≡ with_line found line.now }
+pub fn with_root_line(found: Option<Tag>, line: &Line) -> Option<Tag>
+    ensures { result ≡ with_root_line found line.now }
 {
     if line.lits.is_empty() {
         Some(greater(found, line.tag))
@@ -37,7 +37,7 @@ pub fn root_tag(lines: &[Line]) -> Option<Tag>
 {
     let mut found = None;
     for line in lines {
-        found = with_line(found, line);
+        found = with_root_line(found, line);
     }
     found
 }
@@ -46,10 +46,10 @@ pub fn root_tag(lines: &[Line]) -> Option<Tag>
 fn with_kept(found: Option<Tag>, lines: &[Line], place: usize) -> Option<Tag>
     requires { place < length lines.now }
     ensures { let line = line_at lines.now (place + 1) in
-        result ≡ (if is_kept lines.now (place + 1) line then with_line found line else found) }
+        result ≡ (if is_kept lines.now (place + 1) line then with_root_line found line else found) }
 {
     if lines[place].lits.is_empty() && is_kept(lines, place) {
-        with_line(found, &lines[place])
+        with_root_line(found, &lines[place])
     } else {
         found
     }

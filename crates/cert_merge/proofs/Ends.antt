@@ -19,11 +19,11 @@ use Rattle.merge_laws.proofs.Merging.{own-most, own-root}
 use Rattle.merge_laws.specs.MergedLines.{IsOrderedAfter}
 use Rattle.merge_laws.specs.Stages.{Merged}
 use Rattle.merge_laws.proofs.Ruling.{root-is_tag}
-use Rattle.cert_merge.specs.Growth.{IsGathered}
+use Rattle.cert_merge.specs.Growth.{AreGatheredLines}
 
 -- one part after another
 pub whole-is : (instance : Instance) (split : ℕ) (old : List Line) (placed : List (ℕ × ℕ)) (logs : List LogState) (outcomes : List Placed) (t : Tag) (arcs : List Line) (root : ℕ) (s : Merged) (lines : List Line) → AreArcLines instance arcs →
-    IsRootTag instance (triple_from root) → IsGathered old placed arcs logs s → lines ≡ finished instance split outcomes t root s → IsOrderedAfter instance split old placed logs outcomes t lines
+    IsRootTag instance (triple_from root) → AreGatheredLines old placed arcs logs s → lines ≡ finished instance split outcomes t root s → IsOrderedAfter instance split old placed logs outcomes t lines
 whole-is instance split old placed logs outcomes t arcs root s lines arcs_are root_is made is = record {
   arcs = arcs;
   arcs_are = arcs_are;

@@ -17,7 +17,7 @@ use Rattle.search_log.specs.GoodLogs.{all_lines, lines_of, piece_of, pieces_from
 use Rattle.merge_laws.specs.Pieces.{emit_pieces, emit_rests}
 use Rattle.merge_laws.specs.Stages.{Merged, done_of, start}
 use Rattle.merge_laws.proofs.Starting.{length-placed}
-use Rattle.cert_merge.specs.Growth.{AreLeft, IsGathered, IsWithin}
+use Rattle.cert_merge.specs.Growth.{AreLeft, AreGatheredLines, HasRoomFor}
 
 start-done : (out : List Line) (placed : List (ℕ × ℕ)) (logs rows log : ℕ) → 0 ≡ done_of (start out placed logs rows) log
 start-done out placed logs rows log = ⊎_elim
@@ -44,17 +44,17 @@ moved P xs ys same h = All-from_members P ys (λ y m. All-contains P xs y h (Con
 
 -- there is room for each segment
 pub pieces-within : (logs : List LogState) (pieces : List Piece) (out : List Line) (placed : List (ℕ × ℕ)) (count room : ℕ) (s : Merged) → IsPermutation (pieces_of logs) pieces → All (λ p. p.row < room) pieces →
-    count ≡ length logs → s ≡ start out placed count room → All (IsWithin s) pieces
+    count ≡ length logs → s ≡ start out placed count room → All (HasRoomFor s) pieces
 pieces-within logs pieces out placed count room s same fits many is k d l =
     let low = moved (λ (p : Piece). p.log < 0 + length logs) (pieces_of logs) pieces same (pieces-inside logs 0) k d l in
     let logs_room = length-replicate {A = List ℕ} count [] in
     let rows_room = length-placed placed (replicate room 0) ∙ length-replicate {A = ℕ} room 0 in
     let row = fits k d l in
-    subst (λ (v : Merged). IsWithin v (get_or pieces k d)) (sym is) (record { log = omega arith; row = omega arith })
+    subst (λ (v : Merged). HasRoomFor v (get_or pieces k d)) (sym is) (record { log = omega arith; row = omega arith })
 
 -- one call after another
 pub gathered-is : (old : List Line) (placed : List (ℕ × ℕ)) (arcs : List Line) (logs : List LogState) (pieces : List Piece) (count room : ℕ) (s t u : Merged) → AreByRow logs pieces → All (λ p. p.row < room) pieces → All (λ p. p.0 < room) placed → count ≡ length logs →
-    s ≡ start (old ++ arcs) placed count room → t ≡ emit_pieces (all_lines logs) pieces s → u ≡ emit_rests (all_lines logs) (range_with_len 0 (length (all_lines logs))) t → IsGathered old placed arcs logs u
+    s ≡ start (old ++ arcs) placed count room → t ≡ emit_pieces (all_lines logs) pieces s → u ≡ emit_rests (all_lines logs) (range_with_len 0 (length (all_lines logs))) t → AreGatheredLines old placed arcs logs u
 gathered-is old placed arcs logs pieces count room s t u by_row fits placed_fit many is pieces_is rests_is = record {
   pieces = pieces;
   by_row = by_row;

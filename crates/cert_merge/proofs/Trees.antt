@@ -10,14 +10,14 @@ use Rattle.fapp_model.specs.declared.tag.Tag.{Tag}
 use Rattle.fapp_model.specs.Assignments.{count_at}
 use Rattle.fapp_model.specs.search.Partials.{literal}
 use Rattle.cert_lines.specs.declared.answer.Line.{Line}
-use Rattle.merge_laws.specs.Levels.{all_longer, branch_line, emit_level, emit_prefixes, emit_tree, longer, prefix_line}
+use Rattle.merge_laws.specs.Levels.{all_longer, level_line, emit_level, emit_prefixes, emit_tree, longer, prefix_line}
 use Rattle.fapp_plan.specs.declared.steps.Step.{Step}
 use Rattle.merge_laws.specs.Stages.{Merged}
-use Rattle.cert_merge.specs.Growth.{AreApart, AreStepsOf, AreWithSteps, IsStepOf, deepest, step_paths, with_out}
+use Rattle.cert_merge.specs.Growth.{AreOnPathsApart, AreStepsOf, AreWithSteps, IsStepOf, deepest, step_paths, with_out}
 
 -- ---- literals of different paths
 
-apart-of : (paths : List ℕ) (literals : List Literal) → AllPairs (λ p q. p ≢ q) (map (λ a. a.path) literals ++ paths) → AreApart literals
+apart-of : (paths : List ℕ) (literals : List Literal) → AllPairs (λ p q. p ≢ q) (map (λ a. a.path) literals ++ paths) → AreOnPathsApart literals
 apart-of paths literals h i j d before inside =
     let all = length-map literals (λ (a : Literal). a.path) in
     let whole = length-append (map (λ (a : Literal). a.path) literals) paths in
@@ -25,7 +25,7 @@ apart-of paths literals h i j d before inside =
     λ k l. get_or_append_left (map (λ (a : Literal). a.path) literals) paths 0 k (omega arith) ∙ get_or-map (λ (a : Literal). a.path) literals k d 0 l in
     λ same. h i j 0 before (omega arith) (at i (omega arith) ∙ (same ∙ sym (at j inside)))
 
-pub all-apart : (paths : List ℕ) (lists : List (List Literal)) → AreWithSteps paths lists → All AreApart lists
+pub all-apart : (paths : List ℕ) (lists : List (List Literal)) → AreWithSteps paths lists → All AreOnPathsApart lists
 all-apart paths lists h k d l = apart-of paths (get_or lists k d) (h k d l)
 
 -- ---- longer lists
@@ -65,7 +65,7 @@ prefixes-length t number place (prefix ∷ lists) out =
 level-length : (instance : Instance) (t : Tag) (path next : ℕ) (lists : List (List Literal)) (out : List Line) → length (emit_level instance t path next lists out) ≡ length out + length lists
 level-length instance t path next [] out = omega arith
 level-length instance t path next (literals ∷ lists) out =
-    omega (arith, level-length instance t path (next + count_at instance path) lists (out ++ branch_line instance t path next literals ∷ []), length_push out (branch_line instance t path next literals))
+    omega (arith, level-length instance t path (next + count_at instance path) lists (out ++ level_line instance t path next literals ∷ []), length_push out (level_line instance t path next literals))
 
 -- the lists have lines
 pub tree-length : (instance : Instance) (t : Tag) (number : ℕ → ℕ) (paths : List ℕ) (lists : List (List Literal)) (out : List Line) → length lists ≤ length (emit_tree instance t number paths lists out)

@@ -21,15 +21,15 @@ abbrev pub with_out : Merged → List Line → Merged
 with_out s out = record { out = out; own = s.own; row = s.row }
 
 -- one more line
-abbrev pub with_line : Merged → Line → Merged
-with_line s line = with_out s (s.out ++ line ∷ [])
+abbrev pub merged_with_line : Merged → Line → Merged
+merged_with_line s line = with_out s (s.out ++ line ∷ [])
 
 -- a piece's row is lower, or both are of one row and its log and place are not behind
-abbrev pub IsNotAfter : Piece → Piece → Type 0
-IsNotAfter p q = (p.row < q.row) ⊎ ((p.row ≡ q.row) × ((p.log < q.log) ⊎ ((p.log ≡ q.log) × (p.last ≤ q.last))))
+abbrev pub IsPieceNotAfter : Piece → Piece → Type 0
+IsPieceNotAfter p q = (p.row < q.row) ⊎ ((p.row ≡ q.row) × ((p.log < q.log) ⊎ ((p.log ≡ q.log) × (p.last ≤ q.last))))
 
 -- there is room for the numbers of a piece's log and row
-pub record IsWithin (s : Merged) (p : Piece) : Type 0 where
+pub record HasRoomFor (s : Merged) (p : Piece) : Type 0 where
   pub log : p.log < length s.own
   pub row : p.row < length s.row
 
@@ -44,7 +44,7 @@ pub record AreLeft (logs : List (List LogLine)) (s : Merged) (rests : List (List
   pub each : (log : ℕ) → lines_of rests log ≡ drop (done_of s log) (lines_of logs log)
 
 -- the old lines, the arc lines, the segments of the logs by row and the rests of the logs
-pub record IsGathered (old : List Line) (placed : List (ℕ × ℕ)) (arcs : List Line) (logs : List LogState) (s : Merged) : Type 0 where
+pub record AreGatheredLines (old : List Line) (placed : List (ℕ × ℕ)) (arcs : List Line) (logs : List LogState) (s : Merged) : Type 0 where
   pub pieces : List Piece
   pub by_row : AreByRow logs pieces
   pub room : ℕ
@@ -67,8 +67,8 @@ abbrev pub children_by : ℕ → ℕ → List Child
 children_by choices next = map (λ index. record { choice = index; cite = next + index }) (range_with_len 0 choices)
 
 -- literals of different paths
-abbrev pub AreApart : List Literal → Type 0
-AreApart literals = AllPairs (λ a b. a.path ≢ b.path) literals
+abbrev pub AreOnPathsApart : List Literal → Type 0
+AreOnPathsApart literals = AllPairs (λ a b. a.path ≢ b.path) literals
 
 -- the paths of each list and some further ones all differ
 abbrev pub AreWithSteps : List ℕ → List (List Literal) → Type 0

@@ -4,7 +4,7 @@ ghost use Rattle.std.specs.List.{range_with_len};
 ghost use Rattle.search_log.specs.declared.line.LogLine.{LogLine};
 ghost use Rattle.merge_laws.specs.Pieces.{emit_piece, emit_pieces, emit_rests};
 ghost use Rattle.merge_laws.specs.Stages.{emit_all};
-ghost use Rattle.cert_merge.specs.Growth.{AreLeft, IsGathered, IsSameRoom, IsWithin};
+ghost use Rattle.cert_merge.specs.Growth.{AreLeft, AreGatheredLines, IsSameRoom, HasRoomFor};
 
 use crate::merged::Certificate;
 use crate::old_rows::room_of_placed;
@@ -40,7 +40,7 @@ impl Certificate {
 
     /// Writes what is left of a log up to a segment's end, which becomes the segment's row.
     fn write_piece(&mut self, rests: &mut [Remainder], piece: &Piece) -> Result<(), NoMemory>
-        requires within { IsWithin self.old piece.now }
+        requires within { HasRoomFor self.old piece.now }
         requires rests { length rests.old ≡ length self.old.own }
         ensures writes { (logs : List (List LogLine)) → AreLeft logs self.old rests.old → OnOk result (self.new ≡ emit_piece logs piece.now self.old) }
         ensures left { (logs : List (List LogLine)) → AreLeft logs self.old rests.old → OnOk result (AreLeft logs self.new rests.new) }
@@ -55,7 +55,7 @@ impl Certificate {
 
     /// Writes segment after segment.
     fn write_pieces(&mut self, rests: &mut [Remainder], pieces: &[Piece]) -> Result<(), NoMemory>
-        requires within { All (IsWithin self.old) pieces.now }
+        requires within { All (HasRoomFor self.old) pieces.now }
         requires rests { length rests.old ≡ length self.old.own }
         ensures writes { (logs : List (List LogLine)) → AreLeft logs self.old rests.old → OnOk result (self.new ≡ emit_pieces logs pieces.now self.old) }
         ensures left { (logs : List (List LogLine)) → AreLeft logs self.old rests.old → OnOk result (AreLeft logs self.new rests.new) }
@@ -103,7 +103,7 @@ pub(crate) fn gathered(
     arcs: &[Line],
     logs: Vec<Log>,
 ) -> Result<Certificate, NoMemory>
-    ensures { IfOk result (IsGathered old.now placed.now arcs.now logs.items) }
+    ensures { IfOk result (AreGatheredLines old.now placed.now arcs.now logs.items) }
 {
     let Parts {
         mut rests,

@@ -3,8 +3,8 @@ ghost use Rattle.std.specs.Prelude.{◌≡◌, ◌+◌, ◌*◌, ◌<◌, ◌≤
 ghost use Rattle.std.specs.List.{range_with_len};
 ghost use Rattle.fapp_model.specs.declared.instance.Instance.{Instance as Network};
 ghost use Rattle.fapp_model.specs.declared.limits.TheConstants.{MAX_NUMBER};
-ghost use Rattle.merge_laws.specs.Levels.{branch_line, emit_level};
-ghost use Rattle.cert_merge.specs.Growth.{AreApart, IsStepOf, children_by, with_out};
+ghost use Rattle.merge_laws.specs.Levels.{level_line, emit_level};
+ghost use Rattle.cert_merge.specs.Growth.{AreOnPathsApart, IsStepOf, children_by, with_out};
 
 use crate::merged::Certificate;
 use cert_lines::{Child, Line, Rule};
@@ -29,17 +29,17 @@ fn children_by(alloc: Global, choices: u32, next: u32) -> Result<Items<Child>, N
 }
 
 /// The Branch line of a list on the next path.
-fn branch_line(
+fn level_line(
     alloc: Global,
     tag: Tag,
     step: &Step,
     next: u32,
     list: &[Literal],
 ) -> Result<Line, NoMemory>
-    requires apart { AreApart list.now }
+    requires apart { AreOnPathsApart list.now }
     requires choices { step.now.choices ≤ 65536 }
     requires next { next + step.now.choices ≤ MAX_NUMBER + 1 }
-    ensures { (instance : Network) → IsStepOf instance step.now → IfOk result (λ line. line ≡ branch_line instance tag step.now.path next list.now) }
+    ensures { (instance : Network) → IsStepOf instance step.now → IfOk result (λ line. line ≡ level_line instance tag step.now.path next list.now) }
 {
     Ok(Line {
         tag,
@@ -60,7 +60,7 @@ impl Certificate {
         first: u32,
         lists: &[Items<Literal>],
     ) -> Result<(), NoMemory>
-        requires apart { All AreApart lists.now }
+        requires apart { All AreOnPathsApart lists.now }
         requires choices { step.now.choices ≤ 65536 }
         requires numbers { first + length lists.now * step.now.choices ≤ MAX_NUMBER + 1 }
         ensures { (instance : Network) → IsStepOf instance step.now → OnOk result (self.new ≡ with_out self.old
@@ -68,7 +68,7 @@ impl Certificate {
     {
         let mut next = first;
         for list in lists {
-            let line = branch_line(self.alloc(), tag, step, next, list.as_slice())?;
+            let line = level_line(self.alloc(), tag, step, next, list.as_slice())?;
             self.add(line)?;
             next += step.choices;
         }

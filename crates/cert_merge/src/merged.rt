@@ -1,9 +1,9 @@
 // A certificate that grows by the lines of logs.
 ghost use Rattle.std.specs.Prelude.{◌≡◌, ◌+◌, ◌<◌, ◌≤◌, [], ◌∷◌, ◌++◌, length, replicate, flat_map, slice_index_or, All, IfOk, OnOk};
 ghost use Rattle.fapp_model.specs.declared.limits.TheConstants.{MAX_NUMBER};
-ghost use Rattle.merge_laws.specs.Stages.{done_of, emit, land, noted, number_of, start};
+ghost use Rattle.merge_laws.specs.Stages.{done_of, emit, land, noted, merged_number, start};
 ghost use Rattle.merge_laws.specs.Written.{written_child};
-ghost use Rattle.cert_merge.specs.Growth.{with_line, with_out};
+ghost use Rattle.cert_merge.specs.Growth.{merged_with_line, with_out};
 
 use crate::copies::copy_of;
 use crate::old_rows::rows_with;
@@ -114,7 +114,7 @@ impl Certificate {
 
     /// The number of what a line of a log cites, or 0 where it was left out.
     pub(crate) fn number(&self, log: usize, cited: Ref) -> u32
-        ensures { result ≡ number_of self.now log cited }
+        ensures { result ≡ merged_number self.now log cited }
     {
         match cited {
             Ref::Own(place) => self.own_number(log, place),
@@ -134,7 +134,7 @@ impl Certificate {
 
     /// Adds a line, and answers its number. NoMemory also comes where there are 1,000,000,000 lines.
     pub(crate) fn add(&mut self, line: Line) -> Result<u32, NoMemory>
-        ensures { IfOk result (λ number. (self.new ≡ with_line self.old line) × (number ≡ length self.old.out + 1)) }
+        ensures { IfOk result (λ number. (self.new ≡ merged_with_line self.old line) × (number ≡ length self.old.out + 1)) }
     {
         if self.lines.len() >= MAX_NUMBER as usize {
             return Err(NoMemory);
@@ -145,7 +145,7 @@ impl Certificate {
 
     /// The children of a Branch line of a log, without those whose lines were left out.
     fn children(&self, log: usize, refs: &[ChoiceRef]) -> Result<Items<Child>, NoMemory>
-        ensures { IfOk result (λ children. children ≡ flat_map (written_child (number_of self.now log)) refs.now) }
+        ensures { IfOk result (λ children. children ≡ flat_map (written_child (merged_number self.now log)) refs.now) }
     {
         let mut children = Vec::with_capacity(self.alloc, refs.len())?;
         for cited in refs {

@@ -4,7 +4,7 @@ ghost use Rattle.fapp_model.specs.search.Jobs.{job_count, prefixes};
 ghost use Rattle.fapp_plan.specs.Sorting.{by_path};
 ghost use Rattle.merge_laws.specs.Levels.{cites_of, emit_prefixes, prefix_line};
 ghost use Rattle.merge_laws.specs.Refuted.{prefix_number};
-ghost use Rattle.cert_merge.specs.Growth.{AreApart, with_out};
+ghost use Rattle.cert_merge.specs.Growth.{AreOnPathsApart, with_out};
 
 use crate::merged::Certificate;
 use cert_lines::{Line, Rule};
@@ -25,7 +25,7 @@ fn cites_of(alloc: Global, number: u32) -> Result<Items<u32>, NoMemory>
 
 /// The Count line of a prefix, which cites the line of a number, or none.
 fn prefix_line(alloc: Global, tag: Tag, prefix: &[Literal], number: u32) -> Result<Line, NoMemory>
-    requires { AreApart prefix.now }
+    requires { AreOnPathsApart prefix.now }
     ensures { IfOk result (λ line. line ≡ prefix_line tag prefix.now number) }
 {
     Ok(Line {
@@ -60,7 +60,7 @@ impl Certificate {
     ) -> Result<(), NoMemory>
         requires planned { length collected.now ≡ job_count plan.now.instance plan.now.split }
         requires prefixes { lists.now ≡ prefixes plan.now.instance plan.now.split }
-        requires apart { All AreApart lists.now }
+        requires apart { All AreOnPathsApart lists.now }
         ensures { OnOk result (self.new ≡ with_out self.old (emit_prefixes tag
             (prefix_number plan.now.instance collected.now tag.code self.old) 0 lists.now self.old.out)) }
     {

@@ -3,7 +3,7 @@ ghost use Rattle.std.specs.Prelude.{◌≡◌, ◌<◌, ◌≤◌, ◌++◌, len
 ghost use Rattle.std.specs.List.{AllAdjacentBelow};
 ghost use Rattle.std.specs.List.Sorted.{IsPermutation};
 ghost use Rattle.search_log.specs.GoodLogs.{all_lines, piece_of, pieces_of};
-ghost use Rattle.cert_merge.specs.Growth.{IsNotAfter};
+ghost use Rattle.cert_merge.specs.Growth.{IsPieceNotAfter};
 
 use crate::remainder::Remainder;
 use fapp_model::NoMemory;
@@ -76,7 +76,7 @@ pub(crate) fn sort_by_row(pieces: &mut [Piece])
 
 fn sort(pieces: &mut [Piece])
     ensures same { IsPermutation pieces.old pieces.new }
-    ensures ordered { AllAdjacentBelow IsNotAfter pieces.new (length pieces.new) }
+    ensures ordered { AllAdjacentBelow IsPieceNotAfter pieces.new (length pieces.new) }
 {
     pieces.sort_unstable();
 }

@@ -1,7 +1,7 @@
 -- What was written, in the words of the whole text.
 use Rattle.std.proofs.Common.{◌≡◌, ◌⊎◌, ⊎_elim, ℕ, suc, List, [], ◌∷◌, ◌++◌, sym, subst, arith}
 use Rattle.fapp_io.specs.Moments.{SinkMoment}
-use Rattle.fapp_io.specs.Known.{Grows}
+use Rattle.fapp_io.specs.Known.{BytesGrow}
 use Rattle.fapp_io.specs.Whole.{GrowsByFront}
 use Rattle.cert_relay.specs.declared.desk.Desk.{Desk}
 use Rattle.cert_relay.specs.declared.desk.End.{End}
@@ -10,7 +10,7 @@ use Rattle.cert_relay.specs.declared.message.Message.{Message}
 use Rattle.cert_relay.specs.declared.rule.Job.{Job}
 use Rattle.cert_relay.specs.Pieces.{piece_count, piece_text, text_before}
 use Rattle.cert_relay.specs.Queue.{AreTaken}
-use Rattle.cert_relay.specs.Relayed.{IsWritten, IsRelayed}
+use Rattle.cert_relay.specs.Relayed.{IsRelayWritten, IsRelayed}
 use Rattle.cert_relay.specs.Writing.{IsDesk, IsWrittenTo}
 use Rattle.cert_relay.proofs.Desks.{lacks_more}
 use Rattle.cert_relay.proofs.Texts.{whole_text, front_longer}
@@ -34,8 +34,8 @@ stopped job taken n old new end is was = ⊎_elim
     lacked : (x : ℕ) → IsWrittenTo job taken n old new (OutOfMemory x) → IsWrittenTo job taken (suc n) old new (OutOfMemory x)
     lacked x w = (omega (arith, w.0), w.1, w.2, w.3)
 
-wrote_all : (job : Job) (taken : List Message) (old new : SinkMoment) (end : End) → IsWrittenTo job taken (piece_count job.answer) old new end → IsWritten job.instance job.answer taken old new end
-wrote_all job taken old new Written h = (subst (Grows old.taken new.taken) (whole_text job.instance job.answer) h.0, h.1)
+wrote_all : (job : Job) (taken : List Message) (old new : SinkMoment) (end : End) → IsWrittenTo job taken (piece_count job.answer) old new end → IsRelayWritten job.instance job.answer taken old new end
+wrote_all job taken old new Written h = (subst (BytesGrow old.taken new.taken) (whole_text job.instance job.answer) h.0, h.1)
 wrote_all job taken old new WriteFault h = (subst (GrowsByFront old.taken new.taken) (whole_text job.instance job.answer) h.0, h.1, h.2)
 wrote_all job taken old new (OutOfMemory number) h = h
 

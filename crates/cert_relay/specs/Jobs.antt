@@ -15,7 +15,7 @@ abbrev pub job_of : Task → Job
 job_of task = record { instance = task.instance.now; answer = task.answer.now; senders = task.senders }
 
 -- a well-formed answer whose lines can be counted, and 1 to 8 senders
-pub record IsJob (job : Job) : Type 0 where
+pub record IsRelayJob (job : Job) : Type 0 where
   pub answer : IsWellFormed job.instance job.answer
   pub few_lines : length job.answer.lines ≤ MAX_NUMBER
   pub some_senders : 0 < job.senders

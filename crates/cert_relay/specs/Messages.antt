@@ -18,8 +18,8 @@ abbrev pub those_of : ℕ → ℕ → List ℕ → List ℕ
 those_of senders sender all = filter (λ n. n % senders == sender) all
 
 -- where a message has a text, it is that of the piece of its number
-abbrev pub IsRight : Instance → Answer → Message → Type 0
-IsRight instance answer message = IfSome message.text (λ text. text ≡ piece_text instance answer message.number)
+abbrev pub IsRightMessage : Instance → Answer → Message → Type 0
+IsRightMessage instance answer message = IfSome message.text (λ text. text ≡ piece_text instance answer message.number)
 
 -- a message of this number has no text
 abbrev pub LacksText : List Message → ℕ → Type 0

@@ -21,8 +21,8 @@ use Rattle.fapp_model.proofs.Members.{All-from_members, All-range}
 use Rattle.fapp_tables.specs.Measures.{coded_part, pair_code}
 use Rattle.choice_counts.specs.declared.rows.TheConstants.{HARD}
 use Rattle.choice_counts.specs.Counts.{clash_pairs, clash_part, outside_part, outsiders, tallies_of}
-use Rattle.choice_counts.specs.CountedSums.{IsBound, IsCalm, IsLeastAt, RemainsAt}
-use Rattle.choice_counts.specs.Tallies.{least_of, least_part, stuck_part}
+use Rattle.choice_counts.specs.CountedSums.{IsCountedSum, IsCalm, IsLeastAt, RemainsAt}
+use Rattle.choice_counts.specs.Tallies.{least_of_tallies, least_part, stuck_part}
 use Rattle.choice_counts.proofs.Bounds.{further_small}
 use Rattle.choice_counts.proofs.Clash.{flag, flag_zero}
 use Rattle.choice_counts.proofs.Coded.{code, inside_code, same-pair, sum_by-code}
@@ -50,7 +50,7 @@ one_least instance level literals path p q a b =
     both p q (inr h) (inr g) = same-pair p q h.0 (omega (arith, h.1, g.1))
 
 -- the sum of a level is one number
-pub one_bound : (instance : Instance) (level : ℕ) (literals : List Literal) (m n : ℕ) → IsBound instance level literals m → IsBound instance level literals n → m ≡ n
+pub one_bound : (instance : Instance) (level : ℕ) (literals : List Literal) (m n : ℕ) → IsCountedSum instance level literals m → IsCountedSum instance level literals n → m ≡ n
 one_bound instance level literals m n a b =
     let same : (f : Pair → ℕ) → over_open instance literals (λ path. f (a.fewest path)) ≡ over_open instance literals (λ path. f (b.fewest path)) = λ f.
     range-sum-same (λ path. cond (names literals path) 0 (f (a.fewest path))) (λ path. cond (names literals path) 0 (f (b.fewest path))) (length instance.paths) (λ path below. at f path below (names literals path) refl) in
@@ -83,7 +83,7 @@ module _ (instance : Instance) (level : ℕ) (arc : Literal → Bool) (arcs : Is
   -- ---- what is counted for the further paths
 
   abbrev least_tally : ℕ → ℕ
-  least_tally path = least_of (tallies_of instance level arc literals path)
+  least_tally path = least_of_tallies (tallies_of instance level arc literals path)
 
   -- how many have no choice left, and the sum of the least tallies of the others
   abbrev pub stuck_paths : ℕ
@@ -149,7 +149,7 @@ module _ (instance : Instance) (level : ℕ) (arc : Literal → Bool) (arcs : Is
         by_cases path below true e = omega arith
         by_cases path below false e = ap (λ t. cond t (least_tally path) 0) (lt-ltb (least_tally path) HARD (calm-low calm path below e)) ∙ whole (least_tally path)
 
-    pub bound_is : IsCalm instance level literals → IsBound instance level literals (inside instance (coded_part level) literals + least_sum)
+    pub bound_is : IsCalm instance level literals → IsCountedSum instance level literals (inside instance (coded_part level) literals + least_sum)
     bound_is calm = record {
       fewest = λ path. pair_from (least_tally path);
       each = fewest_is calm;

@@ -20,10 +20,10 @@ use Rattle.nogood.specs.Partials.{choice_given}
 use Rattle.choice_counts.specs.declared.rows.PathTallies.{PathTallies}
 use Rattle.choice_counts.specs.declared.totals.Totals.{Totals}
 use Rattle.choice_counts.specs.Counts.{rows_of, tally_of, tallies_of}
-use Rattle.choice_counts.specs.CountedSums.{IsBound, IsCalm, RemainsAt}
+use Rattle.choice_counts.specs.CountedSums.{IsCountedSum, IsCalm, RemainsAt}
 use Rattle.choice_counts.specs.Kept.{AreKept}
 use Rattle.choice_counts.specs.Totals.{open_sum}
-use Rattle.choice_counts.specs.Tallies.{least_of, least_part, tallies_at, stuck_part}
+use Rattle.choice_counts.specs.Tallies.{least_of_tallies, least_part, tallies_at, stuck_part}
 use Rattle.choice_counts.proofs.Calm.{bound_is, calm_is, least_sum, stuck_paths}
 use Rattle.choice_counts.proofs.Coded.{added_code}
 use Rattle.choice_counts.proofs.Remaining.{kept-inside, tally-sum}
@@ -77,10 +77,10 @@ module _ (instance : Instance) (level : ℕ) (arc : Literal → Bool) (arcs : Is
 
 module _ (instance : Instance) (valid : IsInstance instance) (level : ℕ) (within : level ≤ 11) (literals : List Literal) (partial : IsPartial instance literals) (slots : List (Option ℕ)) (rows : List PathTallies) (totals : Totals)
     (kept : AreKept instance level literals slots rows totals) where
-  open_is : (f : ℕ → ℕ) → open_sum f slots rows ≡ over_open instance literals (λ p. f (least_of (tallies_of instance level kept.arc literals p)))
+  open_is : (f : ℕ → ℕ) → open_sum f slots rows ≡ over_open instance literals (λ p. f (least_of_tallies (tallies_of instance level kept.arc literals p)))
   open_is f =
       ap (λ n. sum_by (λ p. cond (is_some (choice_given slots p)) 0 (f (tallies_at rows p).least)) (range_with_len 0 n)) kept.counted.held.whole
-      ∙ range-sum-same (λ p. cond (is_some (choice_given slots p)) 0 (f (tallies_at rows p).least)) (λ p. cond (names literals p) 0 (f (least_of (tallies_of instance level kept.arc literals p)))) (length instance.paths)
+      ∙ range-sum-same (λ p. cond (is_some (choice_given slots p)) 0 (f (tallies_at rows p).least)) (λ p. cond (names literals p) 0 (f (least_of_tallies (tallies_of instance level kept.arc literals p)))) (length instance.paths)
       (λ p below. ap (λ b. cond b 0 (f (tallies_at rows p).least)) (named instance literals slots kept.counted.held p)
       ∙ ap (λ n. cond (names literals p) 0 (f n)) (ap (λ (rs : List PathTallies). (tallies_at rs p).least) kept.counted.rows_are ∙ ap (λ (r : PathTallies). r.least) (row_is instance level kept.arc literals p below)))
 
@@ -95,9 +95,9 @@ module _ (instance : Instance) (valid : IsInstance instance) (level : ℕ) (with
       (kept.counted.conflicts ∙ parts.0, (kept.counted.open_paths.stuck ∙ open_is stuck_part) ∙ parts.1)
 
   -- and then what is counted is the sum
-  pub kept_bound : IsCalm instance level literals → (half n : ℕ) → half * 2 ≡ totals.twice_inside → n ≡ half + totals.open_paths.least → IsBound instance level literals n
+  pub kept_bound : IsCalm instance level literals → (half n : ℕ) → half * 2 ≡ totals.twice_inside → n ≡ half + totals.open_paths.least → IsCountedSum instance level literals n
   kept_bound calm half n even e =
       let is = bound_is instance level kept.arc kept.arcs literals valid within partial calm in
       let least = kept.counted.open_paths.least ∙ open_is least_part in
       let same : inside instance (coded_part level) literals + least_sum instance level kept.arc kept.arcs literals ≡ n = omega (arith, even, e, least, kept.counted.twice_inside) in
-      subst (IsBound instance level literals) same is
+      subst (IsCountedSum instance level literals) same is

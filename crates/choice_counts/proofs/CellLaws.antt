@@ -7,7 +7,7 @@ use Rattle.fapp_tables.specs.Indexes.{record_at, records_of}
 use Rattle.choice_counts.specs.declared.breaks.TheConstants.{NO_REACH}
 use Rattle.choice_counts.specs.declared.cells.Cell.{Cell}
 use Rattle.choice_counts.specs.Breaks.{IsSteady}
-use Rattle.choice_counts.specs.Cells.{AreCells, Extends, AreWhole, IsCell, IsFar, cell_at, end_of, no_cell, reaching, start_of, tally_in}
+use Rattle.choice_counts.specs.Cells.{AreCells, AddsCell, AreWhole, IsCell, IsFar, cell_at, end_of_cells, no_cell, reaching, start_of, tally_in}
 use Rattle.choice_counts.specs.Distances.{tally_apart}
 use Rattle.choice_counts.proofs.TallyLaws.{tallies_steady}
 
@@ -26,27 +26,27 @@ start_same cells more (suc place) same = ap (λ (cell : Cell). cell.reach) (same
 pub start_more : (cells : List Cell) (place : ℕ) → start_of cells (place + 1) ≡ (cell_at cells place).reach
 start_more cells place = rw (add-one place) refl
 
-pub end_last : (cells : List Cell) → 0 < length cells → end_of cells ≡ (cell_at cells (length cells - 1)).reach
+pub end_last : (cells : List Cell) → 0 < length cells → end_of_cells cells ≡ (cell_at cells (length cells - 1)).reach
 end_last cells some = let e : length cells ≡ length cells - 1 + 1 = omega arith in ap (start_of cells) e ∙ start_more cells (length cells - 1)
 
 module _ (old : List Cell) (cell : Cell) where
-  pushed_end : end_of (old ++ cell ∷ []) ≡ cell.reach
+  pushed_end : end_of_cells (old ++ cell ∷ []) ≡ cell.reach
   pushed_end = ap (start_of (old ++ cell ∷ [])) (length_push old cell) ∙ (start_more (old ++ cell ∷ []) (length old) ∙ ap (λ (c : Cell). c.reach) (get_or_push old cell no_cell (length old) refl))
 
   last_set : 0 < length old → cell_at (set old (length old - 1) cell) (length old - 1) ≡ cell
   last_set some = get_or-set_same old (length old - 1) cell no_cell (omega arith)
 
-  set_end : 0 < length old → end_of (set old (length old - 1) cell) ≡ cell.reach
+  set_end : 0 < length old → end_of_cells (set old (length old - 1) cell) ≡ cell.reach
   set_end some =
       let same = length-set old (length old - 1) cell in
       ap (start_of (set old (length old - 1) cell)) same ∙ ((let e : length old ≡ length old - 1 + 1 = omega arith in ap (start_of (set old (length old - 1) cell)) e)
       ∙ (start_more (set old (length old - 1) cell) (length old - 1) ∙ ap (λ (c : Cell). c.reach) (last_set some)))
 
-  pub extends_end : (new : List Cell) → Extends old cell new → end_of new ≡ cell.reach
-  extends_end new (inl e) = ap end_of e ∙ pushed_end
-  extends_end new (inr (some, e, like)) = ap end_of e ∙ set_end some
+  pub extends_end : (new : List Cell) → AddsCell old cell new → end_of_cells new ≡ cell.reach
+  extends_end new (inl e) = ap end_of_cells e ∙ pushed_end
+  extends_end new (inr (some, e, like)) = ap end_of_cells e ∙ set_end some
 
-  module _ (instance : Instance) (level path other : ℕ) (are : AreCells instance level path other old) (is : IsCell instance level path other (end_of old) cell) where
+  module _ (instance : Instance) (level path other : ℕ) (are : AreCells instance level path other old) (is : IsCell instance level path other (end_of_cells old) cell) where
     pushed_cells : AreCells instance level path other (old ++ cell ∷ [])
     pushed_cells place inside = elim (cases_lt place (length old)) [
       | inl before ↦
@@ -82,7 +82,7 @@ module _ (old : List Cell) (cell : Cell) where
               (subst (λ (n : ℕ). IsCell instance level path other n cell) (start_same old new (length old - 1) same) (longer some like)))
         ]
 
-    pub extends_cells : (new : List Cell) → Extends old cell new → AreCells instance level path other new
+    pub extends_cells : (new : List Cell) → AddsCell old cell new → AreCells instance level path other new
     extends_cells new (inl e) = subst (AreCells instance level path other) (sym e) pushed_cells
     extends_cells new (inr (some, e, like)) = subst (AreCells instance level path other) (sym e) (set_cells some like)
 

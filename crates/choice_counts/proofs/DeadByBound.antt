@@ -24,7 +24,7 @@ use Rattle.fapp_model.proofs.Sums.{range-sum-le}
 use Rattle.fapp_model.proofs.LevelNumbers.{levels-few}
 use Rattle.fapp_model.proofs.TagParts.{TagShape, limited, mode-limited, mode-plain, plain, shape_of}
 use Rattle.fapp_tables.specs.Measures.{pair_code}
-use Rattle.choice_counts.specs.CountedSums.{IsBound, IsCalm, IsLeastAt}
+use Rattle.choice_counts.specs.CountedSums.{IsCountedSum, IsCalm, IsLeastAt}
 use Rattle.choice_counts.specs.Laws.{AliveIsCalm, DeadIsOverBound}
 use Rattle.choice_counts.proofs.Bounds.{further_most, open_part, total_most}
 use Rattle.choice_counts.proofs.Calm.{one_bound}
@@ -108,7 +108,7 @@ fits_of levels t (limited some level small v s) = s
 fits_of levels t (plain v s small) = omega arith
 
 module _ (instance : Instance) (t : Triple) (literals : List Literal) (valid : IsInstance instance) (tag : IsTagOf instance t) (within : mode_level t ≤ 11) (partial : IsPartial instance literals) (n : ℕ)
-    (calm : IsCalm instance (mode_level t) literals) (bound : IsBound instance (mode_level t) literals n) where
+    (calm : IsCalm instance (mode_level t) literals) (bound : IsCountedSum instance (mode_level t) literals n) where
   fits : t.s < S_SPAN
   fits = fits_of (levels_of instance) t (shape_of instance t tag)
 
@@ -128,7 +128,7 @@ module _ (instance : Instance) (t : Triple) (literals : List Literal) (valid : I
         | inr bad ↦ both_ways (clashes_with instance (mode_level t) literals (literal path choice.0)) choice.2.free bad
       ])
   dead-over (over_limit some fewest each most) =
-      let other : IsBound instance (mode_level t) literals (pair_code (pair_with instance (mode_level t) literals fewest)) = record { fewest = fewest; each = each; is = refl } in
+      let other : IsCountedSum instance (mode_level t) literals (pair_code (pair_with instance (mode_level t) literals fewest)) = record { fewest = fewest; each = each; is = refl } in
       let same = one_bound instance (mode_level t) literals n (pair_code (pair_with instance (mode_level t) literals fewest)) bound other in
       let high = at_most-code (limit_of t) (pair_with instance (mode_level t) literals fewest) fits (total_small instance (mode_level t) valid within literals partial fewest each) most in
       inr (some, omega (arith, same, high))

@@ -19,7 +19,7 @@ use Rattle.choice_counts.specs.Counts.{clash_part, clash_pairs, hard_of, outside
 use Rattle.choice_counts.specs.ForwardStates.{AreSlots}
 use Rattle.choice_counts.specs.Kept.{AreKept}
 use Rattle.choice_counts.specs.Moves.{CanMoveAll, rows_with}
-use Rattle.choice_counts.specs.Totals.{AreRows, IsOpen}
+use Rattle.choice_counts.specs.Totals.{AreRows, AreOpenPaths}
 use Rattle.choice_counts.specs.Tallies.{least_part, tallies_at, stuck_part, tally_at}
 use Rattle.choice_counts.proofs.Bounds.{conflicts_few, distinct_push, inside_small}
 use Rattle.choice_counts.proofs.Clash.{clash_self, flag, itself_none}
@@ -61,7 +61,7 @@ module _ (instance : Instance) (valid : IsInstance instance) (level : ℕ) (with
     pub push_inside : totals.twice_inside < 2 ^ 62
     push_inside = omega (arith, kept.counted.twice_inside, inside_small instance valid level within literals partial.distinct)
 
-    pub kept_pushed : (new_rows : List PathTallies) (new : Totals) → new_rows ≡ rows_with false instance level a rows → IsOpen (set slots a.path (Some a.choice)) new_rows new.open_paths →
+    pub kept_pushed : (new_rows : List PathTallies) (new : Totals) → new_rows ≡ rows_with false instance level a rows → AreOpenPaths (set slots a.path (Some a.choice)) new_rows new.open_paths →
         new.conflicts ≡ totals.conflicts + own_tally rows a / HARD * 2 → new.twice_inside ≡ totals.twice_inside + own_tally rows a % HARD * 2 →
         AreKept instance level (literals ++ a ∷ []) (set slots a.path (Some a.choice)) new_rows new
     kept_pushed new_rows new made opened conflicts twice =
@@ -116,7 +116,7 @@ module _ (instance : Instance) (valid : IsInstance instance) (level : ℕ) (with
     pub drop_inside : own_tally rows a % HARD * 2 ≤ totals.twice_inside
     drop_inside = omega (arith, inside_less)
 
-    pub kept_dropped : (new_rows : List PathTallies) (new : Totals) → new_rows ≡ rows_with true instance level a rows → IsOpen (set slots a.path None) new_rows new.open_paths →
+    pub kept_dropped : (new_rows : List PathTallies) (new : Totals) → new_rows ≡ rows_with true instance level a rows → AreOpenPaths (set slots a.path None) new_rows new.open_paths →
         new.conflicts ≡ totals.conflicts - own_tally rows a / HARD * 2 → new.twice_inside ≡ totals.twice_inside - own_tally rows a % HARD * 2 →
         AreKept instance level (other_paths a.path literals) (set slots a.path None) new_rows new
     kept_dropped new_rows new made opened conflicts twice =

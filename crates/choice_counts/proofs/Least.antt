@@ -4,7 +4,7 @@ use Rattle.std.specs.List.{fold}
 use Rattle.std.proofs.lemmas.Bool.{cases_lt}
 use Rattle.std.proofs.lemmas.List.Sums.{fold_push}
 use Rattle.choice_counts.specs.declared.rows.TheConstants.{NO_TALLY}
-use Rattle.choice_counts.specs.Tallies.{least_of, tally_at}
+use Rattle.choice_counts.specs.Tallies.{least_of_tallies, tally_at}
 
 fold_falls : (tallies : List ℕ) (m : ℕ) → fold min m tallies ≤ m
 fold_falls [] m = omega arith
@@ -34,22 +34,22 @@ fold_reached (w ∷ tallies) m = elim (fold_reached tallies (min m w)) [
   ]
 ]
 
-pub least_below : (tallies : List ℕ) (k : ℕ) → k < length tallies → least_of tallies ≤ tally_at tallies k
-unfolding least_of
+pub least_below : (tallies : List ℕ) (k : ℕ) → k < length tallies → least_of_tallies tallies ≤ tally_at tallies k
+unfolding least_of_tallies
 least_below tallies k inside = fold_below tallies NO_TALLY k inside
 
-pub least_reached : (tallies : List ℕ) → (least_of tallies ≡ NO_TALLY) ⊎ Reached tallies (least_of tallies)
-unfolding least_of
+pub least_reached : (tallies : List ℕ) → (least_of_tallies tallies ≡ NO_TALLY) ⊎ Reached tallies (least_of_tallies tallies)
+unfolding least_of_tallies
 least_reached tallies = fold_reached tallies NO_TALLY
 
-pub least_none : least_of [] ≡ NO_TALLY
-unfolding least_of
+pub least_none : least_of_tallies [] ≡ NO_TALLY
+unfolding least_of_tallies
 least_none = refl
 
-pub least_push : (tallies : List ℕ) (w : ℕ) → least_of (tallies ++ w ∷ []) ≡ min (least_of tallies) w
-unfolding least_of
+pub least_push : (tallies : List ℕ) (w : ℕ) → least_of_tallies (tallies ++ w ∷ []) ≡ min (least_of_tallies tallies) w
+unfolding least_of_tallies
 least_push tallies w = fold_push min NO_TALLY tallies w
 
-pub least_small : (tallies : List ℕ) → least_of tallies ≤ NO_TALLY
-unfolding least_of
+pub least_small : (tallies : List ℕ) → least_of_tallies tallies ≤ NO_TALLY
+unfolding least_of_tallies
 least_small tallies = fold_falls tallies NO_TALLY

@@ -15,13 +15,13 @@ use Rattle.choice_counts.specs.Counts.{pair_tally}
 use Rattle.choice_counts.proofs.Bounds.{sum_small}
 use Rattle.choice_counts.proofs.Clash.{flag_most}
 use Rattle.choice_counts.specs.declared.breaks.TheConstants.{NO_REACH}
-use Rattle.choice_counts.specs.declared.fill.Link.{Link}
+use Rattle.choice_counts.specs.declared.fill.PairCells.{PairCells}
 use Rattle.choice_counts.specs.Cells.{cell_at, start_of, tally_in}
-use Rattle.choice_counts.specs.Links.{IsFound, IsLink}
+use Rattle.choice_counts.specs.Links.{IsFound, IsPairCells}
 use Rattle.choice_counts.specs.Distances.{choices_tally}
 use Rattle.choice_counts.proofs.TallyLaws.{tally_is, tallies_apart}
 
-module _ (instance : Instance) (level : ℕ) (a b : Literal) (apart : a.path ≢ b.path) (link : Link) (is : IsLink instance level a.path b.path link) where
+module _ (instance : Instance) (level : ℕ) (a b : Literal) (apart : a.path ≢ b.path) (link : PairCells) (is : IsPairCells instance level a.path b.path link) where
   -- the cell of the distance has the tally
   pub cell_tally : (place : ℕ) → place < length link.cells → start_of link.cells place ≤ distance (choice_of instance a) (choice_of instance b) →
       distance (choice_of instance a) (choice_of instance b) < (cell_at link.cells place).reach →
@@ -50,7 +50,7 @@ pair_small instance valid level low a b =
     omega (arith, one, flag_most (clashes instance level a b))
 
 -- the tally that was found for choices that are told by equations
-pub tally_found : (instance : Instance) (level : ℕ) (a b : Literal) → a.path ≢ b.path → (link : Link) → IsLink instance level a.path b.path link →
+pub tally_found : (instance : Instance) (level : ℕ) (a b : Literal) → a.path ≢ b.path → (link : PairCells) → IsPairCells instance level a.path b.path link →
     (x y : Choice) (n : ℕ) → x ≡ choice_of instance a → y ≡ choice_of instance b → IsFound link (distance x y) (same_polarization x y) n → n ≡ pair_tally instance level b a
 tally_found instance level a b apart link is x y n ex ey found =
     by_case (subst (λ p. IsFound link (distance p (choice_of instance b)) (same_polarization p (choice_of instance b)) n) ex

@@ -18,7 +18,7 @@ use Rattle.fapp_tables.specs.Measures.{coded_part, pair_code}
 use Rattle.choice_counts.specs.declared.rows.TheConstants.{HARD, NO_TALLY}
 use Rattle.choice_counts.specs.Counts.{clash_part, hard_of, outside_part, tally_of, tallies_of}
 use Rattle.choice_counts.specs.CountedSums.{IsLeastAt, IsLeastSum, RemainsAt}
-use Rattle.choice_counts.specs.Tallies.{least_of, tally_at}
+use Rattle.choice_counts.specs.Tallies.{least_of_tallies, tally_at}
 use Rattle.choice_counts.proofs.Bounds.{further_small, sum_small}
 use Rattle.choice_counts.proofs.Clash.{any_zero, flag, flag_zero, zero_any}
 use Rattle.choice_counts.proofs.Coded.{added_code, at_most-code, code-at_most}
@@ -88,7 +88,7 @@ module _ (instance : Instance) (level : ℕ) (arc : Literal → Bool) (arcs : Is
     s_small a = further_small instance valid level within literals partial.distinct a
 
     -- the least tally of a path with a choice left is its least pair
-    pub least-found : (path : ℕ) → least_of (tallies path) < HARD → (pair : Pair) × IsLeastAt instance level literals path pair × (least_of (tallies path) ≡ pair_code pair)
+    pub least-found : (path : ℕ) → least_of_tallies (tallies path) < HARD → (pair : Pair) × IsLeastAt instance level literals path pair × (least_of_tallies (tallies path) ≡ pair_code pair)
     least-found path below = elim (least_reached (tallies path)) [
       | inl none ↦ absurd (omega (arith, none, below))
       | inr reached ↦
@@ -114,7 +114,7 @@ module _ (instance : Instance) (level : ℕ) (arc : Literal → Bool) (arcs : Is
     ]
 
     -- and the other way round
-    pub found-least : (path : ℕ) (pair : Pair) → IsLeastAt instance level literals path pair → (least_of (tallies path) ≡ pair_code pair) × (least_of (tallies path) < HARD)
+    pub found-least : (path : ℕ) (pair : Pair) → IsLeastAt instance level literals path pair → (least_of_tallies (tallies path) ≡ pair_code pair) × (least_of_tallies (tallies path) < HARD)
     found-least path pair found =
         let a = literal path found.index in
         let here = tally_in instance level arc literals path found.index found.in_range in
@@ -129,13 +129,13 @@ module _ (instance : Instance) (level : ℕ) (arc : Literal → Bool) (arcs : Is
         (omega (arith, lower, here, sum, above, there, best.2), omega (arith, lower, here, low))
 
     -- no choice of a path with a great least tally remains
-    pub none-left : (path : ℕ) → HARD ≤ least_of (tallies path) → (index : ℕ) → index < count_at instance path → RemainsAt instance level literals (literal path index) → ⊥
+    pub none-left : (path : ℕ) → HARD ≤ least_of_tallies (tallies path) → (index : ℕ) → index < count_at instance path → RemainsAt instance level literals (literal path index) → ⊥
     none-left path high index inside r =
         let lower = least_below (tallies path) index (omega (arith, inside, tally_count instance level arc literals path)) in
         omega (arith, lower, high, tally_in instance level arc literals path index inside, remains-tally (literal path index) r)
 
-    pub some-left : (path index : ℕ) → index < count_at instance path → RemainsAt instance level literals (literal path index) → least_of (tallies path) < HARD
-    some-left path index inside r = elim (cases_lt (least_of (tallies path)) HARD) [
+    pub some-left : (path index : ℕ) → index < count_at instance path → RemainsAt instance level literals (literal path index) → least_of_tallies (tallies path) < HARD
+    some-left path index inside r = elim (cases_lt (least_of_tallies (tallies path)) HARD) [
       | inl low ↦ low
       | inr high ↦ absurd (none-left path high index inside r)
     ]

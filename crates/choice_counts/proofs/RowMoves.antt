@@ -14,7 +14,7 @@ use Rattle.choice_counts.specs.declared.rows.PathTallies.{PathTallies}
 use Rattle.choice_counts.specs.Counts.{pair_tally, rows_of, tally_of, tallies_of}
 use Rattle.choice_counts.specs.Moves.{CanMoveAll, moved, rows_with, tallies_with}
 use Rattle.choice_counts.specs.Totals.{AreRows}
-use Rattle.choice_counts.specs.Tallies.{least_of, no_tallies, tallies_at, tallies_by, tally_at}
+use Rattle.choice_counts.specs.Tallies.{least_of_tallies, no_tallies, tallies_at, tallies_by, tally_at}
 use Rattle.choice_counts.proofs.Bounds.{tally_small}
 use Rattle.choice_counts.proofs.Clash.{none_apart, pair_turned}
 use Rattle.choice_counts.proofs.OneMore.{IsOneMore, tally_more}
@@ -42,8 +42,8 @@ module _ (instance : Instance) (level : ℕ) (arc : Literal → Bool) where
   rows_are literals = record {
     count = length-map-range_with_len (λ p. tallies_by (tallies_of instance level arc literals p)) 0 (length instance.paths);
     tallies = λ path below. ap (λ (r : PathTallies). length r.tallies) (row_is literals path below) ∙ tally_count literals path;
-    least = All-from_get_or (λ (r : PathTallies). r.least ≡ least_of r.tallies) (rows_of instance level arc literals) no_tallies (λ q below.
-        subst (λ (r : PathTallies). r.least ≡ least_of r.tallies) (sym (row_is literals q (omega (arith, length-map-range_with_len (λ p. tallies_by (tallies_of instance level arc literals p)) 0 (length instance.paths))))) refl);
+    least = All-from_get_or (λ (r : PathTallies). r.least ≡ least_of_tallies r.tallies) (rows_of instance level arc literals) no_tallies (λ q below.
+        subst (λ (r : PathTallies). r.least ≡ least_of_tallies r.tallies) (sym (row_is literals q (omega (arith, length-map-range_with_len (λ p. tallies_by (tallies_of instance level arc literals p)) 0 (length instance.paths))))) refl);
   }
 
   module _ (less more : List Literal) (now : Literal) (one : IsOneMore less more now) where

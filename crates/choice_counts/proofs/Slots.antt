@@ -15,7 +15,7 @@ use Rattle.fapp_model.proofs.Members.{from-filter, in-filter, no_member}
 use Rattle.fapp_model.proofs.Sums.{range-sum-same, sum_by-same-members}
 use Rattle.fapp_tables.proofs.PairLaws.{sum_by-filter, sum_by-positions}
 use Rattle.nogood.specs.Literals.{other_paths}
-use Rattle.nogood.specs.Partials.{Gives, choice_given}
+use Rattle.nogood.specs.Partials.{GivesChoice, choice_given}
 use Rattle.choice_counts.specs.declared.rows.PathTallies.{PathTallies}
 use Rattle.choice_counts.specs.ForwardStates.{AreSlots}
 use Rattle.choice_counts.specs.Totals.{open_sum}
@@ -75,7 +75,7 @@ slots_push instance literals slots path choice held inside free = record {
     here : choice_given (set slots path (Some choice)) path ≡ Some choice
     here = get_or-set_same slots path (Some choice) None inside
 
-    gives : (a : Literal) → Gives (set slots path (Some choice)) a → Contains (literals ++ literal path choice ∷ []) a
+    gives : (a : Literal) → GivesChoice (set slots path (Some choice)) a → Contains (literals ++ literal path choice ∷ []) a
     gives a g = elim (cases_eq a.path path) [
       | inl same ↦
           let is = some-is choice a.choice (sym here ∙ (ap (choice_given (set slots path (Some choice))) (sym same) ∙ g)) in
@@ -83,10 +83,10 @@ slots_push instance literals slots path choice held inside free = record {
       | inr other ↦ Contains-append_left literals (literal path choice ∷ []) a ((held.given a).0 (sym (get_or-set_other slots path a.path (Some choice) None other) ∙ g))
     ]
 
-    holds : (a : Literal) → Contains (literals ++ literal path choice ∷ []) a → Gives (set slots path (Some choice)) a
+    holds : (a : Literal) → Contains (literals ++ literal path choice ∷ []) a → GivesChoice (set slots path (Some choice)) a
     holds a c = elim (Contains-push_cases literals (literal path choice) a c) [
       | inl old ↦ get_or-set_other slots path a.path (Some choice) None (λ same. both_ways (names literals path) free (subst (λ p. names literals p ≡ true) same (at-names literals a old))) ∙ (held.given a).1 old
-      | inr new ↦ subst (Gives (set slots path (Some choice))) new here
+      | inr new ↦ subst (GivesChoice (set slots path (Some choice))) new here
     ]
 
 -- a slot that is emptied
@@ -100,13 +100,13 @@ slots_drop instance literals slots path held inside = record {
     here : choice_given (set slots path None) path ≡ None
     here = get_or-set_same slots path None None inside
 
-    gives : (a : Literal) → Gives (set slots path None) a → Contains (other_paths path literals) a
+    gives : (a : Literal) → GivesChoice (set slots path None) a → Contains (other_paths path literals) a
     gives a g = elim (cases_eq a.path path) [
       | inl same ↦ absurd (none-some a.choice (choice_given (set slots path None) a.path) (ap (choice_given (set slots path None)) same ∙ here) g)
       | inr other ↦ in-filter (λ (b : Literal). not (eqb b.path path)) literals a ((held.given a).0 (sym (get_or-set_other slots path a.path None None other) ∙ g)) (not_from_false (eqb a.path path) (ne_eqb a.path path other))
     ]
 
-    holds : (a : Literal) → Contains (other_paths path literals) a → Gives (set slots path None) a
+    holds : (a : Literal) → Contains (other_paths path literals) a → GivesChoice (set slots path None) a
     holds a c =
         let found = from-filter (λ (b : Literal). not (eqb b.path path)) literals a c in
         get_or-set_other slots path a.path None None (eqb-false a.path path (not-true (eqb a.path path) found.1)) ∙ (held.given a).1 found.0

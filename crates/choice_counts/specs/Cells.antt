@@ -16,8 +16,8 @@ abbrev pub start_of : List Cell → ℕ → ℕ
 start_of cells zero = 0
 start_of cells (suc place) = (cell_at cells place).reach
 
-abbrev pub end_of : List Cell → ℕ
-end_of cells = start_of cells (length cells)
+abbrev pub end_of_cells : List Cell → ℕ
+end_of_cells cells = start_of cells (length cells)
 
 abbrev pub tally_in : Cell → Bool → ℕ
 tally_in cell same = if same then cell.same else cell.other
@@ -35,15 +35,15 @@ AreCells instance level path other cells = (place : ℕ) → place < length cell
 -- each distance has a cell
 pub record AreWhole (cells : List Cell) : Type 0 where
   pub some : 0 < length cells
-  pub last : end_of cells ≡ NO_REACH
+  pub last : end_of_cells cells ≡ NO_REACH
 
 -- a cell with the reach of another
 abbrev pub reaching : Cell → ℕ → Cell
 reaching cell reach = record { reach = reach; same = cell.same; other = cell.other }
 
 -- a cell is added behind the others, or the last of them, which has the same tallies, reaches as far as it
-abbrev pub Extends : List Cell → Cell → List Cell → Type 0
-Extends old cell new = (new ≡ old ++ cell ∷ [])
+abbrev pub AddsCell : List Cell → Cell → List Cell → Type 0
+AddsCell old cell new = (new ≡ old ++ cell ∷ [])
     ⊎ ((0 < length old) × (new ≡ slice_set old (length old - 1) cell) × (reaching (cell_at old (length old - 1)) cell.reach ≡ cell))
 
 -- from the distance on, where the last cell starts, nothing is counted; none if that one counts something

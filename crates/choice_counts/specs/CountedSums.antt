@@ -28,7 +28,7 @@ pub record IsCalm (instance : Instance) (level : ℕ) (literals : List Literal) 
       (index : ℕ) × (index < count_at instance path) × RemainsAt instance level literals (literal path index)
 
 -- the sum that a limit is compared with, as one number: the literals' pairs, and the least that each further path adds
-pub record IsBound (instance : Instance) (level : ℕ) (literals : List Literal) (n : ℕ) : Type 0 where
+pub record IsCountedSum (instance : Instance) (level : ℕ) (literals : List Literal) (n : ℕ) : Type 0 where
   pub fewest : ℕ → Pair
   pub each : (path : ℕ) → path < length instance.paths → names literals path ≡ false → IsLeastAt instance level literals path (fewest path)
   pub is : n ≡ pair_code (pair_with instance level literals fewest)

@@ -5,7 +5,7 @@ use Rattle.fapp_model.specs.declared.literal.Literal.{Literal}
 use Rattle.fapp_model.specs.Levels.{levels_of}
 use Rattle.fapp_model.specs.search.Partials.{literal}
 use Rattle.nogood.specs.Literals.{other_paths}
-use Rattle.nogood.specs.Partials.{Gives}
+use Rattle.nogood.specs.Partials.{GivesChoice}
 
 -- an instance, the level at which counts are kept, and the literals pushed, in order: the last one pushed stands last
 pub record ForwardState : Type 0 where
@@ -36,4 +36,4 @@ at_level state level = record { instance = state.instance; level = level; pushed
 -- choices by path, one for each path of the instance, that are those of the literals
 pub record AreSlots (instance : Instance) (literals : List Literal) (slots : List (Option ℕ)) : Type 0 where
   pub whole : length slots ≡ length instance.paths
-  pub given : (a : Literal) → Gives slots a ↔ Contains literals a
+  pub given : (a : Literal) → GivesChoice slots a ↔ Contains literals a

@@ -8,12 +8,12 @@ abbrev pub tally_at : List ℕ → ℕ → ℕ
 tally_at tallies index = slice_index_or tallies index 0
 
 -- the least tally
-unfoldable pub least_of : List ℕ → ℕ
-least_of tallies = fold min NO_TALLY tallies
+unfoldable pub least_of_tallies : List ℕ → ℕ
+least_of_tallies tallies = fold min NO_TALLY tallies
 
 -- the row of some tallies
 abbrev pub tallies_by : List ℕ → PathTallies
-tallies_by tallies = record { tallies = tallies; least = least_of tallies }
+tallies_by tallies = record { tallies = tallies; least = least_of_tallies tallies }
 
 abbrev pub no_tallies : PathTallies
 no_tallies = tallies_by []

@@ -1,5 +1,5 @@
 ghost use Rattle.std.specs.Prelude.{◌≡◌, ◌↔◌, ◌<◌, [], false, length, IfOk, IsTrue};
-ghost use Rattle.choice_counts.specs.Cells.{Extends, tally_in};
+ghost use Rattle.choice_counts.specs.Cells.{AddsCell, tally_in};
 
 use fapp_model::NoMemory;
 use std::alloc::Global;
@@ -93,7 +93,7 @@ impl Cells {
     /// Adds a cell behind the others, where there is room, or lets the last one reach as far where it has the same tallies. It
     /// takes no memory.
     pub fn extend(&mut self, cell: Cell) -> bool
-        ensures added { IsTrue result → Extends self.old cell self.new }
+        ensures added { IsTrue result → AddsCell self.old cell self.new }
         ensures full { result ≡ false → self.new ≡ self.old }
     {
         let count = self.cells.len();

@@ -1,18 +1,18 @@
 ghost use Rattle.std.specs.Prelude.{◌≡◌, [], IsTrue};
 ghost use Rattle.choice_counts.specs.Cells.{AreCells, AreWhole, IsFar};
-ghost use Rattle.choice_counts.specs.Links.{IsLink};
+ghost use Rattle.choice_counts.specs.Links.{IsPairCells};
 ghost use Rattle.fapp_model.specs.Instances.{IsInstance};
 
 use crate::breaks::NO_REACH;
 use crate::cells::{Cell, Cells};
-use crate::pair::Pair;
+use crate::pair::Edge;
 
 /// At most so many distances are tried for the cells of two paths.
 const MOST_STEPS: u32 = 128;
 
 /// What the choices of two neighbouring paths count in each other's tallies at a level.
 #[derive(Debug, Drop)]
-pub struct Link {
+pub struct PairCells {
     /// A cell for each distance; none where they would be too many.
     pub cells: Cells,
     /// From this distance on nothing is counted.
@@ -20,7 +20,7 @@ pub struct Link {
 }
 
 /// Adds cells, from distance 0 on. Says whether they reach over each distance.
-fn add_cells(pair: &Pair, cells: &mut Cells) -> bool
+fn add_cells(pair: &Edge, cells: &mut Cells) -> bool
     requires instance { IsInstance pair.now.instance.now }
     requires none { cells.old ≡ [] }
     ensures cells { AreCells pair.now.instance.now pair.now.level pair.now.path pair.now.other cells.new }
@@ -52,11 +52,11 @@ fn far_of(cells: &[Cell]) -> u64
     if last > 0 { cells[last - 1].reach } else { 0 }
 }
 
-impl Link {
+impl PairCells {
     /// Makes the cells of two paths anew.
-    pub fn fill(&mut self, pair: &Pair)
+    pub fn fill(&mut self, pair: &Edge)
         requires { IsInstance pair.now.instance.now }
-        ensures { IsLink pair.now.instance.now pair.now.level pair.now.path pair.now.other self.new }
+        ensures { IsPairCells pair.now.instance.now pair.now.level pair.now.path pair.now.other self.new }
     {
         self.cells.clear();
         self.far = NO_REACH;

@@ -15,9 +15,9 @@ mod totals;
 
 pub use breaks::NO_REACH;
 pub use cells::{Cell, Cells};
-pub use fill::Link;
+pub use fill::PairCells;
 pub use laws::{alive_is_calm, dead_is_over_bound, one_bound};
-pub use pair::Pair;
+pub use pair::Edge;
 pub use rows::{HARD, NO_TALLY, PathTallies, Tallies};
 pub use table::TallyTable;
-pub use totals::{Open, Totals};
+pub use totals::{OpenPaths, Totals};

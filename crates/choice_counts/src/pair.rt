@@ -14,7 +14,7 @@ use fapp_tables::pair_counts;
 
 /// Two neighbouring paths, and the level that tallies are of.
 #[derive(Clone, Copy, Debug)]
-pub struct Pair<'a> {
+pub struct Edge<'a> {
     pub instance: &'a Instance,
     pub level: u32,
     pub path: u16,
@@ -50,7 +50,7 @@ fn far(same: bool, distance: u32) -> Choice
     }
 }
 
-impl<'a> Pair<'a> {
+impl<'a> Edge<'a> {
     /// What a choice of the path and one of the other path count in each other's tallies: the sum of the pairs of the records
     /// between them, and `HARD` where one of these is hard-bad.
     pub fn tally(&self, first: Choice, second: Choice) -> u64

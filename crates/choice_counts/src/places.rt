@@ -5,7 +5,7 @@ ghost use Rattle.fapp_model.specs.Records.{distance, same_polarization};
 
 use crate::breaks::NO_REACH;
 use crate::cells::Cell;
-use crate::fill::Link;
+use crate::fill::PairCells;
 use fapp_model::Choice;
 
 /// The last place, at a place or before it, whose cell doesn't start above a distance.
@@ -73,7 +73,7 @@ fn tally_for(cells: &[Cell], place: usize, first: Choice, second: Choice) -> u64
     }
 }
 
-impl Link {
+impl PairCells {
     /// What two choices count in each other's tallies, where each distance has a cell.
     pub fn tally(&self, first: Choice, second: Choice) -> u64
         requires { AreWhole self.now.cells }

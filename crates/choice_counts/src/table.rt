@@ -1,14 +1,14 @@
 ghost use Rattle.std.specs.Prelude.{◌≡◌, ◌<◌, ◌≤◌, length, slice_index, IfOk};
-ghost use Rattle.choice_counts.specs.Links.{IsLink};
-ghost use Rattle.choice_counts.specs.Tables.{AreLinks, AreLinksOf, HasLinks, tallies_at};
+ghost use Rattle.choice_counts.specs.Links.{IsPairCells};
+ghost use Rattle.choice_counts.specs.Tables.{ArePairCells, AreLinksOf, HasLinks, tallies_at};
 ghost use Rattle.fapp_model.specs.declared.level.TheConstants.{MAX_LEVELS};
 ghost use Rattle.fapp_model.specs.Instances.{IsInstance};
 ghost use Rattle.fapp_tables.specs.Indexes.{neighbours_of};
 
 use crate::breaks::NO_REACH;
 use crate::cells::Cells;
-use crate::fill::Link;
-use crate::pair::Pair;
+use crate::fill::PairCells;
+use crate::pair::Edge;
 use fapp_model::NoMemory;
 use fapp_tables::Tables;
 use std::alloc::Global;
@@ -23,12 +23,12 @@ const RECORD_CELLS: usize = 11;
 /// The links of a path, one for each of its neighbours. Contracts see the list.
 #[derive(Debug, Drop)]
 struct Links {
-    links: Vec<Link>,
+    links: Vec<PairCells>,
 }
 
 impl Model for Links {
     ghost use Rattle.std.specs.Prelude.{List};
-    ghost use Rattle.choice_counts.specs.declared.fill.Link.{Link as Seen};
+    ghost use Rattle.choice_counts.specs.declared.fill.PairCells.{PairCells as Seen};
 
     ghost Value = { List Seen };
 
@@ -50,7 +50,7 @@ impl Links {
             } else {
                 MOST_CELLS
             };
-            links.push(Link {
+            links.push(PairCells {
                 cells: Cells::new(alloc, room)?,
                 far: NO_REACH,
             })?;
@@ -74,7 +74,7 @@ impl Links {
 }
 
 /// A path and its neighbour of a place.
-fn pair_at<'a>(tables: &'a Tables<'a>, level: u32, path: u16, place: usize) -> Pair<'a>
+fn pair_at<'a>(tables: &'a Tables<'a>, level: u32, path: u16, place: usize) -> Edge<'a>
     requires level { level ≤ MAX_LEVELS }
     requires path { path < length tables.now.paths }
     requires place { place < length (neighbours_of tables.now path) }
@@ -83,7 +83,7 @@ fn pair_at<'a>(tables: &'a Tables<'a>, level: u32, path: u16, place: usize) -> P
     ensures path { result.path ≡ path }
     ensures other { result.other ≡ slice_index (neighbours_of tables.now path) place }
 {
-    Pair {
+    Edge {
         instance: tables.instance(),
         level,
         path,
@@ -97,7 +97,7 @@ fn fill_all<'a>(tables: &'a Tables<'a>, level: u32, table: &mut [Links])
     requires instance { IsInstance tables.now }
     requires level { level ≤ MAX_LEVELS }
     requires links { HasLinks tables.now table.old (length tables.now.paths) }
-    ensures { AreLinks tables.now level table.new }
+    ensures { ArePairCells tables.now level table.new }
 {
     for path in 0..table.len() {
         table[path].fill(tables, level, path as u16);
@@ -130,14 +130,14 @@ pub struct TallyTable<'a> {
 
 impl<'a> Model for TallyTable<'a> {
     ghost use Rattle.std.specs.Prelude.{◌≤◌};
-    ghost use Rattle.choice_counts.specs.Tables.{AreLinks, TallyState};
+    ghost use Rattle.choice_counts.specs.Tables.{ArePairCells, TallyState};
     ghost use Rattle.fapp_model.specs.declared.level.TheConstants.{MAX_LEVELS};
 
     ghost Value = { TallyState };
 
     ghost view = { λ t. record { instance = t.tables.now; level = t.level } };
 
-    ghost invariant = { λ t. (t.level ≤ MAX_LEVELS) × AreLinks t.tables.now t.level t.table.items };
+    ghost invariant = { λ t. (t.level ≤ MAX_LEVELS) × ArePairCells t.tables.now t.level t.table.items };
 }
 
 impl<'a> TallyTable<'a> {
@@ -168,10 +168,10 @@ impl<'a> TallyTable<'a> {
     }
 
     /// The tallies of a path's choices and of those of its neighbour of a place among its neighbours.
-    pub fn link(&self, path: u16, place: usize) -> &Link
+    pub fn link(&self, path: u16, place: usize) -> &PairCells
         requires path { path < length self.now.instance.paths }
         requires place { place < length (neighbours_of self.now.instance path) }
-        ensures { IsLink self.now.instance self.now.level path (slice_index (neighbours_of self.now.instance path) place) result.now }
+        ensures { IsPairCells self.now.instance self.now.level path (slice_index (neighbours_of self.now.instance path) place) result.now }
     {
         &self.table[path as usize].links[place]
     }

@@ -6,7 +6,7 @@ use crate::HARD;
 /// What is counted for the paths without a literal: how many of them have no choice left, and the sum of the least tallies
 /// of the others.
 #[derive(Clone, Copy, Debug, PartialEq, Eq)]
-pub struct Open {
+pub struct OpenPaths {
     pub stuck: u32,
     pub least: u64,
 }
@@ -14,7 +14,7 @@ pub struct Open {
 /// What is counted for all paths together, and for the literals themselves.
 #[derive(Clone, Copy, Debug, PartialEq, Eq)]
 pub struct Totals {
-    pub open_paths: Open,
+    pub open_paths: OpenPaths,
     /// How many literals clash with each literal, all these numbers added, and 2 more for each that is outside the arcs.
     pub conflicts: u64,
     /// What each literal adds against all others, all these sums added: twice the sum of the pairs between them.
@@ -37,28 +37,28 @@ fn least_part(least: u64) -> u64
     if least < HARD { least } else { 0 }
 }
 
-impl Open {
+impl OpenPaths {
     /// Without a path that had this least tally.
-    pub fn without(self, least: u64) -> Open
+    pub fn without(self, least: u64) -> OpenPaths
         requires stuck { stuck_part least ≤ self.stuck }
         requires least { least_part least ≤ self.least }
         ensures stuck { result.stuck + stuck_part least ≡ self.stuck }
         ensures least { result.least + least_part least ≡ self.least }
     {
-        Open {
+        OpenPaths {
             stuck: self.stuck - stuck_part(least),
             least: self.least - least_part(least),
         }
     }
 
     /// With a further path that has this least tally.
-    pub fn with(self, least: u64) -> Open
+    pub fn with(self, least: u64) -> OpenPaths
         requires stuck { self.stuck < 2 ^ 31 }
         requires least { self.least ≤ 2 ^ 62 }
         ensures stuck { result.stuck ≡ self.stuck + stuck_part least }
         ensures least { result.least ≡ self.least + least_part least }
     {
-        Open {
+        OpenPaths {
             stuck: self.stuck + stuck_part(least),
             least: self.least + least_part(least),
         }

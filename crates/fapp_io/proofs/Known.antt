@@ -4,19 +4,19 @@ use Rattle.std.specs.Prelude.{Option, None, Some}
 use Rattle.std.specs.Io.KnownBytes.{Consumes}
 use Rattle.std.proofs.Math.Seq.{drop-append-add, drop-append_seam, take-append_seam}
 use Rattle.std.proofs.lemmas.List.{append-nil, take-append-drop, take_all}
-use Rattle.fapp_io.specs.Known.{Stays, Drops, Grows}
-use Rattle.fapp_io.specs.Source.{Gives}
+use Rattle.fapp_io.specs.Known.{Stays, Drops, BytesGrow}
+use Rattle.fapp_io.specs.Source.{GivesBytes}
 use Rattle.fapp_io.specs.Whole.{IsAllOf, GrowsByFront}
 
 -- what was given so far, and the next piece
-pub consumes_more : (a b c : Option (List ℕ)) (given room : List ℕ) (n : ℕ) → Consumes a b given → Gives b room n → Drops b c n → Consumes a c (given ++ take n room)
+pub consumes_more : (a b c : Option (List ℕ)) (given room : List ℕ) (n : ℕ) → Consumes a b given → GivesBytes b room n → Drops b c n → Consumes a c (given ++ take n room)
 consumes_more None b c given room n so_far gives drops = tt
 consumes_more (Some xs) None c given room n so_far gives drops = absurd so_far
 consumes_more (Some xs) (Some ys) c given room n so_far gives drops =
     subst (λ (o : Option (List ℕ)). Consumes (Some xs) o (given ++ take n room)) (sym drops.1) (so_far ∙ ap (λ (l : List ℕ). given ++ l) (sym (take-append-drop n ys) ∙ ap (λ (l : List ℕ). l ++ drop n ys) (sym gives.0)) ∙ sym (append_assoc given (take n room) (drop n ys)))
 
 -- where no more is left, what was given is all
-pub all_given : (a b c : Option (List ℕ)) (given room : List ℕ) → Consumes a b given → Gives b room 0 → Drops b c 0 → IsAllOf a c given
+pub all_given : (a b c : Option (List ℕ)) (given room : List ℕ) → Consumes a b given → GivesBytes b room 0 → Drops b c 0 → IsAllOf a c given
 all_given None b c given room so_far gives drops = tt
 all_given (Some xs) None c given room so_far gives drops = absurd so_far
 all_given (Some xs) (Some ys) c given room so_far gives drops =
@@ -50,20 +50,20 @@ nothing_given (Some xs) = refl
 pub record IsHalfway (a b : Option (List ℕ)) (piece rest : List ℕ) : Type 0 where
   pub front : List ℕ
   pub split : piece ≡ front ++ rest
-  pub grown : Grows a b front
+  pub grown : BytesGrow a b front
 
 pub none_taken : (a : Option (List ℕ)) (piece : List ℕ) → IsHalfway a a piece piece
 none_taken None piece = record { front = []; split = refl; grown = tt }
 none_taken (Some xs) piece = record { front = []; split = refl; grown = ap (λ (l : List ℕ). Some l) (sym (append-nil xs)) }
 
-grows_more : (a b c : Option (List ℕ)) (front more : List ℕ) → Grows a b front → Grows b c more → Grows a c (front ++ more)
+grows_more : (a b c : Option (List ℕ)) (front more : List ℕ) → BytesGrow a b front → BytesGrow b c more → BytesGrow a c (front ++ more)
 grows_more None b c front more old new = tt
 grows_more (Some xs) b c front more old new =
-    let next : Grows (Some (xs ++ front)) c more = subst (λ (o : Option (List ℕ)). Grows o c more) old new in
+    let next : BytesGrow (Some (xs ++ front)) c more = subst (λ (o : Option (List ℕ)). BytesGrow o c more) old new in
     next ∙ ap (λ (l : List ℕ). Some l) (append_assoc xs front more)
 
 -- n bytes more of the rest were taken
-pub more_taken : (a b c : Option (List ℕ)) (piece rest : List ℕ) (n m : ℕ) → IsHalfway a b piece rest → Grows b c (take n rest) → length rest ≤ n + m → IsHalfway a c piece (take m (drop n rest))
+pub more_taken : (a b c : Option (List ℕ)) (piece rest : List ℕ) (n m : ℕ) → IsHalfway a b piece rest → BytesGrow b c (take n rest) → length rest ≤ n + m → IsHalfway a c piece (take m (drop n rest))
 more_taken a b c piece rest n m half new long =
     let whole : take m (drop n rest) ≡ drop n rest = take_all m (drop n rest) (omega (arith, length-drop n rest)) in
     record {
@@ -73,16 +73,16 @@ more_taken a b c piece rest n m half new long =
     }
 
 -- with no rest the whole piece was taken
-pub all_taken : (a b : Option (List ℕ)) (piece rest : List ℕ) → IsHalfway a b piece rest → length rest ≡ 0 → Grows a b piece
+pub all_taken : (a b : Option (List ℕ)) (piece rest : List ℕ) → IsHalfway a b piece rest → length rest ≡ 0 → BytesGrow a b piece
 all_taken a b piece rest half none =
     let whole : half.front ≡ piece = sym (half.split ∙ ap (λ (l : List ℕ). half.front ++ l) (nil_of_length rest none) ∙ append-nil half.front) in
-    subst (λ (l : List ℕ). Grows a b l) whole half.grown
+    subst (λ (l : List ℕ). BytesGrow a b l) whole half.grown
   where
     nil_of_length : (xs : List ℕ) → length xs ≡ 0 → xs ≡ []
     nil_of_length [] e = refl
     nil_of_length (x ∷ xs) e = absurd (omega arith)
 
-grows_still : (a b c : Option (List ℕ)) (front : List ℕ) → Grows a b front → Stays b c → Grows a c front
+grows_still : (a b c : Option (List ℕ)) (front : List ℕ) → BytesGrow a b front → Stays b c → BytesGrow a c front
 grows_still None b c front grown stays = tt
 grows_still (Some xs) b c front grown stays = subst (λ (o : Option (List ℕ)). Stays o c) grown stays
 
@@ -92,5 +92,5 @@ front_taken a b c piece rest half stays more =
     let grown = grows_still a b c half.front half.grown stays in (
       length half.front,
       omega (arith, ap length half.split, length-append half.front rest),
-      subst (λ (l : List ℕ). Grows a c l) (sym (take-append_seam half.front rest) ∙ ap (λ (l : List ℕ). take (length half.front) l) (sym half.split)) grown,
+      subst (λ (l : List ℕ). BytesGrow a c l) (sym (take-append_seam half.front rest) ∙ ap (λ (l : List ℕ). take (length half.front) l) (sym half.split)) grown,
     )

@@ -10,5 +10,5 @@ abbrev pub Drops : Option (List ℕ) → Option (List ℕ) → ℕ → Type 0
 Drops old new n = IfSome old (λ bytes. (n ≤ length bytes) × (new ≡ Some (drop n bytes)))
 
 -- these bytes came to the end of those that were told
-abbrev pub Grows : Option (List ℕ) → Option (List ℕ) → List ℕ → Type 0
-Grows old new more = IfSome old (λ bytes. new ≡ Some (bytes ++ more))
+abbrev pub BytesGrow : Option (List ℕ) → Option (List ℕ) → List ℕ → Type 0
+BytesGrow old new more = IfSome old (λ bytes. new ≡ Some (bytes ++ more))

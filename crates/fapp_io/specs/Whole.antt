@@ -6,7 +6,7 @@ use Rattle.fapp_io.specs.declared.whole.ReadEnd.TheVariants.{ReadFault, TooLong,
 use Rattle.fapp_io.specs.declared.whole.WriteEnd.{WriteEnd}
 use Rattle.fapp_io.specs.declared.whole.WriteEnd.TheVariants.{WriteFault}
 use Rattle.fapp_io.specs.Counts.{Rose}
-use Rattle.fapp_io.specs.Known.{Drops, Grows}
+use Rattle.fapp_io.specs.Known.{Drops, BytesGrow}
 use Rattle.fapp_io.specs.Moments.{SourceMoment, SinkMoment}
 
 -- these bytes are all that was left, and none is left after
@@ -19,7 +19,7 @@ DropsUpTo left left_after most = (n : ℕ) × (n ≤ most) × Drops left left_af
 
 -- a front of the piece came to the end, short of the whole
 abbrev pub GrowsByFront : Option (List ℕ) → Option (List ℕ) → List ℕ → Type 0
-GrowsByFront taken taken_after piece = (n : ℕ) × (n < length piece) × Grows taken taken_after (take n piece)
+GrowsByFront taken taken_after piece = (n : ℕ) × (n < length piece) × BytesGrow taken taken_after (take n piece)
 
 -- `Ok` gives all that was left, at most the limit; `TooLong` took one byte more than the limit, and the others no more
 -- than the limit
@@ -37,6 +37,6 @@ ReadsAll old new limit (Err NoMemory) =
 -- count of faults rose
 abbrev pub WritesAll : SinkMoment → SinkMoment → List ℕ → Result ⊤ WriteEnd → Type 0
 WritesAll old new piece (Ok _) =
-    Grows old.taken new.taken piece × (old.faults ≤ new.faults) × (piece ≡ [] → new ≡ old)
+    BytesGrow old.taken new.taken piece × (old.faults ≤ new.faults) × (piece ≡ [] → new ≡ old)
 WritesAll old new piece (Err WriteFault) =
     GrowsByFront old.taken new.taken piece × Rose old.faults new.faults × (old.faults ≤ new.faults)

@@ -1,7 +1,7 @@
 // A source and a sink that never fail.
 ghost use Rattle.std.specs.Prelude.{◌≡◌, ◌<◌, ◌≤◌, Some, None, Ok, length, IfOk, IsOk};
 ghost use Rattle.fapp_io.specs.Sink.{Writes};
-ghost use Rattle.fapp_io.specs.Source.{Reads};
+ghost use Rattle.fapp_io.specs.Source.{ReadsBytes};
 ghost use Rattle.fapp_io.specs.Supply.{FedBy};
 ghost use Rattle.fapp_io.specs.Moments.{clean_source, clean_sink};
 
@@ -41,7 +41,7 @@ impl Source for CleanSource {
 
     fn read(&mut self, buf: &mut [u8]) -> Result<usize, Failed>
         requires { 0 < length buf.old }
-        ensures reads { Reads (clean_source self.old.left) (clean_source self.new.left) buf.new result }
+        ensures reads { ReadsBytes (clean_source self.old.left) (clean_source self.new.left) buf.new result }
         ensures never_fails { IsOk result }
         ensures fed { IfOk result (FedBy self.old self.new buf.new) }
     {

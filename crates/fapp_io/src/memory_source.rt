@@ -1,7 +1,7 @@
 // A source over bytes in memory, some of whose calls fail.
 ghost use Rattle.std.specs.Prelude.{◌≡◌, ◌<◌, ◌≤◌, length};
 ghost use Rattle.fapp_io.specs.Memory.{source_moment, ReadsByNumber};
-ghost use Rattle.fapp_io.specs.Source.{Reads};
+ghost use Rattle.fapp_io.specs.Source.{ReadsBytes};
 
 use crate::calls::Calls;
 use crate::feed::Feed;
@@ -51,7 +51,7 @@ impl Source for MemSource {
 
     fn read(&mut self, buf: &mut [u8]) -> Result<usize, Failed>
         requires { 0 < length buf.old }
-        ensures reads { Reads (source_moment self.old) (source_moment self.new) buf.new result }
+        ensures reads { ReadsBytes (source_moment self.old) (source_moment self.new) buf.new result }
         ensures by_number { ReadsByNumber self.old self.new buf.new result }
     {
         if self.calls.next_fails() {

@@ -1,7 +1,7 @@
 // What is read from.
 ghost use Rattle.std.specs.Prelude.{◌<◌, length};
 ghost use Rattle.fapp_io.specs.Moments.{SourceMoment};
-ghost use Rattle.fapp_io.specs.Source.{Reads};
+ghost use Rattle.fapp_io.specs.Source.{ReadsBytes};
 
 use thiserror::Error;
 
@@ -20,5 +20,5 @@ pub trait Source {
     /// it is none exactly at the end. A call that failed took nothing.
     fn read(&mut self, buf: &mut [u8]) -> Result<usize, Failed>
         requires { 0 < length buf.old }
-        ensures { Reads (moment self.old) (moment self.new) buf.new result };
+        ensures { ReadsBytes (moment self.old) (moment self.new) buf.new result };
 }

@@ -1,7 +1,7 @@
 // A source over a reader of std. What a file or a terminal gives is known to no proof.
 ghost use Rattle.std.specs.Prelude.{◌≡◌, ◌<◌, length};
 ghost use Rattle.fapp_io.specs.Counts.{CountsFaults};
-ghost use Rattle.fapp_io.specs.Source.{Reads};
+ghost use Rattle.fapp_io.specs.Source.{ReadsBytes};
 
 use crate::source::{Failed, Source};
 use std::io::Read;
@@ -36,7 +36,7 @@ impl<R: Read> Source for StdSource<R> {
 
     fn read(&mut self, buf: &mut [u8]) -> Result<usize, Failed>
         requires { 0 < length buf.old }
-        ensures reads { Reads self.old self.new buf.new result }
+        ensures reads { ReadsBytes self.old self.new buf.new result }
         ensures counted { CountsFaults self.old.faults self.new.faults result }
     {
         match self.reader.read(buf) {

@@ -35,7 +35,7 @@ use Rattle.fapp_run.specs.Judgements.{IsCheckInput, IsJudged}
 use Rattle.fapp_run.specs.Made.{Demonstrates}
 use Rattle.fapp_run.specs.Outcomes.{AnswersTo, Asks, IsOutcome, IsOutcomeFor, IsOutcomeOf, Names, limit_of}
 use Rattle.fapp_run.specs.Runs.{IsAnswer, IsEnoughFor, IsRun, TakesWhole}
-use Rattle.fapp_run.specs.Solving.{IsClosed}
+use Rattle.fapp_run.specs.Solving.{IsClosedVerdict}
 use Rattle.fapp_run.proofs.CheckKinds.{accepted, accepted_proved}
 
 -- ---- words ask for one thing
@@ -127,7 +127,7 @@ dropped left left' bytes n e h = let g = rw e at h in g.0
 record IsEnded (options : SolveOptions) (instance : Instance) (status : Status) : Type 0 where
   pub verdict : Verdict
   pub is : status ≡ status_of verdict
-  pub closed : IsEnough (split_of instance options.split) (fuel_of options instance) → IsClosed verdict
+  pub closed : IsEnough (split_of instance options.split) (fuel_of options instance) → IsClosedVerdict verdict
 
 same_instance : (bytes : List ℕ) (i j : Instance) → instance_of_text bytes ≡ Ok i → instance_of_text bytes ≡ Ok j → i ≡ j
 same_instance bytes i j p q = cc
@@ -157,7 +157,7 @@ is_answer status (verdicts.Best t) e = inl e
 is_answer status verdicts.NoneFeasible e = inr (inl e)
 is_answer status (verdicts.Open best lower level prefix) e = inr (inr (inl e))
 
-not_open : (status : Status) (v : Verdict) → status ≡ status_of v → IsClosed v → status ≢ Open
+not_open : (status : Status) (v : Verdict) → status ≡ status_of v → IsClosedVerdict v → status ≢ Open
 not_open status (verdicts.Best t) e closed same = cc
 not_open status verdicts.NoneFeasible e closed same = cc
 not_open status (verdicts.Open best lower level prefix) e closed same = absurd closed

@@ -13,7 +13,7 @@ use Rattle.cert_lines.specs.declared.answer.Answer.{Answer}
 use Rattle.cert_lines.specs.declared.answer.Line.{Line}
 use Rattle.cert_lines.specs.declared.answer.Verdict.{Verdict}
 use Rattle.cert_lines.specs.declared.answer.Verdict.TheVariants.{Best, NoneFeasible, Open}
-use Rattle.cert_lines.specs.WellFormed.{IsShown, IsVerdict, IsWellFormed}
+use Rattle.cert_lines.specs.WellFormed.{IsShownChoice, IsVerdict, IsWellFormed}
 use Rattle.cert_lines.specs.acceptance.Accepts.{Accepts}
 use Rattle.cert_lines.specs.acceptance.PlanFaults.{plan_fault}
 use Rattle.cert_lines.proofs.Deleting.{lines-in}
@@ -29,12 +29,12 @@ use Rattle.fapp_plan.proofs.Rules.{code-most, shown-is_tag}
 use Rattle.merge_laws.specs.MergedLines.{IsMerged}
 use Rattle.merge_laws.proofs.Merging.{answer-accepted}
 use Rattle.fapp_workers.specs.Gathered.{AreSettled, IsLeastWord}
-use Rattle.fapp_workers.specs.VerdictLaws.{IsEnough, IsSolved}
+use Rattle.fapp_workers.specs.VerdictLaws.{IsEnough, IsSolvedRun}
 use Rattle.fapp_workers.specs.Outcomes.{AreTicksOf}
 use Rattle.fapp_workers.proofs.OpenVerdicts.{enough, open-for}
 use Rattle.fapp_workers.proofs.LeastWords.{top-back, word-shown}
 use Rattle.fapp_workers.specs.Works.{branches_in}
-use Rattle.fapp_run.specs.Solving.{IsAnswerFor, IsClosed, IsKeptPlan, SaysOfJobs}
+use Rattle.fapp_run.specs.Solving.{IsAnswerFor, IsClosedVerdict, IsKeptPlan, SaysOfJobs}
 use Rattle.fapp_run.proofs.Joining.{lines-few}
 use Rattle.fapp_run.proofs.Shown.{below-shown, top-shown}
 
@@ -54,11 +54,11 @@ module _ (instance : Instance) (split fuel : ℕ) (rows : List KnownRow) (logs :
   -- it has a text and no fault for the verdict
   record IsFit (v : Verdict) : Type 0 where
     pub short : length choices ≤ length instance.paths
-    pub written : All IsShown choices
+    pub written : All IsShownChoice choices
     pub faultless : plan_fault instance choices v ≡ None
 
   nothing-fits : (v : Verdict) → choices ≡ [] → plan_fault instance [] v ≡ None → IsFit v
-  nothing-fits v none h = record { short = omega (arith, ap length none); written = subst (All IsShown) (sym none) (All-nil IsShown); faultless = ap (λ cs. plan_fault instance cs v) none ∙ h }
+  nothing-fits v none h = record { short = omega (arith, ap length none); written = subst (All IsShownChoice) (sym none) (All-nil IsShownChoice); faultless = ap (λ cs. plan_fault instance cs v) none ∙ h }
 
   plan-fits : (v : Verdict) → word < top_code instance → ((plan : List ℕ) → IsWellShown instance plan → triple_from word ≡ cost instance plan → plan_fault instance (shown instance plan) v ≡ None) → IsFit v
   plan-fits v below h =
@@ -66,7 +66,7 @@ module _ (instance : Instance) (split fuel : ℕ) (rows : List KnownRow) (logs :
       let well = well-shown instance valid p.plan p.feasible in
       record {
         short = omega (arith, well.few, ap length p.is);
-        written = subst (All IsShown) (sym p.is) well.choices;
+        written = subst (All IsShownChoice) (sym p.is) well.choices;
         faultless = ap (λ cs. plan_fault instance cs v) p.is ∙ h p.plan well p.costs;
       }
 
@@ -99,7 +99,7 @@ module _ (instance : Instance) (split fuel : ℕ) (rows : List KnownRow) (logs :
   is-accepted : Accepts instance (record { plan = choices; verdict = verdict; version = 1; lines = lines })
   is-accepted = answer-accepted instance split logs (record { plan = choices; verdict = verdict; version = 1; lines = lines }) fit.faultless merged
 
-  solved : (v : Verdict) → IsVerdictOf instance split outcomes word root v → IsSolved (split_of instance split) fuel rows logs word root outcomes v
+  solved : (v : Verdict) → IsVerdictOf instance split outcomes word root v → IsSolvedRun (split_of instance split) fuel rows logs word root outcomes v
   solved v r = record { valid = valid; shown = word-shown instance logs word valid least; settled = settled; least = least; ruled = r }
 
   says : (v : Verdict) → IsVerdictOf instance split outcomes word root v → SaysOfJobs (split_of instance split) fuel v
@@ -107,7 +107,7 @@ module _ (instance : Instance) (split fuel : ℕ) (rows : List KnownRow) (logs :
   says NoneFeasible r = tt
   says (Open best lower level prefix) r = open-for (split_of instance split) fuel rows logs word root outcomes best lower level prefix (solved (Open best lower level prefix) r)
 
-  closes : IsEnough (split_of instance split) fuel → (v : Verdict) → IsVerdictOf instance split outcomes word root v → IsClosed v
+  closes : IsEnough (split_of instance split) fuel → (v : Verdict) → IsVerdictOf instance split outcomes word root v → IsClosedVerdict v
   closes e (Best t) r = tt
   closes e NoneFeasible r = tt
   closes e (Open best lower level prefix) r = enough (split_of instance split) fuel rows logs word root outcomes best lower level prefix (solved (Open best lower level prefix) r) e

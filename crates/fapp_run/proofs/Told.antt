@@ -14,7 +14,7 @@ use Rattle.answer_writer.specs.Texts.{written_text}
 use Rattle.fapp_run.specs.declared.outcome.Outcome.{Outcome}
 use Rattle.fapp_run.specs.declared.outcome.Solution.TheVariants.{Refused, Answered}
 use Rattle.fapp_run.specs.Solving.{IsAnswerFor}
-use Rattle.fapp_run.specs.Versions.{IsWritten}
+use Rattle.fapp_run.specs.Versions.{IsWrittenIn}
 use Rattle.fapp_run.proofs.Written.{same-verdict}
 use Rattle.fapp_run.specs.Answers.{Answers, IsAnswerIn, IsSolved, Solves, fuel_of, status_of}
 
@@ -46,7 +46,7 @@ refused_answers options bytes WriteFault text h e = absurd h
 refused_answers options bytes NoMemory text h e = absurd h
 
 -- an answer in a version
-pub answer_in : (instance : Instance) (options : SolveOptions) (split fuel : ℕ) (answer written : Answer) → split ≡ options.split → fuel ≡ fuel_of options instance → IsAnswerFor instance split fuel answer → IsWritten instance options.cert answer written → IsAnswerIn instance options written
+pub answer_in : (instance : Instance) (options : SolveOptions) (split fuel : ℕ) (answer written : Answer) → split ≡ options.split → fuel ≡ fuel_of options instance → IsAnswerFor instance split fuel answer → IsWrittenIn instance options.cert answer written → IsAnswerIn instance options written
 answer_in instance options split fuel answer written split_is fuel_is answers writes = record {
   answer = answer;
   answers = subst (λ n. IsAnswerFor instance options.split n answer) fuel_is (subst (λ n. IsAnswerFor instance n fuel answer) split_is answers);

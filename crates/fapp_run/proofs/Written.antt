@@ -20,9 +20,9 @@ use Rattle.accept_laws.proofs.CompactedForms.{compacted-formed}
 use Rattle.accept_laws.proofs.RootLines.{compacted-root}
 use Rattle.accept_laws.proofs.Versions.{compactable, compacted-count}
 use Rattle.merge_laws.specs.MergedLines.{HasNoCite}
-use Rattle.fapp_run.specs.Versions.{IsWritten, delete_lines}
+use Rattle.fapp_run.specs.Versions.{IsWrittenIn, delete_lines}
 
-pub same-verdict : (instance : Instance) (version : ℕ) (answer written : Answer) → IsWritten instance version answer written → written.verdict ≡ answer.verdict
+pub same-verdict : (instance : Instance) (version : ℕ) (answer written : Answer) → IsWrittenIn instance version answer written → written.verdict ≡ answer.verdict
 same-verdict instance version answer written h = ap (λ (a : Answer). a.verdict) h.is ∙ by_version (eqb version 2)
   where
     by_version : (b : Bool) → (let a : Answer = cond b (compacted_answer answer) answer in a.verdict) ≡ answer.verdict
@@ -34,7 +34,7 @@ none-left [] plain = refl
 none-left (line ∷ more) plain = ap (λ b. length (cond b (line ∷ delete_lines more) (delete_lines more))) (All-head IsPlain line more plain) ∙ none-left more (All-tail IsPlain line more plain)
 
 -- in another version than the second it stays
-pub first-written : (instance : Instance) (version : ℕ) (answer : Answer) → eqb version 2 ≡ false → answer.version ≡ 1 → IsWellFormed instance answer → Accepts instance answer → IsWritten instance version answer answer
+pub first-written : (instance : Instance) (version : ℕ) (answer : Answer) → eqb version 2 ≡ false → answer.version ≡ 1 → IsWellFormed instance answer → Accepts instance answer → IsWrittenIn instance version answer answer
 first-written instance version answer other first formed accepted =
     let none = none-left answer.lines (formed-plain instance answer.lines (plain-lines instance answer first formed)) in
     record {
@@ -56,13 +56,13 @@ module _ (instance : Instance) (answer : Answer) (first : answer.version ≡ 1) 
       (λ k d l zero. cites-nothing (get_or answer.lines k d).rule (bare k d l zero))
 
   -- in the second it has Delete lines
-  pub second-written : (version : ℕ) (written : Answer) → eqb version 2 ≡ true → written ≡ compacted_answer answer → IsNumber (length written.lines) → IsWritten instance version answer written
+  pub second-written : (version : ℕ) (written : Answer) → eqb version 2 ≡ true → written ≡ compacted_answer answer → IsNumber (length written.lines) → IsWrittenIn instance version answer written
   second-written version written second is few =
       let lines = plain-lines instance answer first formed in
       let h = accepted-parts instance answer accepted in
       let count = compacted-count answer.lines (formed-plain instance answer.lines lines) in
       let small : IsNumber (length (compacted answer.lines)) = subst (λ (a : Answer). IsNumber (length a.lines)) is few in
-      subst (IsWritten instance version answer) (sym is) (record {
+      subst (IsWrittenIn instance version answer) (sym is) (record {
         is = ap (λ b. cond b (compacted_answer answer) answer) (sym second);
         formed = record {
           plan = formed.plan;

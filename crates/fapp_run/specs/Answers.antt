@@ -14,7 +14,7 @@ use Rattle.fapp_run.specs.declared.outcome.Solution.{Solution}
 use Rattle.fapp_run.specs.declared.outcome.Solution.TheVariants.{Refused, Answered}
 use Rattle.fapp_run.specs.declared.outcome.TheConstants.{MAX_INPUT}
 use Rattle.fapp_run.specs.Solving.{IsAnswerFor}
-use Rattle.fapp_run.specs.Versions.{IsWritten}
+use Rattle.fapp_run.specs.Versions.{IsWrittenIn}
 
 -- options in their ranges
 pub record AreOptions (options : SolveOptions) : Type 0 where
@@ -42,7 +42,7 @@ pub record IsSolved (instance : Instance) (options : SolveOptions) (status : Sta
   pub answer : Answer
   pub answers : IsAnswerFor instance options.split (fuel_of options instance) answer
   pub written : Answer
-  pub writes : IsWritten instance options.cert answer written
+  pub writes : IsWrittenIn instance options.cert answer written
   pub status_is : status ≡ status_of answer.verdict
   pub text_is : text ≡ written_text instance written options.answer_only
 
@@ -60,7 +60,7 @@ Answers options bytes status text =
 pub record IsAnswerIn (instance : Instance) (options : SolveOptions) (written : Answer) : Type 0 where
   pub answer : Answer
   pub answers : IsAnswerFor instance options.split (fuel_of options instance) answer
-  pub writes : IsWritten instance options.cert answer written
+  pub writes : IsWrittenIn instance options.cert answer written
 
 -- what an input is solved to: that it is longer than the limit, or its first refused line, or the instance whose text it
 -- is, with an answer

@@ -2,7 +2,7 @@
 use Rattle.std.specs.Prelude.{◌≡◌, ◌≢◌, ◌⊎◌, ℕ, ◌≤◌, List, [], length, Some, Ok, String}
 use Rattle.std.specs.Global.{Global}
 use Rattle.fapp_io.specs.Counts.{Rose}
-use Rattle.fapp_io.specs.Known.{Grows}
+use Rattle.fapp_io.specs.Known.{BytesGrow}
 use Rattle.fapp_io.specs.Moments.{SourceMoment, SinkMoment}
 use Rattle.fapp_io.specs.Whole.{GrowsByFront}
 use Rattle.fapp_model.specs.declared.instance.Instance.{Instance}
@@ -27,7 +27,7 @@ use Rattle.fapp_run.specs.Outcomes.{IsOutcome, Names, ReadsFront}
 
 -- the whole text was taken, an empty one by no call
 abbrev pub TakesWhole : SinkMoment → SinkMoment → List ℕ → Type 0
-TakesWhole sink sink' text = Grows sink.taken sink'.taken text × (text ≡ [] → sink' ≡ sink)
+TakesWhole sink sink' text = BytesGrow sink.taken sink'.taken text × (text ≡ [] → sink' ≡ sink)
 
 -- The whole text of the outcome was taken. Where the sink failed, a front of some outcome's text was taken, short of
 -- the whole, and its count of faults rose. Where there was no memory, nothing was written.

@@ -26,10 +26,10 @@ SaysOfJobs split fuel NoneFeasible = Unit {0}
 SaysOfJobs split fuel (Open best lower level prefix) = IsOpenFor split fuel best lower level prefix
 
 -- the verdict is not open
-abbrev pub IsClosed : Verdict → Type 0
-IsClosed (Best t) = Unit {0}
-IsClosed NoneFeasible = Unit {0}
-IsClosed (Open best lower level prefix) = ⊥
+abbrev pub IsClosedVerdict : Verdict → Type 0
+IsClosedVerdict (Best t) = Unit {0}
+IsClosedVerdict NoneFeasible = Unit {0}
+IsClosedVerdict (Open best lower level prefix) = ⊥
 
 -- The answer has no Delete line. It is accepted by definition, and so it is right: Best comes with a least plan and its cost, NoneFeasible only where
 -- no plan meets the imperative records. An open verdict names a job that has more tries than its fuel, and says no less than the
@@ -43,7 +43,7 @@ pub record IsAnswerFor (instance : Instance) (split fuel : ℕ) (answer : Answer
   pub jobs : SaysOfJobs (split_of instance split) fuel answer.verdict
   pub few : (most : ℕ) → IsMostLines instance fuel split most → length answer.lines ≤ most
   pub bare : All (λ line. line.tag.code ≡ 0 → HasNoCite line.rule) answer.lines
-  pub enough : IsEnough (split_of instance split) fuel → IsClosed answer.verdict
+  pub enough : IsEnough (split_of instance split) fuel → IsClosedVerdict answer.verdict
 
 -- no log keeps an assignment of that cost
 abbrev pub NoneKept : List LogState → Triple → Type 0

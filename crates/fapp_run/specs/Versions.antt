@@ -17,7 +17,7 @@ delete_lines lines = filter (λ line. is_delete line.rule) lines
 
 -- An answer in a version. It is well formed and accepted there. It has as many other lines as the answer in version 1, and
 -- at most as many Delete lines.
-pub record IsWritten (instance : Instance) (version : ℕ) (answer written : Answer) : Type 0 where
+pub record IsWrittenIn (instance : Instance) (version : ℕ) (answer written : Answer) : Type 0 where
   pub is : written ≡ in_version version answer
   pub formed : IsWellFormed instance written
   pub accepted : Accepts instance written

@@ -2,7 +2,7 @@
 ghost use Rattle.std.specs.Prelude.{◌≡◌, All, IfOk};
 ghost use Rattle.fapp_model.specs.Instances.{IsInstance};
 ghost use Rattle.fapp_plan.specs.Plans.{split_of};
-ghost use Rattle.fapp_workers.specs.Collections.{IsGathered};
+ghost use Rattle.fapp_workers.specs.Collections.{IsGatheredRun};
 ghost use Rattle.fapp_workers.specs.Ranges.{AreInRange};
 ghost use Rattle.settle_laws.specs.Worlds.{IsKeptRight};
 ghost use Rattle.fapp_run.specs.Solving.{IsAnswerFor, IsKeptPlan};
@@ -53,7 +53,7 @@ fn answer_of(
     requires valid { IsInstance instance.now }
     requires arcs { arcs.now ≡ instance.now }
     requires plan { plan.now.instance ≡ instance.now }
-    requires gathered { IsGathered plan.now fuel gathered }
+    requires gathered { IsGatheredRun plan.now fuel gathered }
     ensures { IfOk result (IsAnswerFor instance.now plan.now.split fuel) }
 {
     let Gathered {

@@ -3,7 +3,7 @@ ghost use Rattle.std.specs.Prelude.{◌≡◌, All, IfOk};
 ghost use Rattle.cert_lines.specs.WellFormed.{IsWellFormed};
 ghost use Rattle.cert_lines.specs.acceptance.Accepts.{Accepts};
 ghost use Rattle.merge_laws.specs.MergedLines.{HasNoCite};
-ghost use Rattle.fapp_run.specs.Versions.{IsWritten};
+ghost use Rattle.fapp_run.specs.Versions.{IsWrittenIn};
 
 use cert_lines::Answer;
 use cert_merge::compact;
@@ -22,7 +22,7 @@ pub(crate) fn in_version(
     requires first { answer.version ≡ 1 }
     requires accepted { Accepts _instance.now answer }
     requires bare { All (λ line. line.tag.code ≡ 0 → HasNoCite line.rule) answer.lines }
-    ensures { IfOk result (IsWritten _instance.now version answer) }
+    ensures { IfOk result (IsWrittenIn _instance.now version answer) }
 {
     if version != 2 {
         return Ok(answer);

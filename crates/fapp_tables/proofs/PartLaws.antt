@@ -15,17 +15,17 @@ use Rattle.fapp_model.proofs.Members.{All-range, in-filter, in-range}
 use Rattle.fapp_model.proofs.InOrder.{rising}
 use Rattle.fapp_tables.specs.Indexes.{neighbours_of, records_of, record_at, no_record, touches}
 use Rattle.fapp_tables.proofs.FilterLaws.{filter-none}
-use Rattle.fapp_tables.specs.Parts.{AreIndexes, HasPart}
+use Rattle.fapp_tables.specs.Parts.{AreIndexes, HasSlice}
 
 -- the records of a neighbour's place, where its path's start was read
 pub run_at : (kept instance : Instance) (starts neighbours firsts positions : List ℕ) (path place start : ℕ) → kept ≡ instance → AreIndexes kept starts neighbours firsts positions →
     path < length instance.paths → place < length (neighbours_of instance path) → start ≡ get_or starts path start →
-    HasPart firsts positions (start + place) (records_of instance path (slice_index (neighbours_of instance path) place))
+    HasSlice firsts positions (start + place) (records_of instance path (slice_index (neighbours_of instance path) place))
 run_at kept instance starts neighbours firsts positions path place start same indexed in_path in_place read =
     let own = subst (λ i. AreIndexes i starts neighbours firsts positions) same indexed in
     let near = own.neighbours_at path in_path in
     let is : start ≡ slice_index starts path = get_or_read starts path start (omega (arith, near.inside)) read 0 in
-    subst (λ s. HasPart firsts positions (s + place) (records_of instance path (slice_index (neighbours_of instance path) place))) (sym is) (own.records_at path place in_path in_place)
+    subst (λ s. HasSlice firsts positions (s + place) (records_of instance path (slice_index (neighbours_of instance path) place))) (sym is) (own.records_at path place in_path in_place)
 
 up_to : (instance : Instance) (i x y : ℕ) → x ≤ y → y < length (neighbours_of instance i) → get_or (neighbours_of instance i) x 0 ≤ get_or (neighbours_of instance i) y 0
 up_to instance i x y most inside = elim (cases_lt x y) [

@@ -15,7 +15,7 @@ use Rattle.fapp_model.specs.search.WorkOrder.{IsWorkOrder, comes_before, degree,
 use Rattle.fapp_model.proofs.Members.{All-from_members, in-map, from-map, in-range, from-range}
 use Rattle.fapp_model.proofs.InOrder.{pairs-map}
 use Rattle.fapp_tables.specs.declared.order.Place.{Place}
-use Rattle.fapp_tables.specs.Places.{IsNext, place_of}
+use Rattle.fapp_tables.specs.Places.{IsPlannedBefore, place_of}
 use Rattle.fapp_tables.proofs.RankLaws.{rising_ranks}
 
 -- the place of one more path
@@ -34,7 +34,7 @@ places_more instance path n counts x places more is inside at so_far pushed =
 abbrev rank : Place → ℕ
 rank p = (MAX_RECORDS - p.degree.0) * 65536 + p.path
 
-rank_at_most : (a b : Place) → a.degree.0 ≤ MAX_RECORDS → b.degree.0 ≤ MAX_RECORDS → a.path < 65536 → b.path < 65536 → IsNext a b → rank a ≤ rank b
+rank_at_most : (a b : Place) → a.degree.0 ≤ MAX_RECORDS → b.degree.0 ≤ MAX_RECORDS → a.path < 65536 → b.path < 65536 → IsPlannedBefore a b → rank a ≤ rank b
 rank_at_most a b da db pa pb (inl less) = omega arith
 rank_at_most a b da db pa pb (inr (same, most)) = omega arith
 
@@ -50,7 +50,7 @@ earlier da db a b la lb pa pb less = elim (cases_order da db) [
 
 -- places in order give the work order
 module _ (instance : Instance) (valid : IsInstance instance) (places sorted : List Place) (is : places ≡ map (place_of instance) (range_with_len 0 (length instance.paths)))
-    (moved : IsPermutation places sorted) (ordered : AllAdjacentBelow IsNext sorted (length sorted)) where
+    (moved : IsPermutation places sorted) (ordered : AllAdjacentBelow IsPlannedBefore sorted (length sorted)) where
   record IsPlace (p : Place) : Type 0 where
     inside : p.path < length instance.paths
     known : p ≡ place_of instance p.path

@@ -8,44 +8,44 @@ use Rattle.std.proofs.lemmas.List.Kept.{AllPairs-filter}
 use Rattle.std.proofs.lemmas.List.Quantifiers.{all_pairs_push}
 use Rattle.fapp_model.proofs.Members.{in-filter, from-filter, in-range, from-range}
 use Rattle.fapp_model.proofs.InOrder.{rising}
-use Rattle.fapp_tables.specs.declared.links.Link.{Link}
+use Rattle.fapp_tables.specs.declared.links.Side.{Side}
 use Rattle.fapp_tables.specs.Links.{link_rank, pair_rank}
-use Rattle.fapp_tables.specs.Runs.{begins_run, link_at, no_link, run_places}
+use Rattle.fapp_tables.specs.Runs.{begins_run, side_at, no_side, run_places}
 use Rattle.fapp_tables.proofs.FilterLaws.{filter_run, filter-range_more}
 
 -- a link's numbers are no larger than their types allow
-pub record IsSmall (a : Link) : Type 0 where
+pub record IsSmall (a : Side) : Type 0 where
   pub other : a.other < 65536
   pub position : a.position < 4294967296
 
 -- one place more
-pub record RunsTo (links : List Link) (heads : List Link) (firsts : List ℕ) (place : ℕ) : Type 0 where
+pub record RunsTo (links : List Side) (heads : List Side) (firsts : List ℕ) (place : ℕ) : Type 0 where
   pub firsts_are : firsts ≡ filter (begins_run links) (range_with_len 0 place)
-  pub heads_are : heads ≡ map (link_at links) (filter (begins_run links) (range_with_len 0 place))
+  pub heads_are : heads ≡ map (side_at links) (filter (begins_run links) (range_with_len 0 place))
 
-pub more_begun : (links heads more_heads : List Link) (firsts more_firsts : List ℕ) (place : ℕ) → begins_run links place ≡ true → RunsTo links heads firsts place →
-    more_heads ≡ heads ++ link_at links place ∷ [] → more_firsts ≡ firsts ++ place ∷ [] → RunsTo links more_heads more_firsts (place + 1)
+pub more_begun : (links heads more_heads : List Side) (firsts more_firsts : List ℕ) (place : ℕ) → begins_run links place ≡ true → RunsTo links heads firsts place →
+    more_heads ≡ heads ++ side_at links place ∷ [] → more_firsts ≡ firsts ++ place ∷ [] → RunsTo links more_heads more_firsts (place + 1)
 more_begun links heads more_heads firsts more_firsts place begun so_far is_heads is_firsts =
     let kept : filter (begins_run links) (range_with_len 0 (place + 1)) ≡ filter (begins_run links) (range_with_len 0 place) ++ place ∷ [] =
     filter-range_more (begins_run links) place ∙ ap (λ t. filter (begins_run links) (range_with_len 0 place) ++ cond t (place ∷ []) []) begun in
     record {
       firsts_are = is_firsts ∙ (ap (λ (xs : List ℕ). xs ++ place ∷ []) so_far.firsts_are ∙ sym kept);
-      heads_are = is_heads ∙ (ap (λ (xs : List Link). xs ++ link_at links place ∷ []) so_far.heads_are
-          ∙ (sym (map_push (link_at links) (filter (begins_run links) (range_with_len 0 place)) place) ∙ ap (map (link_at links)) (sym kept)));
+      heads_are = is_heads ∙ (ap (λ (xs : List Side). xs ++ side_at links place ∷ []) so_far.heads_are
+          ∙ (sym (map_push (side_at links) (filter (begins_run links) (range_with_len 0 place)) place) ∙ ap (map (side_at links)) (sym kept)));
     }
 
-pub more_same : (links heads : List Link) (firsts : List ℕ) (place : ℕ) → begins_run links place ≡ false → RunsTo links heads firsts place → RunsTo links heads firsts (place + 1)
+pub more_same : (links heads : List Side) (firsts : List ℕ) (place : ℕ) → begins_run links place ≡ false → RunsTo links heads firsts place → RunsTo links heads firsts (place + 1)
 more_same links heads firsts place none so_far =
     let kept : filter (begins_run links) (range_with_len 0 (place + 1)) ≡ filter (begins_run links) (range_with_len 0 place) =
     filter-range_more (begins_run links) place ∙ (ap (λ t. filter (begins_run links) (range_with_len 0 place) ++ cond t (place ∷ []) []) none ∙ append-nil (filter (begins_run links) (range_with_len 0 place))) in
     record {
       firsts_are = so_far.firsts_are ∙ sym kept;
-      heads_are = so_far.heads_are ∙ ap (map (link_at links)) (sym kept);
+      heads_are = so_far.heads_are ∙ ap (map (side_at links)) (sym kept);
     }
 
-module _ (links : List Link) (rises : AllPairs (λ a b. link_rank a < link_rank b) links) (small : (k : ℕ) → k < length links → IsSmall (link_at links k)) where
+module _ (links : List Side) (rises : AllPairs (λ a b. link_rank a < link_rank b) links) (small : (k : ℕ) → k < length links → IsSmall (side_at links k)) where
   abbrev key : ℕ → ℕ
-  key k = pair_rank (link_at links k)
+  key k = pair_rank (side_at links k)
 
   abbrev firsts : List ℕ
   firsts = run_places links ++ length links ∷ []
@@ -56,7 +56,7 @@ module _ (links : List Link) (rises : AllPairs (λ a b. link_rank a < link_rank 
   pub key-up : (i j : ℕ) → i ≤ j → j < length links → key i ≤ key j
   key-up i j most inside = elim (cases_lt i j) [
     | inl less ↦
-        let up = rises i j no_link less inside in
+        let up = rises i j no_side less inside in
         let low = small i (omega arith) in
         let high = small j inside in
         omega (arith, up, low.position, high.position)
@@ -66,8 +66,8 @@ module _ (links : List Link) (rises : AllPairs (λ a b. link_rank a < link_rank 
   -- at a place where no run begins the link is of the same pair as the one before
   no_change : (k : ℕ) → begins_run links k ≡ false → key (k - 1) ≡ key k
   no_change k none =
-      let parts = or_parts (eqb k 0) (not (eqb (link_at links (k - 1)).path (link_at links k).path) || not (eqb (link_at links (k - 1)).other (link_at links k).other)) none in
-      let both = or_parts (not (eqb (link_at links (k - 1)).path (link_at links k).path)) (not (eqb (link_at links (k - 1)).other (link_at links k).other)) parts.1 in
+      let parts = or_parts (eqb k 0) (not (eqb (side_at links (k - 1)).path (side_at links k).path) || not (eqb (side_at links (k - 1)).other (side_at links k).other)) none in
+      let both = or_parts (not (eqb (side_at links (k - 1)).path (side_at links k).path)) (not (eqb (side_at links (k - 1)).other (side_at links k).other)) parts.1 in
       omega (arith, eqb-true _ _ (not-false _ both.0), eqb-true _ _ (not-false _ both.1))
 
   change : (k : ℕ) → 0 < k → k < length links → begins_run links k ≡ true → key (k - 1) ≢ key k
@@ -79,8 +79,8 @@ module _ (links : List Link) (rises : AllPairs (λ a b. link_rank a < link_rank 
       (λ differ. ⊎_elim
       (λ path. eqb-false _ _ (not-true _ path) (omega (arith, e, low.other, high.other)))
       (λ other. eqb-false _ _ (not-true _ other) (omega (arith, e, low.other, high.other)))
-      (or_cases (not (eqb (link_at links (k - 1)).path (link_at links k).path)) (not (eqb (link_at links (k - 1)).other (link_at links k).other)) differ))
-      (or_cases (eqb k 0) (not (eqb (link_at links (k - 1)).path (link_at links k).path) || not (eqb (link_at links (k - 1)).other (link_at links k).other)) begins)
+      (or_cases (not (eqb (side_at links (k - 1)).path (side_at links k).path)) (not (eqb (side_at links (k - 1)).other (side_at links k).other)) differ))
+      (or_cases (eqb k 0) (not (eqb (side_at links (k - 1)).path (side_at links k).path) || not (eqb (side_at links (k - 1)).other (side_at links k).other)) begins)
 
   pub length-firsts : length firsts ≡ length (run_places links) + 1
   length-firsts = length_push (run_places links) (length links)
@@ -174,8 +174,8 @@ module _ (links : List Link) (rises : AllPairs (λ a b. link_rank a < link_rank 
     | inr more ↦ let same : x + 1 ≡ length (run_places links) = omega arith in absurd (omega (arith, ap first same, at_end))
   ]
 
-  same_key : (k : ℕ) (d : Link) → k < length links → pair_rank (get_or links k d) ≡ key k
-  same_key k d inside = ap pair_rank (get_or_default links k d no_link inside)
+  same_key : (k : ℕ) (d : Side) → k < length links → pair_rank (get_or links k d) ≡ key k
+  same_key k d inside = ap pair_rank (get_or_default links k d no_side inside)
 
   -- the links of a run's pair are those from its first place to that of the next run
   pub run_is : (x : ℕ) → x < length (run_places links) → filter (λ a. eqb (pair_rank a) (key (first x))) links ≡ slice_range links (first x) (first (x + 1))

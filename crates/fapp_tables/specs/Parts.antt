@@ -4,7 +4,7 @@ use Rattle.fapp_model.specs.declared.instance.Instance.{Instance}
 use Rattle.fapp_tables.specs.Indexes.{neighbours_of, records_of}
 
 -- the part of a number stands in the flat list from its start to that of the next number
-pub record HasPart {X : Type 0} (starts : List ℕ) (flat : List X) (number : ℕ) (part : List X) : Type 0 where
+pub record HasSlice {X : Type 0} (starts : List ℕ) (flat : List X) (number : ℕ) (part : List X) : Type 0 where
   pub inside : number + 1 < length starts
   pub forward : slice_index starts number ≤ slice_index starts (number + 1)
   pub within : slice_index starts (number + 1) ≤ length flat
@@ -14,7 +14,7 @@ pub record HasPart {X : Type 0} (starts : List ℕ) (flat : List X) (number : �
 -- neighbour's place among all
 pub record AreIndexes (instance : Instance) (starts neighbours firsts positions : List ℕ) : Type 0 where
   pub neighbours_at : (path : ℕ) → path < length instance.paths →
-      HasPart starts neighbours path (neighbours_of instance path)
+      HasSlice starts neighbours path (neighbours_of instance path)
   pub records_at : (path place : ℕ) → path < length instance.paths → place < length (neighbours_of instance path) →
-      HasPart firsts positions (slice_index starts path + place)
+      HasSlice firsts positions (slice_index starts path + place)
       (records_of instance path (slice_index (neighbours_of instance path) place))

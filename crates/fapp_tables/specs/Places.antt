@@ -18,5 +18,5 @@ abbrev pub all_degrees : Instance → List ℕ
 all_degrees instance = map (degree instance) (range_with_len 0 (length instance.paths))
 
 -- fewer records name the second path, or as many and it doesn't stand earlier
-abbrev pub IsNext : Place → Place → Type 0
-IsNext a b = (b.degree.0 < a.degree.0) ⊎ ((a.degree.0 ≡ b.degree.0) × (a.path ≤ b.path))
+abbrev pub IsPlannedBefore : Place → Place → Type 0
+IsPlannedBefore a b = (b.degree.0 < a.degree.0) ⊎ ((a.degree.0 ≡ b.degree.0) × (a.path ≤ b.path))

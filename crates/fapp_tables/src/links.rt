@@ -2,14 +2,14 @@ ghost use Rattle.std.specs.Prelude.{◌≡◌, length, IfOk};
 ghost use Rattle.std.specs.List.{AllAdjacentBelow};
 ghost use Rattle.std.specs.List.Sorted.{IsPermutation};
 ghost use Rattle.fapp_model.specs.Instances.{IsInstance};
-ghost use Rattle.fapp_tables.specs.Links.{AreSortedLinks, IsNotAfter, all_links};
+ghost use Rattle.fapp_tables.specs.Links.{AreSortedLinks, IsSideNotAfter, all_links};
 
 use fapp_model::{Instance, NoMemory};
 use std::alloc::Global;
 
 /// A record, as seen from one of the two paths that it names. Links are ordered by path, other path and position.
 #[derive(Clone, Copy, Debug, PartialEq, Eq, PartialOrd, Ord)]
-pub struct Link {
+pub struct Side {
     pub path: u16,
     pub other: u16,
     /// The record's position.
@@ -17,7 +17,7 @@ pub struct Link {
 }
 
 /// The two links of each record, in order.
-pub fn sorted_links(alloc: Global, instance: &Instance) -> Result<Vec<Link>, NoMemory>
+pub fn sorted_links(alloc: Global, instance: &Instance) -> Result<Vec<Side>, NoMemory>
     requires { IsInstance instance.now }
     ensures { IfOk result (λ links. AreSortedLinks instance.now links.items) }
 {
@@ -27,7 +27,7 @@ pub fn sorted_links(alloc: Global, instance: &Instance) -> Result<Vec<Link>, NoM
 }
 
 /// The two links of each record, record by record.
-fn links_of(alloc: Global, instance: &Instance) -> Result<Vec<Link>, NoMemory>
+fn links_of(alloc: Global, instance: &Instance) -> Result<Vec<Side>, NoMemory>
     requires { IsInstance instance.now }
     ensures { IfOk result (λ links. links.items ≡ all_links instance.now) }
 {
@@ -36,12 +36,12 @@ fn links_of(alloc: Global, instance: &Instance) -> Result<Vec<Link>, NoMemory>
     for index in 0..records.len() {
         let (path, other) = (records[index].first_path(), records[index].second_path());
         let position = index as u32;
-        links.push(Link {
+        links.push(Side {
             path,
             other,
             position,
         })?;
-        links.push(Link {
+        links.push(Side {
             path: other,
             other: path,
             position,
@@ -51,9 +51,9 @@ fn links_of(alloc: Global, instance: &Instance) -> Result<Vec<Link>, NoMemory>
 }
 
 /// Puts links in order.
-fn sort_links(links: &mut [Link])
+fn sort_links(links: &mut [Side])
     ensures same { IsPermutation links.old links.new }
-    ensures ordered { AllAdjacentBelow IsNotAfter links.new (length links.new) }
+    ensures ordered { AllAdjacentBelow IsSideNotAfter links.new (length links.new) }
 {
     links.sort_unstable();
 }

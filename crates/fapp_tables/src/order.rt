@@ -3,7 +3,7 @@ ghost use Rattle.std.specs.List.{AllAdjacentBelow};
 ghost use Rattle.std.specs.List.Sorted.{IsPermutation};
 ghost use Rattle.fapp_model.specs.Instances.{IsInstance};
 ghost use Rattle.fapp_model.specs.search.WorkOrder.{work_order};
-ghost use Rattle.fapp_tables.specs.Places.{IsNext, all_degrees, all_places};
+ghost use Rattle.fapp_tables.specs.Places.{IsPlannedBefore, all_degrees, all_places};
 
 use fapp_model::{Instance, NoMemory};
 use std::alloc::Global;
@@ -65,7 +65,7 @@ fn degrees_of(alloc: Global, instance: &Instance) -> Result<Vec<u32>, NoMemory>
 /// Puts places in order.
 fn sort_places(places: &mut [Place])
     ensures same { IsPermutation places.old places.new }
-    ensures ordered { AllAdjacentBelow IsNext places.new (length places.new) }
+    ensures ordered { AllAdjacentBelow IsPlannedBefore places.new (length places.new) }
 {
     places.sort_unstable();
 }

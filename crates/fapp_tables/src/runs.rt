@@ -2,7 +2,7 @@ ghost use Rattle.std.specs.Prelude.{◌≡◌, ◌+◌, ◌*◌, ◌<◌, ◌≤
 ghost use Rattle.std.specs.List.Sorted.{IsNonDecreasingBy};
 ghost use Rattle.fapp_tables.specs.Runs.{AreRuns, AreStarts, IsStart, begins_run};
 
-use crate::links::Link;
+use crate::links::Side;
 use fapp_model::{MAX_PATHS, MAX_RECORDS, NoMemory};
 use std::alloc::Global;
 
@@ -10,13 +10,13 @@ use std::alloc::Global;
 #[derive(Debug, Drop)]
 pub struct Runs {
     /// The first link of each pair.
-    pub heads: Vec<Link>,
+    pub heads: Vec<Side>,
     /// Its place among all links; at the end the number of links.
     pub firsts: Vec<u32>,
 }
 
 /// Finds the runs of links in order.
-pub fn runs_of(alloc: Global, links: &[Link]) -> Result<Runs, NoMemory>
+pub fn runs_of(alloc: Global, links: &[Side]) -> Result<Runs, NoMemory>
     requires { length links.now ≤ 2 * MAX_RECORDS }
     ensures { IfOk result (AreRuns links.now) }
 {
@@ -33,7 +33,7 @@ pub fn runs_of(alloc: Global, links: &[Link]) -> Result<Runs, NoMemory>
 }
 
 /// Whether the link before a place is none of the same pair.
-fn begins_run(links: &[Link], place: usize) -> bool
+fn begins_run(links: &[Side], place: usize) -> bool
     requires { place < length links.now }
     ensures { result ≡ begins_run links.now place }
 {
@@ -45,7 +45,7 @@ fn begins_run(links: &[Link], place: usize) -> bool
 }
 
 /// Where the heads of each path begin; at the end their number.
-pub fn starts_of(alloc: Global, heads: &[Link], paths: usize) -> Result<Vec<u32>, NoMemory>
+pub fn starts_of(alloc: Global, heads: &[Side], paths: usize) -> Result<Vec<u32>, NoMemory>
     requires rising { IsNonDecreasingBy (λ head. head.path) heads.now }
     requires few { length heads.now ≤ 2 * MAX_RECORDS }
     requires paths { paths ≤ MAX_PATHS }
@@ -59,7 +59,7 @@ pub fn starts_of(alloc: Global, heads: &[Link], paths: usize) -> Result<Vec<u32>
 }
 
 /// How many heads are of earlier paths.
-fn start_of(heads: &[Link], path: usize) -> usize
+fn start_of(heads: &[Side], path: usize) -> usize
     requires { IsNonDecreasingBy (λ head. head.path) heads.now }
     ensures { IsStart heads.now path result }
 {
@@ -67,14 +67,14 @@ fn start_of(heads: &[Link], path: usize) -> usize
 }
 
 /// The other paths of links, in their order.
-pub fn others_of(alloc: Global, links: &[Link]) -> Result<Vec<u16>, NoMemory>
+pub fn others_of(alloc: Global, links: &[Side]) -> Result<Vec<u16>, NoMemory>
     ensures { IfOk result (λ others. others.items ≡ map (λ link. link.other) links.now) }
 {
     links.iter().map(|link| link.other).collect(alloc)
 }
 
 /// The positions of links, in their order.
-pub fn positions_of(alloc: Global, links: &[Link]) -> Result<Vec<u32>, NoMemory>
+pub fn positions_of(alloc: Global, links: &[Side]) -> Result<Vec<u32>, NoMemory>
     ensures { IfOk result (λ positions. positions.items ≡ map (λ link. link.position) links.now) }
 {
     links.iter().map(|link| link.position).collect(alloc)

@@ -2,7 +2,7 @@
 use Rattle.std.proofs.Common.{◌≡◌, ℕ, ◌<◌, List, [], ◌∷◌, length, map, get_or, All, IfOk, sym, ap, ◌∙◌, subst, arith}
 use Rattle.std.proofs.lemmas.List.{get_or-map, length-map}
 use Rattle.std.proofs.lemmas.List.Elements.{All-map}
-use Rattle.steal_ring.specs.Hands.{IsDone as IsAtEnd}
+use Rattle.steal_ring.specs.Hands.{IsHandDone as IsAtEnd}
 use Rattle.fapp_workers.specs.declared.place.Place.{Place}
 use Rattle.fapp_workers.specs.declared.closing.Work.{Work}
 use Rattle.fapp_workers.specs.Closings.{kept_by, kept_of}

@@ -39,11 +39,11 @@ use Rattle.fapp_workers.specs.declared.place.Place.{Place}
 use Rattle.fapp_workers.specs.declared.closing.Work.{Work}
 use Rattle.search_log.specs.Logs.{empty_log}
 use Rattle.fapp_workers.specs.Begun.{IsStartUsed, KeepsAsCheap, OffersFirst}
-use Rattle.fapp_workers.specs.Closings.{IsClosed}
-use Rattle.fapp_workers.specs.Places.{end_by, pool_seats_of, seats_of, IsTended, IsWorkOf, Stands}
+use Rattle.fapp_workers.specs.Closings.{IsClosedRun}
+use Rattle.fapp_workers.specs.Places.{end_by, pool_seats_of, seats_of, IsTended, IsWorkOf, IsFreshPlace}
 use Rattle.fapp_workers.specs.SharedBounds.{least_offer}
 use Rattle.fapp_workers.specs.Solved.{AreSolved, IsWorkFor, times_done, works_logs}
-use Rattle.fapp_workers.specs.Works.{IsDone, ids_of}
+use Rattle.fapp_workers.specs.Works.{IsJobDone, ids_of}
 use Rattle.fapp_workers.proofs.Bounds.{low-offers}
 use Rattle.fapp_workers.proofs.Ending.{count-same, kept-at}
 use Rattle.fapp_workers.proofs.Solving.{sum-zip, sum-of-map}
@@ -147,7 +147,7 @@ module _ (split : Split) (fuel : ℕ) where
   works-for rows code (p ∷ places) (w ∷ works) zip low has = All-cons (IsWorkFor split fuel code rows) w works
       (record {
         branches = zip.0.branches;
-        each = All-weaker (IsDone split fuel zip.0.copied w.log.lines (view_of p.seat).least) (IsDone split fuel rows w.log.lines code)
+        each = All-weaker (IsJobDone split fuel zip.0.copied w.log.lines (view_of p.seat).least) (IsJobDone split fuel rows w.log.lines code)
             (λ d one. done-grows split fuel zip.0.copied rows w.log.lines w.log.lines (view_of p.seat).least code d
             (All-head (λ (e : WorkerEnd). All (Contains rows) e.copied) (end_by p.pool_seat w.log zip.0.copied) (ends-by places works zip.1) has) (gains-none w.log.lines)
             (All-head (λ (q : Place). code ≤ (view_of q.seat).least) p places low) one) w.done.items zip.0.each;
@@ -158,8 +158,8 @@ module _ (split : Split) (fuel : ℕ) where
 -- ---- all works
 
 module _ (split : Split) (fuel workers : ℕ) (valid : IsInstance split.instance) (ring : Ring) (word : BestWord) (pool : Pool) (first : PoolView) (placed : List KnownRow) (published : all_known first.published ≡ placed) (old new : List Place) (len : length new ≡ length old) (count : length old ≡ workers)
-    (stand : All (Stands split ring word pool) old) (tended : (i : ℕ) (d e : Place) → i < length old → IsTended split fuel ring word pool (get_or old i d) (get_or new i e))
-    (works : List Work) (code : ℕ) (closed : IsClosed (job_count split.instance split.split) first new works code) where
+    (stand : All (IsFreshPlace split ring word pool) old) (tended : (i : ℕ) (d e : Place) → i < length old → IsTended split fuel ring word pool (get_or old i d) (get_or new i e))
+    (works : List Work) (code : ℕ) (closed : IsClosedRun (job_count split.instance split.split) first new works code) where
   as-many : length works ≡ length new
   as-many = count-same works new closed.kept
 

@@ -10,7 +10,7 @@ use Rattle.nogood.specs.declared.row.Published.TheVariants.{Home}
 use Rattle.nogood.specs.Rows.{row_literals}
 use Rattle.nogood_pool.specs.declared.view.PoolView.{PoolView}
 use Rattle.nogood_pool.specs.Pool.{content, held_row}
-use Rattle.nogood_pool.specs.Seats.{Publishes}
+use Rattle.nogood_pool.specs.Seats.{SeatPublishes}
 use Rattle.search_log.specs.Contents.{known_row}
 use Rattle.pool_rows.specs.Copying.{all_known, held_known}
 use Rattle.search_log.specs.NumberedRows.{numbered_from, numbered_rows}
@@ -33,7 +33,7 @@ pub record IsHomeAt (v : PoolView) (row : Row) (w : PoolView) (number : ℕ) : T
   pub counter : w.counter ≡ v.counter + 1
   pub published : all_known w.published ≡ all_known v.published ++ known_row v.counter (row_content row) ∷ []
 
-pub home-at : (v w : PoolView) (row : Row) (lits : List Literal) (n : ℕ) → v.share ≡ WHOLE_SHARE → lits ≡ row_literals row → Publishes v lits row.tag.code (Home n) w → IsHomeAt v row w n
+pub home-at : (v w : PoolView) (row : Row) (lits : List Literal) (n : ℕ) → v.share ≡ WHOLE_SHARE → lits ≡ row_literals row → SeatPublishes v lits row.tag.code (Home n) w → IsHomeAt v row w n
 home-at v w row lits n whole same p =
     let is : n ≡ v.counter = p.2.2 whole in
     record {

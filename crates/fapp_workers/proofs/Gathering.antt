@@ -18,10 +18,10 @@ use Rattle.fapp_workers.specs.declared.gather.Put.{Put}
 use Rattle.fapp_workers.specs.declared.job.Done.{Done}
 use Rattle.fapp_workers.specs.declared.solve.Gathered.{Gathered}
 use Rattle.fapp_workers.specs.SharingLaws.{AreGoodLogsOver}
-use Rattle.fapp_workers.specs.Collections.{IsDeadCount, IsGathered, IsGatheredOver, IsPutBelow, IsPutByWorkers}
+use Rattle.fapp_workers.specs.Collections.{IsDeadCount, IsGatheredRun, IsGatheredOver, IsPutBelow, IsPutByWorkers}
 use Rattle.fapp_workers.specs.Puts.{ArePut, puts_from, put_at, put_ids}
 use Rattle.fapp_workers.specs.Solved.{AreSolved, IsWorkFor, times_done, works_logs}
-use Rattle.fapp_workers.specs.Works.{IsAllTaken, IsDone, branches_in, ids_of, ticks_in}
+use Rattle.fapp_workers.specs.Works.{IsAllTaken, IsJobDone, branches_in, ids_of, ticks_in}
 use Rattle.fapp_workers.proofs.DeadCounts.{counts-dead}
 use Rattle.fapp_workers.proofs.Putting.{once_at}
 
@@ -86,15 +86,15 @@ module _ (split : Split) (fuel workers : ℕ) (placed : List KnownRow) (works : 
 
   -- what is known of each job that was put
   abbrev IsKnown : ℕ → Done → Type 0
-  IsKnown place done = (place < length works) × IsDone split fuel rows (log_at logs place).lines word done
+  IsKnown place done = (place < length works) × IsJobDone split fuel rows (log_at logs place).lines word done
 
   known-at : (i : ℕ) (w : Work) → i < length works → All (IsKnown (0 + i)) (get_or works i w).done.items
   known-at i w less =
       let log = get_or-map (λ (x : Work). x.log) works i w empty_log less in
       let here : 0 + i ≡ i = omega arith in
       subst (λ m. All (IsKnown m) (get_or works i w).done.items) (sym here)
-      (All-weaker (IsDone split fuel rows (get_or works i w).log.lines word) (IsKnown i)
-      (λ d one. (less, subst (λ (l : LogState). IsDone split fuel rows l.lines word d) (sym log) one)) (get_or works i w).done.items (solved.each i w less).each)
+      (All-weaker (IsJobDone split fuel rows (get_or works i w).log.lines word) (IsKnown i)
+      (λ d one. (less, subst (λ (l : LogState). IsJobDone split fuel rows l.lines word d) (sym log) one)) (get_or works i w).done.items (solved.each i w less).each)
 
   all-known-puts : All (λ (put : Put). IsKnown put.place put.done) (puts_from 0 works)
   all-known-puts = all-put IsKnown 0 works known-at
@@ -185,7 +185,7 @@ module _ (split : Split) (fuel workers : ℕ) (placed : List KnownRow) (works : 
     }
 
 -- where no row was placed before
-pub gathered-alone : (split : Split) (fuel : ℕ) (g : Gathered) → IsGatheredOver split fuel [] g → IsGathered split fuel g
+pub gathered-alone : (split : Split) (fuel : ℕ) (g : Gathered) → IsGatheredOver split fuel [] g → IsGatheredRun split fuel g
 gathered-alone split fuel g h = record {
   rows = h.rows;
   logs = record { good = h.logs.good; home = h.logs.home; once = h.logs.once; bare = h.logs.bare };

@@ -13,9 +13,9 @@ use Rattle.search_log.specs.Segments.{EndsAsRow, IsGoodLog}
 use Rattle.search_log.proofs.Segmenting.{log-more}
 use Rattle.search_log.specs.LogStates.{LogState}
 use Rattle.search_log.specs.declared.piece.Piece.{Piece}
-use Rattle.search_log.specs.GoodLogs.{AreGoodLogs, IsBare, IsHome, all_lines, lines_of, piece_of, pieces_from, pieces_of}
+use Rattle.search_log.specs.GoodLogs.{AreGoodLogs, IsBare, IsHomeRow, all_lines, lines_of, piece_of, pieces_from, pieces_of}
 use Rattle.fapp_workers.specs.Ends.{AreClosed, IsWorkerEnd, WorkerEnd, all_published, log_of, logs_of}
-use Rattle.fapp_workers.specs.SharingLaws.{AreGoodLogsOver, row_of}
+use Rattle.fapp_workers.specs.SharingLaws.{AreGoodLogsOver, row_of_piece}
 
 abbrev pub number_of : KnownRow → ℕ
 number_of row = row.number
@@ -142,15 +142,15 @@ publisher (e ∷ ends) row m = ⊎_elim
     (Contains-append_cases e.published (all_published ends) row m)
 
 -- the segments' rows are the published ones, in order
-pub pieces-alike : (instance : Instance) (ends : List WorkerEnd) (from : ℕ) → All (IsWorkerEnd instance) ends → map row_of (pieces_from from (logs_of ends)) ≡ map number_of (all_published ends)
+pub pieces-alike : (instance : Instance) (ends : List WorkerEnd) (from : ℕ) → All (IsWorkerEnd instance) ends → map row_of_piece (pieces_from from (logs_of ends)) ≡ map number_of (all_published ends)
 pieces-alike instance [] from each = refl
 pieces-alike instance (e ∷ ends) from each =
-    map-append row_of (map (piece_of from) e.log.segments) (pieces_from (from + 1) (logs_of ends))
-    ∙ (ap (λ xs. xs ++ map row_of (pieces_from (from + 1) (logs_of ends))) (rows-of e.log.segments ∙ sym (All-head (IsWorkerEnd instance) e ends each).home)
+    map-append row_of_piece (map (piece_of from) e.log.segments) (pieces_from (from + 1) (logs_of ends))
+    ∙ (ap (λ xs. xs ++ map row_of_piece (pieces_from (from + 1) (logs_of ends))) (rows-of e.log.segments ∙ sym (All-head (IsWorkerEnd instance) e ends each).home)
     ∙ (ap (λ xs. map number_of e.published ++ xs) (pieces-alike instance ends (from + 1) (All-tail (IsWorkerEnd instance) e ends each))
     ∙ sym (map-append number_of e.published (all_published ends))))
   where
-    rows-of : (segments : List Segment) → map row_of (map (piece_of from) segments) ≡ map seg_row segments
+    rows-of : (segments : List Segment) → map row_of_piece (map (piece_of from) segments) ≡ map seg_row segments
     rows-of [] = refl
     rows-of (s ∷ segments) = ap (λ xs. s.row ∷ xs) (rows-of segments)
 
@@ -166,7 +166,7 @@ module _ (instance : Instance) (placed : List KnownRow) (ends : List WorkerEnd) 
       (λ e m. log-more instance (e.copied ++ e.published) (placed ++ all_published ends) e.log.lines e.log.segments (known-among placed ends closed e m)
       (All-contains (IsWorkerEnd instance) ends e each m).good))
 
-  at-home : (row : KnownRow) → Contains (all_published ends) row → IsHome (logs_of ends) row
+  at-home : (row : KnownRow) → Contains (all_published ends) row → IsHomeRow (logs_of ends) row
   at-home row has =
       let by = publisher ends row has in
       let e = by.0 in
@@ -180,13 +180,13 @@ module _ (instance : Instance) (placed : List KnownRow) (ends : List WorkerEnd) 
         is = r.4;
       }
 
-  alike : map row_of (pieces_of (logs_of ends)) ≡ map number_of (all_published ends)
+  alike : map row_of_piece (pieces_of (logs_of ends)) ≡ map number_of (all_published ends)
   alike = pieces-alike instance ends 0 each
 
   -- numbers that were placed are no segment's
   apart : (row : KnownRow) → Contains placed row → (p : Piece) → Contains (pieces_of (logs_of ends)) p → p.row ≢ row.number
   apart row has p m same =
-      let other = member-alike row_of number_of (pieces_of (logs_of ends)) (all_published ends) alike p m in
+      let other = member-alike row_of_piece number_of (pieces_of (logs_of ends)) (all_published ends) alike p m in
       let at_first : get_or (placed ++ all_published ends) has.0 row ≡ row = get_or_append_left placed (all_published ends) row has.0 has.1 ∙ has.2 in
       let at_second : get_or (placed ++ all_published ends) (length placed + other.1.0) row ≡ other.0 =
       behind-get placed (all_published ends) other.1.0 row ∙ (get_or_default (all_published ends) other.1.0 row other.0 other.1.1 ∙ other.1.2) in
@@ -202,8 +202,8 @@ module _ (instance : Instance) (placed : List KnownRow) (ends : List WorkerEnd) 
   pub good-after : AreGoodLogsOver instance placed (all_published ends) (logs_of ends)
   good-after = record {
     good = logs-good;
-    home = All-from_members (IsHome (logs_of ends)) (all_published ends) at-home;
-    once = pairs-alike row_of number_of (pieces_of (logs_of ends)) (all_published ends) alike behind-placed;
+    home = All-from_members (IsHomeRow (logs_of ends)) (all_published ends) at-home;
+    once = pairs-alike row_of_piece number_of (pieces_of (logs_of ends)) (all_published ends) alike behind-placed;
     apart = All-from_members (λ (row : KnownRow). All (λ (p : Piece). p.row ≢ row.number) (pieces_of (logs_of ends))) placed
         (λ row has. All-from_members (λ (p : Piece). p.row ≢ row.number) (pieces_of (logs_of ends)) (apart row has));
     bare = All-map (λ (log : LogState). All IsBare log.lines) log_of ends (All-weaker (IsWorkerEnd instance) (λ (e : WorkerEnd). All IsBare e.log.lines) (λ e is. is.plain) ends each);

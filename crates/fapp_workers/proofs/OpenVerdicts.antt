@@ -32,7 +32,7 @@ use Rattle.fapp_plan.specs.Plans.{Split}
 use Rattle.fapp_plan.specs.VerdictRule.{IsOpenOf, lower_code, open_level}
 use Rattle.fapp_plan.proofs.Refuted.{least-reached}
 use Rattle.fapp_workers.specs.Gathered.{AreSettled, IsPlacedBy, KeepsCost, log_at}
-use Rattle.fapp_workers.specs.VerdictLaws.{IsEnough, IsLevelWithinFuel, IsOpenFor, IsSolved, IsWithinFuel, NamesJob}
+use Rattle.fapp_workers.specs.VerdictLaws.{IsEnough, IsLevelWithinFuel, IsOpenFor, IsSolvedRun, IsWithinFuel, NamesJob}
 use Rattle.fapp_workers.specs.Outcomes.{IsBeyond, IsPrefixSettledBy}
 use Rattle.fapp_workers.proofs.LeastWords.{IsOfLevel, cost-level, implied-cost, kept-plan, open-level}
 
@@ -135,7 +135,7 @@ module _ (split : Split) (fuel : ℕ) (rows : List KnownRow) (logs : List LogSta
 -- ---- an open verdict
 
 module _ (split : Split) (fuel : ℕ) (rows : List KnownRow) (logs : List LogState) (word arcs : ℕ) (outcomes : List Placed) (best : Triple) (lower : Tag) (level : ℕ) (prefix : List Literal)
-    (s : IsSolved split fuel rows logs word arcs outcomes (Open best lower level prefix)) where
+    (s : IsSolvedRun split fuel rows logs word arcs outcomes (Open best lower level prefix)) where
   opened : IsOpenOf split.instance split.split outcomes word arcs best lower level prefix
   opened = s.ruled
 

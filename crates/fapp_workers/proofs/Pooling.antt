@@ -21,7 +21,7 @@ use Rattle.search_log.specs.declared.job.Outcome.TheVariants.{Refuted, Moot, Spe
 use Rattle.search_log.specs.Bounds.{BoundState}
 use Rattle.search_log.specs.Shares.{known}
 use Rattle.settle_laws.specs.Levels.{level_code}
-use Rattle.settle_laws.specs.Published.{IsShort}
+use Rattle.settle_laws.specs.Published.{IsShortLine}
 use Rattle.settle_laws.specs.Settling.{AreHome, IsOutcome}
 use Rattle.settle_laws.specs.Worlds.{World, world}
 use Rattle.fapp_workers.proofs.Settled.{used}
@@ -87,7 +87,7 @@ record IsOneMore (split : Split) (old new : Held) (done : Done) : Type 0 where
   uses : IsGoodLog split.instance (known old.shared) old.log.lines old.log.segments → (s : Segment) (line : LogLine) → Contains old.log.segments s → slice_get old.log.lines s.last ≡ Some line →
       HasAll (job_prefix split.instance split.split done.id) line.lits → level_code (job_level split.instance done.id + 1) ≤ line.tag.code → done.ticks ≡ 0
   pools : old.shared.takes ≡ true → (n : ℕ) → own_line done.outcome ≡ Some n →
-      ((line : LogLine) → slice_get new.log.lines n ≡ Some line → IsShort line → ends_segment new.log.segments n ≡ false → old.shared.refusals < new.shared.refusals)
+      ((line : LogLine) → slice_get new.log.lines n ≡ Some line → IsShortLine line → ends_segment new.log.segments n ≡ false → old.shared.refusals < new.shared.refusals)
 
 none-own : (n : ℕ) → ◌≡◌ {A = Option ℕ} None (Some n) → ⊥
 none-own n e = none-some n e
@@ -129,7 +129,7 @@ module _ (split : Split) (fuel : ℕ) (old new : Held) (done : Done) (read : Bou
   own-within Spent h n is = absurd (none-own n is)
 
   -- a line that ends no segment although it can be a row was refused
-  own-pooled : (outcome : Outcome) → Is outcome → old.shared.takes ≡ true → (n : ℕ) → own_line outcome ≡ Some n → (line : LogLine) → slice_get new.log.lines n ≡ Some line → IsShort line →
+  own-pooled : (outcome : Outcome) → Is outcome → old.shared.takes ≡ true → (n : ℕ) → own_line outcome ≡ Some n → (line : LogLine) → slice_get new.log.lines n ≡ Some line → IsShortLine line →
       ends_segment new.log.segments n ≡ false → old.shared.refusals < new.shared.refusals
   own-pooled (Refuted (Own m) tag) h takes n is line at short none =
       let same : m ≡ n = some-same is in
@@ -138,7 +138,7 @@ module _ (split : Split) (fuel : ℕ) (old new : Held) (done : Done) (read : Bou
       ⊎_elim
       (λ home. absurd (both_ways (ends_segment new.log.segments n) none
       (ap (λ gs. ends_segment gs n) home.segments ∙ any-last (λ (g : Segment). g.last == n) old.log.segments (record { last = m; row = home.row }) (eq-eqb m n same))))
-      (λ away. away.refused takes (subst IsShort (sym line_is) short))
+      (λ away. away.refused takes (subst IsShortLine (sym line_is) short))
       offered.2
   own-pooled (Refuted (Row r) tag) h takes n is line at short none = absurd (none-own n is)
   own-pooled (Moot seen) h takes n is line at short none = absurd (none-own n is)
@@ -229,7 +229,7 @@ pairs-cons d more low rises zero (suc j) e less inside = low j e (omega (arith, 
 pairs-cons d more low rises (suc i) zero e less inside = absurd (omega (arith, less))
 pairs-cons d more low rises (suc i) (suc j) e less inside = rises i j e (omega (arith, less)) (omega (arith, inside))
 
-short-by : (line : LogLine) → (nat_lt 0 line.tag.code && not (nat_lt 8 (length line.lits))) ≡ true → IsShort line
+short-by : (line : LogLine) → (nat_lt 0 line.tag.code && not (nat_lt 8 (length line.lits))) ≡ true → IsShortLine line
 short-by line e = record { says = ltb-true 0 line.tag.code (left (nat_lt 0 line.tag.code) _ e); few = ltb-false 8 (length line.lits) (right (nat_lt 0 line.tag.code) (nat_lt 8 (length line.lits)) e) }
   where
     left : (a b : Bool) → (a && b) ≡ true → a ≡ true
@@ -294,7 +294,7 @@ module _ (split : Split) (old mid new : Held) (done : Done) (more : List Done) (
   this-offer takes None is = omega (arith, one.refusals)
   this-offer takes (Some n) is = by-line (slice_get new.log.lines n) refl
     where
-      by-ends : (line : LogLine) → slice_get new.log.lines n ≡ Some line → IsShort line → (b : Bool) → ends_segment new.log.segments n ≡ b → old.shared.refusals + cond (not b) 1 0 ≤ mid.shared.refusals
+      by-ends : (line : LogLine) → slice_get new.log.lines n ≡ Some line → IsShortLine line → (b : Bool) → ends_segment new.log.segments n ≡ b → old.shared.refusals + cond (not b) 1 0 ≤ mid.shared.refusals
       by-ends line at short true e = omega (arith, one.refusals)
       by-ends line at short false e =
           let within = one.own n is in

@@ -8,10 +8,10 @@ use Rattle.steal_ring.specs.declared.hand.Hand.{Hand}
 use Rattle.steal_ring.specs.declared.seat.Ring.{Ring}
 use Rattle.steal_ring.specs.Hands.{won_of, found_of, IsHandOf}
 use Rattle.fapp_workers.specs.declared.place.Place.{Place}
-use Rattle.fapp_workers.specs.Places.{IsSeated, Stands, hands_of}
+use Rattle.fapp_workers.specs.Places.{IsSeated, IsFreshPlace, hands_of}
 
 pub stand-all : (split : Split) (ring : Ring) (word : BestWord) (pool : Pool) (places : List Place) (hands : List Hand) → hands_of places ≡ hands → All (IsHandOf ring) hands → All (λ hand. (won_of hand ≡ []) × (found_of hand ≡ [])) hands →
-    All (IsSeated split word pool) places → All (Stands split ring word pool) places
+    All (IsSeated split word pool) places → All (IsFreshPlace split ring word pool) places
 stand-all split ring word pool places hands are own new seated = λ k d less.
     let inside : k < length hands = omega (arith, ap length are, length-map places (λ (p : Place). p.hand), less) in
     let at : get_or hands k d.hand ≡ (get_or places k d).hand = ap (λ hs. get_or hs k d.hand) (sym are) ∙ get_or-map (λ (p : Place). p.hand) places k d d.hand less in

@@ -20,7 +20,7 @@ use Rattle.std.proofs.lemmas.Option.{slice_get_within}
 use Rattle.fapp_model.specs.declared.tag.Tag.{Tag}
 use Rattle.fapp_model.proofs.Members.{All-from_members}
 use Rattle.search_log.specs.declared.line.Ref.TheVariants.{Own}
-use Rattle.settle_laws.specs.Published.{IsShort}
+use Rattle.settle_laws.specs.Published.{IsShortLine}
 use Rattle.std.proofs.lemmas.Bool.{cases_lt}
 use Rattle.std.proofs.lemmas.List.{length-append}
 use Rattle.std.proofs.lemmas.List.Elements.{All-contains}
@@ -33,7 +33,7 @@ use Rattle.search_log.specs.Bounds.{floor, lowest}
 use Rattle.search_log.specs.Shares.{known}
 use Rattle.settle_laws.specs.Levels.{level_code}
 use Rattle.settle_laws.specs.Settling.{IsOutcome}
-use Rattle.settle_laws.specs.Worlds.{IsGood}
+use Rattle.settle_laws.specs.Worlds.{IsGoodWorld}
 use Rattle.settle_laws.proofs.TagCodes.{tag-small}
 use Rattle.tries_laws.proofs.JobParts.{job-is}
 use Rattle.fapp_workers.proofs.Homes.{some-same}
@@ -57,7 +57,7 @@ pub job-settled : (split : Split) (fuel id word : ℕ) (old new : World) (outcom
 job-settled split fuel id word old new outcome inside start low s =
     found-settled split.instance (job_level split.instance id) (job_prefix split.instance split.split id) fuel word old new (job-is split.instance split.split id inside).in_range start low outcome s.is
 
-pub used : (instance : Instance) (level : ℕ) (literals : List Literal) (old new : World) (outcome : Outcome) (s : Segment) (line : LogLine) → IsGood instance old →
+pub used : (instance : Instance) (level : ℕ) (literals : List Literal) (old new : World) (outcome : Outcome) (s : Segment) (line : LogLine) → IsGoodWorld instance old →
     Contains old.log.segments s → slice_get old.log.lines s.last ≡ Some line → HasAll literals line.lits → level_code (level + 1) ≤ line.tag.code →
     Settles {E = AllocError} instance level literals old new (Ok outcome) → new.fuel ≡ old.fuel
 used instance level literals old new outcome s line good m at within reaches h = elim (cases_lt 0 (length h.ticks.tried)) [
@@ -72,13 +72,13 @@ used instance level literals old new outcome s line good m at within reaches h =
 
 -- ---- offers
 
-below-own : (instance : Instance) (old : World) (n : ℕ) → IsGood instance old → length old.log.lines ≤ n → All (λ (s : Segment). s.last ≢ n) old.log.segments
+below-own : (instance : Instance) (old : World) (n : ℕ) → IsGoodWorld instance old → length old.log.lines ≤ n → All (λ (s : Segment). s.last ≢ n) old.log.segments
 below-own instance old n good past = All-from_members (λ (s : Segment). s.last ≢ n) old.log.segments (λ s m same.
     let ends = All-contains (EndsAsRow (known old.shared) old.log.lines) old.log.segments s good.in_order.ends m in
     absurd (omega (arith, slice_get_within old.log.lines s.last ends.line ends.last, past, same)))
 
-pub offers-counted : (instance : Instance) (level : ℕ) (literals : List Literal) (old new : World) (n : ℕ) (tag : Tag) (line : LogLine) → old.shared.takes ≡ true → IsGood instance old →
-    Settles {E = AllocError} instance level literals old new (Ok (Refuted (Own n) tag)) → slice_get new.log.lines n ≡ Some line → IsShort line →
+pub offers-counted : (instance : Instance) (level : ℕ) (literals : List Literal) (old new : World) (n : ℕ) (tag : Tag) (line : LogLine) → old.shared.takes ≡ true → IsGoodWorld instance old →
+    Settles {E = AllocError} instance level literals old new (Ok (Refuted (Own n) tag)) → slice_get new.log.lines n ≡ Some line → IsShortLine line →
     ((row : ℕ) × (new.log.segments ≡ old.log.segments ++ record { last = n; row = row } ∷ []))
     ⊎ (All (λ (s : Segment). s.last ≢ n) new.log.segments × (old.shared.refusals < new.shared.refusals))
 offers-counted instance level literals old new n tag line takes good s at short =
@@ -88,6 +88,6 @@ offers-counted instance level literals old new n tag line takes good s at short 
       | inl home ↦ inl (home.row, home.segments)
       | inr away ↦ inr (
         subst (All (λ (g : Segment). g.last ≢ n)) (sym away.none.segments) (below-own instance old n good s.is.0.last.0),
-        away.refused takes (subst IsShort (sym same) short),
+        away.refused takes (subst IsShortLine (sym same) short),
       )
     ]

@@ -20,7 +20,7 @@ use Rattle.settle_laws.specs.Founds.{IsRefuted}
 use Rattle.fapp_workers.specs.Gathered.{IsPlacedBy, log_at}
 use Rattle.fapp_workers.specs.Outcomes.{IsPrefixSettledBy}
 use Rattle.fapp_workers.specs.Ends.{AreClosed, WorkerEnd, all_published, log_of, logs_of}
-use Rattle.fapp_workers.specs.SharingLaws.{IsShown}
+use Rattle.fapp_workers.specs.SharingLaws.{IsOutcomeShown}
 use Rattle.fapp_workers.proofs.Homes.{some-same}
 
 cites-more : (rows more : List KnownRow) (lines : List LogLine) → All (Contains more) rows → (ref : Ref) (content : Content) → Cites rows lines ref content → Cites more lines ref content
@@ -49,7 +49,7 @@ at-place [] (suc n) e at = absurd cc
 at-place (d ∷ ends) zero e at = ((0, omega arith, some-same at), ap log_of (some-same at))
 at-place (d ∷ ends) (suc place) e at = let r = at-place ends place e at in ((suc r.0.0, omega (arith, r.0.1), r.0.2), r.1)
 
-pub shown : (split : Split) (fuel : ℕ) (placed : List KnownRow) (ends : List WorkerEnd) (word id : ℕ) (outcome : Placed) → AreClosed placed ends → IsShown split fuel ends word id outcome →
+pub shown : (split : Split) (fuel : ℕ) (placed : List KnownRow) (ends : List WorkerEnd) (word id : ℕ) (outcome : Placed) → AreClosed placed ends → IsOutcomeShown split fuel ends word id outcome →
     IsPlacedBy split fuel (placed ++ all_published ends) (logs_of ends) word id outcome
 shown split fuel placed ends word id None closed h = h
 shown split fuel placed ends word id (Some p) closed h =

@@ -14,7 +14,7 @@ use Rattle.nogood_pool.specs.Dealt.{shares_of as pool_shares}
 use Rattle.nogood_pool.specs.Seats.{view_of as pool_view, IsSeatOf as IsPoolSeatOf}
 use Rattle.steal_ring.specs.declared.hand.Hand.{Hand}
 use Rattle.steal_ring.specs.declared.seat.Ring.{Ring}
-use Rattle.steal_ring.specs.Hands.{share_of_hand, shares_of, IsDealt, IsHandOf, IsDone as IsAtEnd}
+use Rattle.steal_ring.specs.Hands.{share_of_hand, shares_of, IsDealt, IsHandOf, IsHandDone as IsAtEnd}
 use Rattle.fapp_workers.specs.declared.place.Place.{Place}
 use Rattle.fapp_workers.specs.Places.{hands_of, pool_seats_of, seats_of, IsFinished, IsTended, IsWorkOf}
 

@@ -25,7 +25,7 @@ use Rattle.fapp_workers.specs.Jobs.{held}
 use Rattle.fapp_workers.specs.Places.{IsWorkOf}
 use Rattle.fapp_workers.specs.Rows.{IsRowsClause}
 use Rattle.fapp_workers.specs.SharedBounds.{least_offer}
-use Rattle.fapp_workers.specs.Works.{IsDone, IsHandClause, IsLogClause, branches_in, ids_of}
+use Rattle.fapp_workers.specs.Works.{IsJobDone, IsHandClause, IsLogClause, branches_in, ids_of}
 use Rattle.fapp_workers.proofs.Working.{done-grows}
 
 module _ (split : Split) (fuel : ℕ) (bound after : BoundState) (shared more : SharedState) (seat : BestSeat) (pool_seat : PoolSeat) (old new : Hand) (before log : LogState)
@@ -47,7 +47,7 @@ module _ (split : Split) (fuel : ℕ) (bound after : BoundState) (shared more : 
     right = l.right kept_right;
     kept = subst (IsLeastOffered log.best) same l.least;
     branches = (let none : branches_in before.lines ≡ 0 = ap branches_in lineless in omega (arith, none, l.branches));
-    each = All-weaker (IsDone split fuel more.copied log.lines (floor after)) (IsDone split fuel more.copied log.lines (view_of seat).least)
+    each = All-weaker (IsJobDone split fuel more.copied log.lines (floor after)) (IsJobDone split fuel more.copied log.lines (view_of seat).least)
         (λ d one. done-grows split fuel more.copied more.copied log.lines log.lines (floor after) (view_of seat).least d (All-contains_itself more.copied) (gains-none log.lines) low one) done l.each;
   }
 

@@ -30,7 +30,7 @@ use Rattle.tries_laws.proofs.JobParts.{job-is, prefixes-all}
 use Rattle.fapp_workers.specs.Outcomes.{AreTicksOf, IsPrefixSettledBy}
 use Rattle.fapp_workers.specs.declared.job.Done.{Done}
 use Rattle.fapp_workers.specs.Jobs.{AreDecided, Decides, Held, IsSearched, held}
-use Rattle.fapp_workers.specs.Works.{IsAllTaken, IsDone, IsLogClause, branches_in}
+use Rattle.fapp_workers.specs.Works.{IsAllTaken, IsJobDone, IsLogClause, branches_in}
 
 -- ---- a settled job stays settled
 
@@ -53,7 +53,7 @@ settled-grows instance level prefix fuel rows more old new word lower (Moot seen
 settled-grows instance level prefix fuel rows more old new word lower Spent has gains low h = h
 
 pub done-grows : (split : Split) (fuel : ℕ) (rows more : List KnownRow) (old new : List LogLine) (word lower : ℕ) (done : Done) → All (Contains more) rows → Gains old new → lower ≤ word →
-    IsDone split fuel rows old word done → IsDone split fuel more new lower done
+    IsJobDone split fuel rows old word done → IsJobDone split fuel more new lower done
 done-grows split fuel rows more old new word lower done has gains low h = record {
   inside = h.inside;
   settled = settled-grows split.instance (job_level split.instance done.id) (job_prefix split.instance split.split done.id) fuel rows more old new word lower done.outcome has gains low h.settled;
@@ -154,8 +154,8 @@ skipped-on split fuel old now read done last h inside tells low moot none = reco
   right = h.right;
   lines = h.lines;
   branches = omega (arith, h.branches, none, sum_by_push (λ (d : Done). d.ticks) done last);
-  each = All-push (IsDone split fuel now.shared.copied now.log.lines (floor read)) done last
-      (All-weaker (IsDone split fuel now.shared.copied now.log.lines (floor now.bound)) (IsDone split fuel now.shared.copied now.log.lines (floor read))
+  each = All-push (IsJobDone split fuel now.shared.copied now.log.lines (floor read)) done last
+      (All-weaker (IsJobDone split fuel now.shared.copied now.log.lines (floor now.bound)) (IsJobDone split fuel now.shared.copied now.log.lines (floor read))
       (λ d one. done-grows split fuel now.shared.copied now.shared.copied now.log.lines now.log.lines (floor now.bound) (floor read) d (has-all now.shared.copied) (gains-none now.log.lines) (tells-floor now.bound read last.start.code tells) one) done h.each)
       (record {
         inside = inside;
@@ -177,8 +177,8 @@ searched-on split fuel old now next read done last h inside tells s = record {
   right = λ r. s.settles.right (h.right r);
   lines = gains-on old.log.lines now.log.lines next.log.lines h.lines s.settles.lines;
   branches = omega (arith, h.branches, branches-few split fuel last.id read now next last.outcome last.ticks inside s, sum_by_push (λ (d : Done). d.ticks) done last);
-  each = All-push (IsDone split fuel next.shared.copied next.log.lines (floor next.bound)) done last
-      (All-weaker (IsDone split fuel now.shared.copied now.log.lines (floor now.bound)) (IsDone split fuel next.shared.copied next.log.lines (floor next.bound))
+  each = All-push (IsJobDone split fuel next.shared.copied next.log.lines (floor next.bound)) done last
+      (All-weaker (IsJobDone split fuel now.shared.copied now.log.lines (floor now.bound)) (IsJobDone split fuel next.shared.copied next.log.lines (floor next.bound))
       (λ d one. done-grows split fuel now.shared.copied next.shared.copied now.log.lines next.log.lines (floor now.bound) (floor next.bound) d s.settles.copied s.settles.lines
       (omega (arith, tells-floor now.bound read last.start.code tells, s.settles.falls)) one) done h.each)
       (record {

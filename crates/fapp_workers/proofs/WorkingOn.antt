@@ -18,15 +18,15 @@ use Rattle.settle_laws.specs.Settling.{AreHome, Settles}
 use Rattle.settle_laws.specs.Worlds.{Gains, IsPlain, World}
 use Rattle.settle_laws.proofs.Tried.{cites-grow}
 use Rattle.fapp_workers.specs.Outcomes.{IsJobSettledBy, IsPrefixSettledBy}
-use Rattle.fapp_workers.specs.Ends.{IsWorkerEnd, end_of}
+use Rattle.fapp_workers.specs.Ends.{IsWorkerEnd, end_of_world}
 use Rattle.fapp_workers.proofs.Homes.{number_of, seg_row}
 
 home-more : (rows more : List KnownRow) (segments gained : List Segment) → AreHome rows segments → AreHome more gained → AreHome (rows ++ more) (segments ++ gained)
 home-more rows more segments gained h g =
     map-append number_of rows more ∙ (ap (λ xs. xs ++ map number_of more) h ∙ (ap (λ xs. map seg_row segments ++ xs) g ∙ sym (map-append seg_row segments gained)))
 
-pub goes-on : (instance : Instance) (level : ℕ) (literals : List Literal) (old new : World) (outcome : Outcome) → IsWorkerEnd instance (end_of old) →
-    Settles {E = AllocError} instance level literals old new (Ok outcome) → IsWorkerEnd instance (end_of new)
+pub goes-on : (instance : Instance) (level : ℕ) (literals : List Literal) (old new : World) (outcome : Outcome) → IsWorkerEnd instance (end_of_world old) →
+    Settles {E = AllocError} instance level literals old new (Ok outcome) → IsWorkerEnd instance (end_of_world new)
 goes-on instance level literals old new outcome h s = record {
   good = s.good h.good;
   home = subst (λ rows. AreHome rows new.log.segments) (sym s.publishes.published)

@@ -35,7 +35,7 @@ pub record IsGatheredOver (split : Split) (fuel : ℕ) (placed : List KnownRow) 
   pub branches : sum_by (λ (log : LogState). branches_in log.lines) gathered.logs.items ≤ sum gathered.ticks.items
 
 -- the same where no row was placed before
-pub record IsGathered (split : Split) (fuel : ℕ) (gathered : Gathered) : Type 0 where
+pub record IsGatheredRun (split : Split) (fuel : ℕ) (gathered : Gathered) : Type 0 where
   pub rows : List KnownRow
   pub logs : AreGoodLogs split.instance rows gathered.logs.items
   pub dead : All (λ (log : LogState). All (IsDeadCount split.instance) log.lines) gathered.logs.items

@@ -33,8 +33,8 @@ abbrev pub all_published : List WorkerEnd → List KnownRow
 all_published [] = []
 all_published (e ∷ ends) = e.published ++ all_published ends
 
-abbrev pub end_of : World → WorkerEnd
-end_of w = record { log = w.log; copied = w.shared.copied; published = w.shared.published }
+abbrev pub end_of_world : World → WorkerEnd
+end_of_world w = record { log = w.log; copied = w.shared.copied; published = w.shared.published }
 
 -- what a worker leaves is what its seat knows
 pub record IsSeatEnd (v : PoolView) (e : WorkerEnd) : Type 0 where

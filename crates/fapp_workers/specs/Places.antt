@@ -16,11 +16,11 @@ use Rattle.pool_rows.specs.Copying.{all_known}
 use Rattle.fapp_workers.specs.Ends.{IsWorkerEnd, WorkerEnd}
 use Rattle.steal_ring.specs.declared.hand.Hand.{Hand}
 use Rattle.steal_ring.specs.declared.seat.Ring.{Ring}
-use Rattle.steal_ring.specs.Hands.{won_of, IsDone as IsAtEnd, IsHandOf, IsSameHand}
+use Rattle.steal_ring.specs.Hands.{won_of, IsHandDone as IsAtEnd, IsHandOf, IsSameHand}
 use Rattle.fapp_workers.specs.declared.job.Done.{Done}
 use Rattle.fapp_workers.specs.declared.place.Place.{Place}
 use Rattle.fapp_workers.specs.SharedBounds.{least_offer}
-use Rattle.fapp_workers.specs.Works.{IsDone, branches_in, ids_of, ticks_in}
+use Rattle.fapp_workers.specs.Works.{IsJobDone, branches_in, ids_of, ticks_in}
 
 -- a seat of the instance's pool that has published nothing
 pub record IsUnpublished (instance : Instance) (seat : PoolSeat) : Type 0 where
@@ -39,7 +39,7 @@ pub record IsSeated (split : Split) (word : BestWord) (pool : Pool) (place : Pla
   pub right : IsKeptRight split.instance place.log.best
 
 -- no job was done yet
-pub record Stands (split : Split) (ring : Ring) (word : BestWord) (pool : Pool) (place : Place) : Type 0 where
+pub record IsFreshPlace (split : Split) (ring : Ring) (word : BestWord) (pool : Pool) (place : Place) : Type 0 where
   pub hand : IsHandOf ring place.hand
   pub nothing : won_of place.hand ≡ []
   pub seated : IsSeated split word pool place
@@ -59,7 +59,7 @@ pub record IsWorkOf (split : Split) (fuel : ℕ) (hand : Hand) (seat : BestSeat)
   pub right : IsKeptRight split.instance log.best
   pub kept : IsLeastOffered log.best (least_offer (view_of seat).offers)
   pub branches : branches_in log.lines ≤ ticks_in done
-  pub each : All (IsDone split fuel copied log.lines (view_of seat).least) done
+  pub each : All (IsJobDone split fuel copied log.lines (view_of seat).least) done
 
 -- what a worker owns came back, and where memory sufficed its jobs are done
 pub record IsTended (split : Split) (fuel : ℕ) (ring : Ring) (word : BestWord) (pool : Pool) (old new : Place) : Type 0 where

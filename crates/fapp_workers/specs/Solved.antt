@@ -8,7 +8,7 @@ use Rattle.fapp_workers.specs.SharingLaws.{AreGoodLogsOver}
 use Rattle.fapp_workers.specs.Gathered.{IsLeastWord}
 use Rattle.steal_ring.specs.Jobs.{times}
 use Rattle.fapp_workers.specs.declared.closing.Work.{Work}
-use Rattle.fapp_workers.specs.Works.{IsDone, branches_in, ids_of, ticks_in}
+use Rattle.fapp_workers.specs.Works.{IsJobDone, branches_in, ids_of, ticks_in}
 
 abbrev pub works_logs : List Work → List LogState
 works_logs works = map (λ (work : Work). work.log) works
@@ -20,7 +20,7 @@ times_done job works = sum_by (λ (work : Work). times job (ids_of work.done.ite
 -- a worker's log shows its jobs, for the final word, over the rows of all
 pub record IsWorkFor (split : Split) (fuel word : ℕ) (rows : List KnownRow) (work : Work) : Type 0 where
   pub branches : branches_in work.log.lines ≤ ticks_in work.done.items
-  pub each : All (IsDone split fuel rows work.log.lines word) work.done.items
+  pub each : All (IsJobDone split fuel rows work.log.lines word) work.done.items
 
 -- each job was done once, as a log shows; the logs are good over the rows that they call home and those that were placed; and
 -- the word is the least cost that a log keeps

@@ -12,14 +12,14 @@ use Rattle.nogood.specs.declared.row.Row.{Row}
 use Rattle.pool_rows.specs.Copying.{all_known}
 use Rattle.search_log.specs.NumberedRows.{numbered_rows}
 use Rattle.fapp_workers.specs.FirstRows.{AreTwins}
-use Rattle.fapp_workers.specs.Places.{Stands, hands_of, pool_seats_of, seats_of}
+use Rattle.fapp_workers.specs.Places.{IsFreshPlace, hands_of, pool_seats_of, seats_of}
 
 -- A ring of the plan's jobs, whose hands stand by their numbers; a word and a pool, whose shares are whole; a first seat of the
 -- pool that has published some rows, each under its place; and a place for each worker, at which nothing was done.
 pub record IsDealtOut (split : Split) (workers : ℕ) (rows : List Row) (dealt : Dealt) : Type 0 where
   pub jobs : dealt.ring.jobs ≡ job_count split.instance split.split
   pub count : length dealt.places.items ≡ workers
-  pub stand : All (Stands split dealt.ring dealt.word dealt.pool) dealt.places.items
+  pub stand : All (IsFreshPlace split dealt.ring dealt.word dealt.pool) dealt.places.items
   pub hands : IsDealt (job_count split.instance split.split) (hands_of dealt.places.items)
   pub hand_shares : shares_of (hands_of dealt.places.items) ≡ WHOLE_SHARE
   pub seat_shares : seat_shares (seats_of dealt.places.items) ≡ WHOLE_SHARE

@@ -36,7 +36,7 @@ abbrev pub IsLevelWithinFuel : Split → ℕ → ℕ → Type 0
 IsLevelWithinFuel split fuel level = All (λ prefix. IsWithinFuel split.instance level prefix fuel) (prefixes split.instance split.split)
 
 -- a run of all jobs, and its verdict
-pub record IsSolved (split : Split) (fuel : ℕ) (rows : List KnownRow) (logs : List LogState) (word arcs : ℕ) (outcomes : List Placed) (verdict : Verdict) : Type 0 where
+pub record IsSolvedRun (split : Split) (fuel : ℕ) (rows : List KnownRow) (logs : List LogState) (word arcs : ℕ) (outcomes : List Placed) (verdict : Verdict) : Type 0 where
   pub valid : IsInstance split.instance
   pub shown : IsTrue (is_shown (levels_of split.instance) (triple_from word))
   pub settled : AreSettled split fuel rows logs word outcomes
@@ -64,7 +64,7 @@ pub record IsOpenFor (split : Split) (fuel : ℕ) (best : Triple) (lower : Tag) 
 
 abbrev pub OpenSaysSo : Type 0
 OpenSaysSo = (split : Split) (fuel : ℕ) (rows : List KnownRow) (logs : List LogState) (word arcs : ℕ) (outcomes : List Placed) (best : Triple) (lower : Tag) (level : ℕ) (prefix : List Literal) →
-    IsSolved split fuel rows logs word arcs outcomes (Open best lower level prefix) → IsOpenFor split fuel best lower level prefix
+    IsSolvedRun split fuel rows logs word arcs outcomes (Open best lower level prefix) → IsOpenFor split fuel best lower level prefix
 
 -- Fuel enough for one level: that of the least cost, or the last where no assignment meets the imperative records.
 abbrev pub IsEnough : Split → ℕ → Type 0
@@ -73,4 +73,4 @@ IsEnough split fuel = ((plan : List ℕ) × Least split.instance plan × IsLevel
 
 abbrev pub EnoughSettles : Type 0
 EnoughSettles = (split : Split) (fuel : ℕ) (rows : List KnownRow) (logs : List LogState) (word arcs : ℕ) (outcomes : List Placed) (best : Triple) (lower : Tag) (level : ℕ) (prefix : List Literal) →
-    IsEnough split fuel → IsSolved split fuel rows logs word arcs outcomes (Open best lower level prefix) → ⊥
+    IsEnough split fuel → IsSolvedRun split fuel rows logs word arcs outcomes (Open best lower level prefix) → ⊥

@@ -12,7 +12,7 @@ use Rattle.fapp_workers.specs.Outcomes.{AreTicksOf, IsJobSettledBy}
 use Rattle.search_log.specs.declared.job.Outcome.{Outcome}
 use Rattle.search_log.specs.declared.job.Outcome.TheVariants.{Refuted, Moot, Spent}
 use Rattle.steal_ring.specs.declared.hand.Hand.{Hand}
-use Rattle.steal_ring.specs.Hands.{won_of, IsDone as IsAtEnd}
+use Rattle.steal_ring.specs.Hands.{won_of, IsHandDone as IsAtEnd}
 use Rattle.fapp_workers.specs.declared.job.Done.{Done}
 use Rattle.fapp_workers.specs.Jobs.{AreDecided, Held, IsGivenUp}
 
@@ -52,7 +52,7 @@ IsAllTaken fuel (Moot seen) ticks = Unit {0}
 IsAllTaken fuel Spent ticks = ticks ≡ fuel
 
 -- a job is settled by what the log and the rows say, for the given word and so (a law) for each lower one, within its fuel and tries
-pub record IsDone (split : Split) (fuel : ℕ) (rows : List KnownRow) (lines : List LogLine) (word : ℕ) (done : Done) : Type 0 where
+pub record IsJobDone (split : Split) (fuel : ℕ) (rows : List KnownRow) (lines : List LogLine) (word : ℕ) (done : Done) : Type 0 where
   pub inside : done.id < job_count split.instance split.split
   pub settled : IsJobSettledBy split fuel done.id rows lines word done.outcome
   pub ticks : AreTicksOf split fuel done.id done.ticks
@@ -66,7 +66,7 @@ pub record IsLogClause (split : Split) (fuel : ℕ) (old new : Held) (done : Lis
   pub right : IsKeptRight split.instance old.log.best → IsKeptRight split.instance new.log.best
   pub lines : Gains old.log.lines new.log.lines
   pub branches : branches_in new.log.lines ≤ branches_in old.log.lines + ticks_in done
-  pub each : All (IsDone split fuel new.shared.copied new.log.lines (floor new.bound)) done
+  pub each : All (IsJobDone split fuel new.shared.copied new.log.lines (floor new.bound)) done
 
 -- Want of memory ended the call: some jobs were decided, one after another, and the hand was given these and at most one more.
 pub record IsCutShort (split : Split) (fuel : ℕ) (was now : List ℕ) (old new : Held) : Type 0 where

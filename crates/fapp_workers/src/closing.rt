@@ -6,7 +6,7 @@ ghost use Rattle.nogood_pool.specs.Dealt.{shares_of as pool_shares};
 ghost use Rattle.nogood_pool.specs.Seats.{view_of as pool_view, IsSeatOf as IsPoolSeatOf};
 ghost use Rattle.steal_ring.specs.Hands.{shares_of, IsDealt, IsHandOf};
 ghost use Rattle.fapp_workers.specs.Places.{IsFinished, hands_of, pool_seats_of, seats_of};
-ghost use Rattle.fapp_workers.specs.Closings.{kept_by, kept_of, IsClosed};
+ghost use Rattle.fapp_workers.specs.Closings.{kept_by, kept_of, IsClosedRun};
 
 use crate::job::Done;
 use crate::place::Place;
@@ -83,7 +83,7 @@ pub(crate) fn close(
     requires seat_shares { seat_shares (seats_of places.items) ≡ WHOLE_SHARE }
     requires pool_shares { (pool_view first).share + pool_shares (pool_seats_of places.items) ≡ WHOLE_SHARE }
     requires finished { All IsFinished places.items }
-    ensures { IfOk result (λ closed. IsClosed ring.jobs (pool_view first) places.items closed.0.items closed.1.code) }
+    ensures { IfOk result (λ closed. IsClosedRun ring.jobs (pool_view first) places.items closed.0.items closed.1.code) }
 {
     let parts = take_apart(alloc, places)?;
     ring.close(parts.hands);

@@ -1,7 +1,7 @@
 // Rows that stand in the pool before the workers start.
 ghost use Rattle.std.specs.Prelude.{◌≡◌, ◌≤◌, [], length, IfOk};
 ghost use Rattle.seat_laws.specs.declared.TheConstants.{WHOLE_SHARE};
-ghost use Rattle.nogood_pool.specs.Seats.{view_of, instance_of, IsSeatOf};
+ghost use Rattle.nogood_pool.specs.Seats.{view_of, instance_seen, IsSeatOf};
 ghost use Rattle.pool_rows.specs.Copying.{all_known};
 ghost use Rattle.search_log.specs.NumberedRows.{numbered_rows};
 ghost use Rattle.fapp_workers.specs.FirstRows.{ArePublishable, AreTwins};
@@ -23,7 +23,7 @@ pub(crate) fn publish_first(
     requires share { (view_of seat.old).share ≡ WHOLE_SHARE }
     requires fresh { ((view_of seat.old).published ≡ []) × ((view_of seat.old).counter ≡ 0) }
     requires room { length first.now ≤ pool.now.rows }
-    requires rows { ArePublishable (instance_of pool.now) first.now }
+    requires rows { ArePublishable (instance_seen pool.now) first.now }
     ensures own { IsSeatOf pool.now seat.new }
     ensures share { (view_of seat.new).share ≡ WHOLE_SHARE }
     ensures published { IfOk result (λ placed. all_known (view_of seat.new).published ≡ numbered_rows first.now) }

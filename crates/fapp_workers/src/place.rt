@@ -1,7 +1,7 @@
 // What a worker owns, which goes to a thread and comes back.
 ghost use Rattle.std.specs.Prelude.{◌≡◌, ℕ, ◌<◌, ◌≤◌, All, IfOk, length, slice_index_or};
 ghost use Rattle.fapp_model.specs.search.Jobs.{job_count};
-ghost use Rattle.fapp_workers.specs.Places.{IsTended, Stands};
+ghost use Rattle.fapp_workers.specs.Places.{IsTended, IsFreshPlace};
 
 use crate::bound::SharedBound;
 use crate::job::Done;
@@ -45,7 +45,7 @@ fn tend<G: Gate>(
     requires arcs { arcs.now ≡ tables.now }
     requires plan { plan.now.instance ≡ tables.now }
     requires jobs { ring.now.jobs ≡ job_count plan.now.instance plan.now.split }
-    requires stands { Stands plan.now ring.now word.now pool.now place }
+    requires stands { IsFreshPlace plan.now ring.now word.now pool.now place }
     ensures { IsTended plan.now fuel ring.now word.now pool.now place result }
 {
     let Place {
@@ -97,7 +97,7 @@ pub(crate) fn tend_all<R: Threads + Sync, G: Gate>(
     requires arcs { arcs.now ≡ tables.now }
     requires plan { plan.now.instance ≡ tables.now }
     requires jobs { ring.now.jobs ≡ job_count plan.now.instance plan.now.split }
-    requires stand { All (Stands plan.now ring.now word.now pool.now) places.items }
+    requires stand { All (IsFreshPlace plan.now ring.now word.now pool.now) places.items }
     ensures count { IfOk result (λ all. length all.items ≡ length places.items) }
     ensures each { IfOk result (λ all. (i : ℕ) (d e : _) → i < length places.items → IsTended plan.now fuel ring.now word.now pool.now (slice_index_or places.items i d) (slice_index_or all.items i e)) }
 {
@@ -105,7 +105,7 @@ pub(crate) fn tend_all<R: Threads + Sync, G: Gate>(
         rt,
         places,
         &|place: Place| -> Place
-            requires { (arcs.now ≡ tables.now) × (plan.now.instance ≡ tables.now) × (ring.now.jobs ≡ job_count plan.now.instance plan.now.split) × Stands plan.now ring.now word.now pool.now place }
+            requires { (arcs.now ≡ tables.now) × (plan.now.instance ≡ tables.now) × (ring.now.jobs ≡ job_count plan.now.instance plan.now.split) × IsFreshPlace plan.now ring.now word.now pool.now place }
             ensures { IsTended plan.entry.now fuel ring.entry.now word.entry.now pool.entry.now place result }
         {
             tend(

@@ -4,7 +4,7 @@ ghost use Rattle.std.specs.Option.{ForSome};
 ghost use Rattle.fapp_model.specs.Least.{IsFeasible};
 ghost use Rattle.fapp_workers.specs.Begun.{IsStartUsed};
 ghost use Rattle.search_log.specs.NumberedRows.{numbered_rows};
-ghost use Rattle.fapp_workers.specs.Collections.{IsGathered, IsGatheredOver, IsPutByWorkers};
+ghost use Rattle.fapp_workers.specs.Collections.{IsGatheredRun, IsGatheredOver, IsPutByWorkers};
 ghost use Rattle.fapp_workers.specs.FirstRows.{ArePublishable, AreTwins};
 ghost use Rattle.fapp_workers.specs.Ranges.{AreInRange};
 ghost use Rattle.fapp_workers.specs.Solved.{AreSolved, works_logs};
@@ -143,7 +143,7 @@ pub fn solve_jobs<R: Threads + Sync, G: Gate>(
     requires arcs { arcs.now ≡ tables.now }
     requires plan { plan.now.instance ≡ tables.now }
     requires settings { AreInRange settings.now }
-    ensures gathered { IfOk result (IsGathered plan.now settings.now.fuel) }
+    ensures gathered { IfOk result (IsGatheredRun plan.now settings.now.fuel) }
     ensures put { IfOk result (IsPutByWorkers plan.now settings.now.workers settings.now.fuel) }
 {
     let (gathered, _) = solve_rows(rt, alloc, tables, arcs, plan, settings, &[], None, gate)?;

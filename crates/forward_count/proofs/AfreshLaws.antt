@@ -19,9 +19,9 @@ use Rattle.fapp_tables.specs.Measures.{coded_part}
 use Rattle.nogood.specs.Partials.{choice_given}
 use Rattle.choice_counts.specs.Counts.{pair_tally, slot_part, tally_of, tallies_of}
 use Rattle.choice_counts.specs.declared.rows.TheConstants.{HARD}
-use Rattle.choice_counts.specs.CountedSums.{IsBound, IsCalm, RemainsAt}
+use Rattle.choice_counts.specs.CountedSums.{IsCountedSum, IsCalm, RemainsAt}
 use Rattle.choice_counts.specs.ForwardStates.{ForwardState}
-use Rattle.choice_counts.specs.Tallies.{least_of, least_part}
+use Rattle.choice_counts.specs.Tallies.{least_of_tallies, least_part}
 use Rattle.choice_counts.proofs.Bounds.{few_literals}
 use Rattle.choice_counts.proofs.BySlots.{by_neighbours}
 use Rattle.choice_counts.proofs.Least.{least_push}
@@ -48,10 +48,10 @@ module _ (instance : Instance) (level : ℕ) (pushed : List Literal) (slots : Li
       let tally : n ≡ tally_of instance level arc pushed a = known arc here ∙ (ap (λ m. tally_of instance level arc [] a + m) (sym sums) ∙ sym (tally_sum instance level arc pushed a)) in
       subst (λ (s : ForwardState). n ≡ tally_of s.instance s.level arc s.pushed a) e tally
 
-pub least_map : (f : ℕ → ℕ) (n t w u : ℕ) → t ≡ least_of (map f (range_with_len 0 n)) → w ≡ f n → u ≡ min t w → u ≡ least_of (map f (range_with_len 0 (n + 1)))
+pub least_map : (f : ℕ → ℕ) (n t w u : ℕ) → t ≡ least_of_tallies (map f (range_with_len 0 n)) → w ≡ f n → u ≡ min t w → u ≡ least_of_tallies (map f (range_with_len 0 (n + 1)))
 least_map f n t w u before tally e =
-    e ∙ (ap (λ x. min x w) before ∙ (ap (min (least_of (map f (range_with_len 0 n)))) tally
-    ∙ (sym (least_push (map f (range_with_len 0 n)) (f n)) ∙ ap least_of (sym (map-range_with_len_more f 0 n n (zero-add n))))))
+    e ∙ (ap (λ x. min x w) before ∙ (ap (min (least_of_tallies (map f (range_with_len 0 n)))) tally
+    ∙ (sym (least_push (map f (range_with_len 0 n)) (f n)) ∙ ap least_of_tallies (sym (map-range_with_len_more f 0 n n (zero-add n))))))
 
 -- what is kept of the fields is so of the state that callers see
 pub seen : (instance : Instance) (level : ℕ) (pushed : List Literal) (slots : List (Option ℕ)) → IsAfresh instance level pushed slots → (st : ForwardState) → record { instance = instance; level = level; pushed = pushed } ≡ st → IsAfresh st.instance st.level st.pushed slots
@@ -71,7 +71,7 @@ module _ (instance : Instance) (level : ℕ) (pushed : List Literal) (slots : Li
         λ r. lt-ltb n HARD (omega (arith, tally, remains-tally instance level test.0 test.1 f.valid within pushed f.partial a r)),
       )
 
-  pub left_is : (path n : ℕ) → is_some (choice_given slots path) ≡ false → ((arc : Literal → Bool) → IsArcs instance level arc → n ≡ least_of (tallies_of instance level arc pushed path)) → IsTrue (ltb n HARD) ↔ HasLeft instance level pushed path
+  pub left_is : (path n : ℕ) → is_some (choice_given slots path) ≡ false → ((arc : Literal → Bool) → IsArcs instance level arc → n ≡ least_of_tallies (tallies_of instance level arc pushed path)) → IsTrue (ltb n HARD) ↔ HasLeft instance level pushed path
   left_is path n free known =
       let least = known test.0 test.1 in
       let unset : names pushed path ≡ false = sym (named instance pushed slots f.held path) ∙ free in (
@@ -122,12 +122,12 @@ module _ (instance : Instance) (level : ℕ) (pushed : List Literal) (slots : Li
   few_pushed = omega (arith, few_literals instance pushed f.partial, f.valid.few_paths)
 
   pub sum_is : IsCalm instance level pushed → (twice half least n : ℕ) → ((arc : Literal → Bool) → IsArcs instance level arc → twice ≡ sum_by (tally_of instance level arc pushed) pushed) →
-      ((arc : Literal → Bool) → IsArcs instance level arc → least ≡ over_open instance pushed (λ path. least_part (least_of (tallies_of instance level arc pushed path)))) →
-      half ≡ twice / 2 → n ≡ half + least → IsBound instance level pushed n
+      ((arc : Literal → Bool) → IsArcs instance level arc → least ≡ over_open instance pushed (λ path. least_part (least_of_tallies (tallies_of instance level arc pushed path)))) →
+      half ≡ twice / 2 → n ≡ half + least → IsCountedSum instance level pushed n
   sum_is calm twice half least n tallies open_tallies halved e =
       let arcs = arcs-of instance level f.valid in
       let is = bound_is instance level arcs.0 arcs.1 pushed f.valid low f.partial calm in
       let doubled = tallies arcs.0 arcs.1 ∙ tallies_inside instance level arcs.0 arcs.1 f.valid low pushed f.partial calm in
       let rest = open_tallies arcs.0 arcs.1 in
       let same : inside instance (coded_part level) pushed + least_sum instance level arcs.0 arcs.1 pushed ≡ n = omega (arith, doubled, halved, rest, e) in
-      subst (IsBound instance level pushed) same is
+      subst (IsCountedSum instance level pushed) same is

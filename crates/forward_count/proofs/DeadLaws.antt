@@ -15,7 +15,7 @@ use Rattle.fapp_tables.specs.Measures.{pair_code}
 use Rattle.dead_laws.proofs.DeadTests.{arcs-of}
 use Rattle.choice_counts.specs.declared.rows.PathTallies.{PathTallies}
 use Rattle.choice_counts.specs.declared.totals.Totals.{Totals}
-use Rattle.choice_counts.specs.CountedSums.{IsBound, IsCalm}
+use Rattle.choice_counts.specs.CountedSums.{IsCountedSum, IsCalm}
 use Rattle.choice_counts.specs.ForwardStates.{ForwardState}
 use Rattle.choice_counts.proofs.Bounds.{inside_small}
 use Rattle.choice_counts.proofs.Calm.{bound_is}
@@ -41,7 +41,7 @@ module _ (instance : Instance) (level : ℕ) (pushed : List Literal) (slots : Li
   pub here_calm : IsCalm instance level pushed → (totals.conflicts ≡ 0) × (totals.open_paths.stuck ≡ 0)
   here_calm calm = calm_kept instance f.valid level within pushed f.partial slots rows totals f.kept calm
 
-  pub bound_here : IsCalm instance level pushed → IsBound instance level pushed (totals.twice_inside / 2 + totals.open_paths.least)
+  pub bound_here : IsCalm instance level pushed → IsCountedSum instance level pushed (totals.twice_inside / 2 + totals.open_paths.least)
   bound_here calm =
       let even : totals.twice_inside / 2 * 2 ≡ totals.twice_inside = omega (arith, f.kept.counted.twice_inside) in
       kept_bound instance f.valid level within pushed f.partial slots rows totals f.kept calm (totals.twice_inside / 2) (totals.twice_inside / 2 + totals.open_paths.least) even refl
@@ -68,7 +68,7 @@ module _ (instance : Instance) (code : ℕ) (pushed : List Literal) (valid : IsI
     | inr dead ↦ dead
   ]
 
-  module _ (above : code ≡ 0 → ⊥) (n : ℕ) (calm : IsCalm instance (mode_level (triple_from code)) pushed) (bound : IsBound instance (mode_level (triple_from code)) pushed n) where
+  module _ (above : code ≡ 0 → ⊥) (n : ℕ) (calm : IsCalm instance (mode_level (triple_from code)) pushed) (bound : IsCountedSum instance (mode_level (triple_from code)) pushed n) where
     law : Dead instance (triple_from code) pushed ↔ ((triple_from code ≡ least_tag) ⊎ (IsTrue (has_limit (triple_from code)) × (pair_code (limit_of (triple_from code)) ≤ n)))
     law = dead_is_over_bound instance (triple_from code) pushed n valid tag partial calm bound
 

@@ -13,7 +13,7 @@ use Rattle.choice_counts.specs.declared.totals.Totals.{Totals}
 use Rattle.choice_counts.specs.Counts.{tally_of, tallies_of}
 use Rattle.choice_counts.specs.CountedSums.{IsLeastSum, RemainsAt}
 use Rattle.choice_counts.specs.ForwardStates.{ForwardState}
-use Rattle.choice_counts.specs.Tallies.{least_of, tallies_at, tally_at}
+use Rattle.choice_counts.specs.Tallies.{least_of_tallies, tallies_at, tally_at}
 use Rattle.choice_counts.proofs.Coded.{added_code}
 use Rattle.choice_counts.proofs.DeadByBound.{level_few}
 use Rattle.choice_counts.proofs.Remaining.{least-found, none-left, remains-tally, tally-low, tally-remains}
@@ -35,7 +35,7 @@ module _ (instance : Instance) (level : ℕ) (pushed : List Literal) (slots : Li
   tally_read : (path choice : ℕ) → path < length instance.paths → choice < count_at instance path → tally_at (tallies_at rows path).tallies choice ≡ tally_of instance level f.kept.arc pushed (literal path choice)
   tally_read path choice below small = ap (λ (rs : List PathTallies). tally_at (tallies_at rs path).tallies choice) f.kept.counted.rows_are ∙ tally_is instance level f.kept.arc pushed path choice below small
 
-  least_read : (path : ℕ) → path < length instance.paths → (tallies_at rows path).least ≡ least_of (tallies_of instance level f.kept.arc pushed path)
+  least_read : (path : ℕ) → path < length instance.paths → (tallies_at rows path).least ≡ least_of_tallies (tallies_of instance level f.kept.arc pushed path)
   least_read path below = ap (λ (rs : List PathTallies). (tallies_at rs path).least) f.kept.counted.rows_are ∙ ap (λ (r : PathTallies). r.least) (row_is instance level f.kept.arc pushed path below)
 
   -- ---- by the state that callers see
@@ -79,13 +79,13 @@ module _ (instance : Instance) (level : ℕ) (pushed : List Literal) (slots : Li
     pub least_some : (path : ℕ) → path < length st.instance.paths → (n : ℕ) → n ≡ (tallies_at rows path).least → n < HARD → IsLeastSum st.instance st.level st.pushed path (Some n)
     least_some path below n is low =
         let here : path < length instance.paths = subst (λ (s : ForwardState). path < length s.instance.paths) (sym e) below in
-        let least : n ≡ least_of (tallies_of instance level f.kept.arc pushed path) = is ∙ least_read path here in
+        let least : n ≡ least_of_tallies (tallies_of instance level f.kept.arc pushed path) = is ∙ least_read path here in
         let found = least-found instance level f.kept.arc f.kept.arcs f.valid within pushed f.partial path (omega (arith, least, low)) in
         subst (λ (s : ForwardState). IsLeastSum s.instance s.level s.pushed path (Some n)) e (found.0, found.1, least ∙ found.2)
 
     pub least_none : (path : ℕ) → path < length st.instance.paths → (n : ℕ) → n ≡ (tallies_at rows path).least → HARD ≤ n → IsLeastSum st.instance st.level st.pushed path None
     least_none path below n is high =
         let here : path < length instance.paths = subst (λ (s : ForwardState). path < length s.instance.paths) (sym e) below in
-        let least : n ≡ least_of (tallies_of instance level f.kept.arc pushed path) = is ∙ least_read path here in
+        let least : n ≡ least_of_tallies (tallies_of instance level f.kept.arc pushed path) = is ∙ least_read path here in
         subst (λ (s : ForwardState). IsLeastSum s.instance s.level s.pushed path None) e
         (none-left instance level f.kept.arc f.kept.arcs f.valid within pushed f.partial path (omega (arith, least, high)))

@@ -6,7 +6,7 @@ use Rattle.std.proofs.lemmas.Grind.{get_or_default_zero}
 use Rattle.std.proofs.lemmas.List.{get_or-set_other, get_or-set_same, length-set, take_all, take_more, take_more_set}
 use Rattle.std.proofs.lemmas.List.FromFn.{fill_by_all}
 use Rattle.choice_counts.specs.declared.rows.PathTallies.{PathTallies}
-use Rattle.choice_counts.specs.Tallies.{least_of, no_tallies, tallies_at, tallies_by, tally_at}
+use Rattle.choice_counts.specs.Tallies.{least_of_tallies, no_tallies, tallies_at, tallies_by, tally_at}
 use Rattle.choice_counts.proofs.Least.{least_below, least_push, least_reached, least_small}
 use Rattle.forward_count.specs.Floors.{IsFloor}
 
@@ -35,22 +35,22 @@ mapped_more f old tallies index tally m inside e = record {
 pub mapped_all : (f : ℕ → ℕ → ℕ) (old tallies : List ℕ) (index : ℕ) → IsMapped f old tallies index → length tallies ≤ index → tallies ≡ map (λ k. f k (tally_at old k)) (range_with_len 0 (length old))
 mapped_all f old tallies index m past = fill_by_all (λ k. f k (tally_at old k)) tallies (length old) 0 m.count (λ k below. m.done k (omega (arith, m.count)))
 
-pub least_write : (tallies : List ℕ) (index tally t u : ℕ) → index < length tallies → t ≡ least_of (take index tallies) → u ≡ min t tally → u ≡ least_of (take (index + 1) (set tallies index tally))
+pub least_write : (tallies : List ℕ) (index tally t u : ℕ) → index < length tallies → t ≡ least_of_tallies (take index tallies) → u ≡ min t tally → u ≡ least_of_tallies (take (index + 1) (set tallies index tally))
 least_write tallies index tally t u inside before e =
-    e ∙ (ap (λ x. min x tally) before ∙ (sym (least_push (take index tallies) tally) ∙ ap least_of (sym (take_more_set tallies index tally inside))))
+    e ∙ (ap (λ x. min x tally) before ∙ (sym (least_push (take index tallies) tally) ∙ ap least_of_tallies (sym (take_more_set tallies index tally inside))))
 
-pub least_all : (tallies made : List ℕ) (index t : ℕ) → length tallies ≤ index → t ≡ least_of (take index tallies) → tallies ≡ made → t ≡ least_of made
-least_all tallies made index t past e same = e ∙ ap least_of (take_all index tallies past ∙ same)
+pub least_all : (tallies made : List ℕ) (index t : ℕ) → length tallies ≤ index → t ≡ least_of_tallies (take index tallies) → tallies ≡ made → t ≡ least_of_tallies made
+least_all tallies made index t past e same = e ∙ ap least_of_tallies (take_all index tallies past ∙ same)
 
 abbrev row_of : List ℕ → ℕ → PathTallies
 row_of tallies least = record { tallies = tallies; least = least }
 
-pub row_made : (tallies made : List ℕ) (t : ℕ) → tallies ≡ made → t ≡ least_of made → row_of tallies t ≡ tallies_by made
+pub row_made : (tallies made : List ℕ) (t : ℕ) → tallies ≡ made → t ≡ least_of_tallies made → row_of tallies t ≡ tallies_by made
 row_made tallies made t same e = ap (λ ws. row_of ws t) same ∙ ap (row_of made) e
 
 -- ---- floors
 
-pub floor_least : (tallies : List ℕ) → IsFloor tallies (least_of tallies)
+pub floor_least : (tallies : List ℕ) → IsFloor tallies (least_of_tallies tallies)
 floor_least tallies = record { each = least_below tallies; small = least_small tallies }
 
 -- a tally is written, and the floor lowered to it
@@ -64,7 +64,7 @@ floor_write tallies index tally floor low inside f e = record {
 }
 
 -- a floor that is a tally is the least one
-pub floor_found : (tallies : List ℕ) (floor : ℕ) → IsFloor tallies floor → Contains tallies floor → floor ≡ least_of tallies
+pub floor_found : (tallies : List ℕ) (floor : ℕ) → IsFloor tallies floor → Contains tallies floor → floor ≡ least_of_tallies tallies
 floor_found tallies floor f at =
     let here : tally_at tallies at.0 ≡ floor = sym (get_or_default_zero tallies at.0 floor at.1) ∙ at.2 in
     let up = least_below tallies at.0 at.1 in
@@ -74,9 +74,9 @@ floor_found tallies floor f at =
     ]
 
 -- the least of one tally more
-pub least_more : (tallies : List ℕ) (index t : ℕ) → index < length tallies → t ≡ least_of (take index tallies) → least_of (take (index + 1) tallies) ≡ min t (tally_at tallies index)
+pub least_more : (tallies : List ℕ) (index t : ℕ) → index < length tallies → t ≡ least_of_tallies (take index tallies) → least_of_tallies (take (index + 1) tallies) ≡ min t (tally_at tallies index)
 least_more tallies index t inside before =
-    ap least_of (take_more tallies index 0 inside) ∙ (least_push (take index tallies) (tally_at tallies index) ∙ ap (λ m. min m (tally_at tallies index)) (sym before))
+    ap least_of_tallies (take_more tallies index 0 inside) ∙ (least_push (take index tallies) (tally_at tallies index) ∙ ap (λ m. min m (tally_at tallies index)) (sym before))
 
-pub row_floor : (rows : List PathTallies) → All (λ (r : PathTallies). r.least ≡ least_of r.tallies) rows → (path : ℕ) → path < length rows → IsFloor (tallies_at rows path).tallies (tallies_at rows path).least
+pub row_floor : (rows : List PathTallies) → All (λ (r : PathTallies). r.least ≡ least_of_tallies r.tallies) rows → (path : ℕ) → path < length rows → IsFloor (tallies_at rows path).tallies (tallies_at rows path).least
 row_floor rows all path inside = subst (IsFloor (tallies_at rows path).tallies) (sym (all path no_tallies inside)) (floor_least (tallies_at rows path).tallies)

@@ -16,7 +16,7 @@ use Rattle.choice_counts.specs.declared.totals.Totals.{Totals}
 use Rattle.choice_counts.specs.ForwardStates.{ForwardState}
 use Rattle.choice_counts.specs.Kept.{AreKept}
 use Rattle.choice_counts.specs.Moves.{CanMoveAll, moved, rows_with}
-use Rattle.choice_counts.specs.Totals.{AreRows, IsOpen}
+use Rattle.choice_counts.specs.Totals.{AreRows, AreOpenPaths}
 use Rattle.choice_counts.proofs.Bounds.{distinct_push}
 use Rattle.choice_counts.proofs.DeadByBound.{level_few}
 use Rattle.choice_counts.proofs.KeptLaws.{drop_can, drop_conflicts, drop_inside, drop_slot, kept_dropped, kept_pushed, own_tally, push_can, push_conflicts, push_inside, push_slot}
@@ -55,7 +55,7 @@ module _ (instance : Instance) (level : ℕ) (pushed : List Literal) (slots : Li
   pub record IsCounted (taking : Bool) (a : Literal) (new_slots : List (Option ℕ)) (new_rows : List PathTallies) (new : Totals) : Type 0 where
     pub slots_are : new_slots ≡ slots_after taking a slots
     pub rows_are : new_rows ≡ rows_with taking instance level a rows
-    pub open_paths : IsOpen new_slots new_rows new.open_paths
+    pub open_paths : AreOpenPaths new_slots new_rows new.open_paths
     pub conflicts : new.conflicts ≡ moved taking totals.conflicts (own_tally rows a / HARD * 2)
     pub inside : new.twice_inside ≡ moved taking totals.twice_inside (own_tally rows a % HARD * 2)
 
@@ -83,7 +83,7 @@ module _ (instance : Instance) (level : ℕ) (pushed : List Literal) (slots : Li
         };
         kept = subst (λ (ss : List (Option ℕ)). AreKept instance level (pushed ++ a ∷ []) ss new_rows new) (sym step.slots_are)
             (kept_pushed instance f.valid level low pushed f.partial slots rows totals f.kept a home unset new_rows new step.rows_are
-            (subst (λ (ss : List (Option ℕ)). IsOpen ss new_rows new.open_paths) step.slots_are step.open_paths) step.conflicts step.inside);
+            (subst (λ (ss : List (Option ℕ)). AreOpenPaths ss new_rows new.open_paths) step.slots_are step.open_paths) step.conflicts step.inside);
         roomy = omega (arith, f.roomy, wider);
       }
 
@@ -119,6 +119,6 @@ module _ (instance : Instance) (level : ℕ) (pushed : List Literal) (slots : Li
           partial = partial_drop instance pushed a.path f.partial;
           kept = subst (λ (ss : List (Option ℕ)). AreKept instance level (other_paths a.path pushed) ss new_rows new) (sym step.slots_are)
               (kept_dropped instance f.valid level low pushed f.partial slots rows totals f.kept a drops_home member new_rows new step.rows_are
-              (subst (λ (ss : List (Option ℕ)). IsOpen ss new_rows new.open_paths) step.slots_are step.open_paths) step.conflicts step.inside);
+              (subst (λ (ss : List (Option ℕ)). AreOpenPaths ss new_rows new.open_paths) step.slots_are step.open_paths) step.conflicts step.inside);
           roomy = omega (arith, f.roomy, wider);
         })

@@ -14,8 +14,8 @@ use Rattle.fapp_model.specs.Records.{distance}
 use Rattle.fapp_model.specs.search.Partials.{IsLiteral, choice_of, literal}
 use Rattle.fapp_model.proofs.ChoiceLemmas.{fixed_choice, fixed_count, free_choice, free_count}
 use Rattle.arc_levels.proofs.LeftLaws.{own_number}
-use Rattle.choice_counts.specs.declared.fill.Link.{Link}
-use Rattle.choice_counts.specs.Links.{IsLink}
+use Rattle.choice_counts.specs.declared.fill.PairCells.{PairCells}
+use Rattle.choice_counts.specs.Links.{IsPairCells}
 use Rattle.choice_counts.proofs.LinkLaws.{far_tally}
 use Rattle.choice_counts.specs.Counts.{pair_tally}
 use Rattle.choice_counts.specs.Moves.{moved}
@@ -64,7 +64,7 @@ mapped_skip f old tallies index past m upto stays = record {
 }
 
 module _ (instance : Instance) (valid : IsInstance instance) (level : ℕ) (a : Literal) (home : IsLiteral instance a) (other : ℕ) (apart : a.path ≢ other) (below : other < length instance.paths)
-    (link : Link) (is : IsLink instance level a.path other link) where
+    (link : PairCells) (is : IsPairCells instance level a.path other link) where
   -- a far choice of the other path counts nothing
   far_none : (k : ℕ) → k < count_at instance other → link.far ≤ distance (choice_of instance a) (choice_of instance (literal other k)) → pair_tally instance level (literal other k) a ≡ 0
   far_none k inside from =

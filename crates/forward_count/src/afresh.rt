@@ -1,8 +1,8 @@
 ghost use Rattle.std.specs.Prelude.{◌≡◌, ◌↔◌, ◌≤◌, ◌<◌, ◌+◌, ◌*◌, ◌^◌, Bool, length, slice_index, sum_by, IsTrue, if◌then◌else◌};
 ghost use Rattle.choice_counts.specs.Counts.{pair_tally, slot_part, tally_of, tallies_of};
-ghost use Rattle.choice_counts.specs.CountedSums.{IsBound, IsCalm, RemainsAt};
+ghost use Rattle.choice_counts.specs.CountedSums.{IsCountedSum, IsCalm, RemainsAt};
 ghost use Rattle.choice_counts.specs.ForwardStates.{AreSlots};
-ghost use Rattle.choice_counts.specs.Tallies.{least_of, least_part};
+ghost use Rattle.choice_counts.specs.Tallies.{least_of_tallies, least_part};
 ghost use Rattle.dead_laws.specs.ArcLaws.{IsArcs};
 ghost use Rattle.fapp_model.specs.declared.limits.TheConstants.{MAX_PATHS};
 ghost use Rattle.fapp_model.specs.declared.literal.Literal.{Literal};
@@ -12,7 +12,7 @@ ghost use Rattle.fapp_model.specs.search.Partials.{IsLiteral, IsPartial, literal
 ghost use Rattle.fapp_model.specs.search.Weights.{over_open};
 ghost use Rattle.fapp_tables.specs.Indexes.{neighbours_of};
 ghost use Rattle.forward_count.specs.Standing.{AllHaveLeft, AllStand, HasLeft};
-ghost use Rattle.nogood.specs.Partials.{Gives, choice_given};
+ghost use Rattle.nogood.specs.Partials.{GivesChoice, choice_given};
 
 use crate::start::outside_tally;
 use crate::step::{Step, count};
@@ -27,7 +27,7 @@ use std::marker::Model;
 /// neighbour has none.
 fn slot_tally(step: &Step, partial: &Partial, place: usize) -> u64
     requires instance { IsInstance step.now.tables.now }
-    requires given { (a : Literal) → Gives partial.now a → IsLiteral step.now.tables.now a }
+    requires given { (a : Literal) → GivesChoice partial.now a → IsLiteral step.now.tables.now a }
     requires place { place < length (neighbours_of step.now.tables.now step.now.literal.path) }
     ensures tally { result ≡ slot_part (pair_tally step.now.tables.now step.now.level step.now.literal)
         (slice_index (neighbours_of step.now.tables.now step.now.literal.path) place)
@@ -113,7 +113,7 @@ impl<'a> Afresh<'a> {
     fn least(&self, path: u16) -> u64
         requires { path < length self.now.instance.paths }
         ensures { (arc : Literal → Bool) → IsArcs self.now.instance self.now.level arc →
-            result ≡ least_of (tallies_of self.now.instance self.now.level arc self.now.pushed path) }
+            result ≡ least_of_tallies (tallies_of self.now.instance self.now.level arc self.now.pushed path) }
     {
         let mut least = NO_TALLY;
         for choice in 0..count(self.tables.instance(), path) {
@@ -193,7 +193,7 @@ impl<'a> Afresh<'a> {
     fn open_part(&self, path: u16) -> u64
         requires { path < length self.now.instance.paths }
         ensures part { (arc : Literal → Bool) → IsArcs self.now.instance self.now.level arc →
-            result ≡ (if names self.now.pushed path then 0 else least_part (least_of (tallies_of self.now.instance self.now.level arc self.now.pushed path))) }
+            result ≡ (if names self.now.pushed path then 0 else least_part (least_of_tallies (tallies_of self.now.instance self.now.level arc self.now.pushed path))) }
         ensures small { result ≤ HARD }
     {
         if self.partial.get(path).is_some() {
@@ -206,7 +206,7 @@ impl<'a> Afresh<'a> {
     /// The least tallies of the paths without a literal, added.
     fn open_least(&self) -> u64
         ensures sum { (arc : Literal → Bool) → IsArcs self.now.instance self.now.level arc →
-            result ≡ over_open self.now.instance self.now.pushed (λ path. least_part (least_of (tallies_of self.now.instance self.now.level arc self.now.pushed path))) }
+            result ≡ over_open self.now.instance self.now.pushed (λ path. least_part (least_of_tallies (tallies_of self.now.instance self.now.level arc self.now.pushed path))) }
         ensures small { result ≤ MAX_PATHS * HARD }
     {
         let mut sum = 0;
@@ -220,7 +220,7 @@ impl<'a> Afresh<'a> {
     /// violations one level below times `S_SPAN` and their sum further below, at level 0 violations there.
     pub fn sum(&self) -> u64
         requires { IsCalm self.now.instance self.now.level self.now.pushed }
-        ensures { IsBound self.now.instance self.now.level self.now.pushed result }
+        ensures { IsCountedSum self.now.instance self.now.level self.now.pushed result }
     {
         // The proof opens the fields' invariant here.
         let _ = &self.tables;

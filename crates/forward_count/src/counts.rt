@@ -1,7 +1,7 @@
 ghost use Rattle.std.specs.Prelude.{◌≡◌, ◌≤◌, ◌<◌, ◌*◌, ◌/◌, ◌%◌, ◌^◌, None, Some, Option, ℕ, length, slice_set, if◌then◌else◌};
 ghost use Rattle.std.specs.Option.{is_some};
 ghost use Rattle.choice_counts.specs.Moves.{CanMove, CanMoveAll, moved, rows_with};
-ghost use Rattle.choice_counts.specs.Totals.{AreRows, IsOpen};
+ghost use Rattle.choice_counts.specs.Totals.{AreRows, AreOpenPaths};
 ghost use Rattle.choice_counts.specs.Tallies.{tallies_at, tally_at};
 ghost use Rattle.choice_counts.specs.Tables.{tallies_at};
 ghost use Rattle.fapp_model.specs.Instances.{IsInstance};
@@ -11,7 +11,7 @@ ghost use Rattle.nogood.specs.Partials.{choice_given};
 use crate::moves::move_all;
 use crate::rows::moved;
 use crate::step::Step;
-use choice_counts::{HARD, Open, PathTallies, Totals};
+use choice_counts::{HARD, OpenPaths, PathTallies, Totals};
 use choice_counts::TallyTable;
 use nogood::Partial;
 
@@ -36,12 +36,12 @@ pub fn tallies_at(rows: &[PathTallies], path: u16) -> &PathTallies
 }
 
 /// What is counted for the open paths, with the literal's path among them again or without it.
-fn reopened(step: &Step, rows: &[PathTallies], partial: &Partial, open_paths: Open) -> Open
+fn reopened(step: &Step, rows: &[PathTallies], partial: &Partial, open_paths: OpenPaths) -> OpenPaths
     requires rows { AreRows step.now.tables.now rows.now }
     requires slots { length partial.now ≡ length step.now.tables.now.paths }
     requires slot { is_some (choice_given partial.now step.now.literal.path) ≡ step.now.taking }
-    requires open { IsOpen partial.now rows.now open_paths }
-    ensures { IsOpen (slots_after step.now.taking step.now.literal partial.now) rows.now result }
+    requires open { AreOpenPaths partial.now rows.now open_paths }
+    ensures { AreOpenPaths (slots_after step.now.taking step.now.literal partial.now) rows.now result }
 {
     let least = tallies_at(rows, step.literal.path).least;
     if step.taking {
@@ -77,10 +77,10 @@ pub fn count_step(
     requires slot { is_some (choice_given partial.old step.now.literal.path) ≡ step.now.taking }
     requires can { CanMoveAll step.now.taking step.now.tables.now step.now.level step.now.literal rows.old }
     requires fits { CanCount step.now.taking totals (tally_at (tallies_at rows.old step.now.literal.path).tallies step.now.literal.choice) }
-    requires open { IsOpen partial.old rows.old totals.open_paths }
+    requires open { AreOpenPaths partial.old rows.old totals.open_paths }
     ensures slots { partial.new ≡ slots_after step.now.taking step.now.literal partial.old }
     ensures rows { rows.new ≡ rows_with step.now.taking step.now.tables.now step.now.level step.now.literal rows.old }
-    ensures open { IsOpen partial.new rows.new result.open_paths }
+    ensures open { AreOpenPaths partial.new rows.new result.open_paths }
     ensures conflicts { result.conflicts ≡ moved step.now.taking totals.conflicts
         (tally_at (tallies_at rows.old step.now.literal.path).tallies step.now.literal.choice / HARD * 2) }
     ensures inside { result.twice_inside ≡ moved step.now.taking totals.twice_inside

@@ -1,6 +1,6 @@
 ghost use Rattle.std.specs.Prelude.{◌≡◌, ◌≢◌, ◌↔◌, ◌<◌, ◌≤◌, false, length, IsTrue, IfOk, slice_index_or};
 ghost use Rattle.std.specs.List.{remove};
-ghost use Rattle.choice_counts.specs.CountedSums.{IsBound, IsCalm, IsLeastSum, RemainsAt};
+ghost use Rattle.choice_counts.specs.CountedSums.{IsCountedSum, IsCalm, IsLeastSum, RemainsAt};
 ghost use Rattle.choice_counts.specs.ForwardStates.{AreSlots, at_level, nothing_pushed, with_literals, with_pushed, without_last, without_path};
 ghost use Rattle.choice_counts.specs.Tallies.{tallies_at, tally_at};
 ghost use Rattle.fapp_model.specs.Assignments.{count_at};
@@ -275,7 +275,7 @@ impl<'a> Forward<'a> {
     /// The sum that a limit is compared with, at the level that is kept, by pairs as `sum_at` has them.
     pub fn sum(&self) -> u64
         requires { IsCalm self.now.instance self.now.level self.now.pushed }
-        ensures { IsBound self.now.instance self.now.level self.now.pushed result }
+        ensures { IsCountedSum self.now.instance self.now.level self.now.pushed result }
     {
         self.totals.twice_inside / 2 + self.totals.open_paths.least
     }
@@ -286,7 +286,7 @@ impl<'a> Forward<'a> {
     pub fn bound(&self, level: u32) -> u64
         requires level { level ≤ levels_of self.now.instance }
         requires calm { IsCalm self.now.instance level self.now.pushed }
-        ensures { IsBound self.now.instance level self.now.pushed result }
+        ensures { IsCountedSum self.now.instance level self.now.pushed result }
     {
         if level == self.level {
             self.sum()

@@ -1,8 +1,8 @@
 ghost use Rattle.std.specs.Prelude.{◌≡◌, ◌≢◌, ◌≤◌, ◌<◌, length, slice_set};
 ghost use Rattle.choice_counts.specs.Moves.{CanMoveAll, CanMoveRow, rows_with, tallies_with};
-ghost use Rattle.choice_counts.specs.Totals.{AreRows, IsOpen};
+ghost use Rattle.choice_counts.specs.Totals.{AreRows, AreOpenPaths};
 ghost use Rattle.choice_counts.specs.Tallies.{tallies_at, tallies_by};
-ghost use Rattle.choice_counts.specs.Links.{IsLink};
+ghost use Rattle.choice_counts.specs.Links.{IsPairCells};
 ghost use Rattle.choice_counts.specs.Tables.{tallies_at};
 ghost use Rattle.fapp_model.specs.Assignments.{count_at};
 ghost use Rattle.fapp_model.specs.Instances.{IsInstance};
@@ -11,8 +11,8 @@ ghost use Rattle.forward_count.specs.Floors.{IsFloor};
 
 use crate::rows::move_row;
 use crate::step::Step;
-use choice_counts::{Open, PathTallies};
-use choice_counts::{Link, TallyTable};
+use choice_counts::{OpenPaths, PathTallies};
+use choice_counts::{PairCells, TallyTable};
 use nogood::Partial;
 
 /// A row's least tally before a change and after it.
@@ -23,12 +23,12 @@ struct Change {
 }
 
 /// Changes the row of a neighbour by what a literal counts there.
-fn move_at(step: &Step, other: u16, positions: &[u32], link: &Link, rows: &mut [PathTallies]) -> Change
+fn move_at(step: &Step, other: u16, positions: &[u32], link: &PairCells, rows: &mut [PathTallies]) -> Change
     requires instance { IsInstance step.now.tables.now }
     requires apart { step.now.literal.path ≢ other }
     requires other { other < length step.now.tables.now.paths }
     requires positions { positions.now ≡ records_of step.now.tables.now step.now.literal.path other }
-    requires link { IsLink step.now.tables.now step.now.level step.now.literal.path other link.now }
+    requires link { IsPairCells step.now.tables.now step.now.level step.now.literal.path other link.now }
     requires rows { length rows.old ≡ length step.now.tables.now.paths }
     requires count { length (tallies_at rows.old other).tallies ≡ count_at step.now.tables.now other }
     requires can { CanMoveRow step.now.taking step.now.tables.now step.now.level step.now.literal other (tallies_at rows.old other).tallies }
@@ -52,25 +52,25 @@ fn refresh(
     step: &Step,
     other: u16,
     positions: &[u32],
-    link: &Link,
+    link: &PairCells,
     rows: &mut [PathTallies],
     partial: &Partial,
-    open_paths: Open,
-) -> Open
+    open_paths: OpenPaths,
+) -> OpenPaths
     requires instance { IsInstance step.now.tables.now }
     requires apart { step.now.literal.path ≢ other }
     requires other { other < length step.now.tables.now.paths }
     requires positions { positions.now ≡ records_of step.now.tables.now step.now.literal.path other }
-    requires link { IsLink step.now.tables.now step.now.level step.now.literal.path other link.now }
+    requires link { IsPairCells step.now.tables.now step.now.level step.now.literal.path other link.now }
     requires rows { length rows.old ≡ length step.now.tables.now.paths }
     requires slots { length partial.now ≡ length step.now.tables.now.paths }
     requires count { length (tallies_at rows.old other).tallies ≡ count_at step.now.tables.now other }
     requires can { CanMoveRow step.now.taking step.now.tables.now step.now.level step.now.literal other (tallies_at rows.old other).tallies }
     requires least { IsFloor (tallies_at rows.old other).tallies (tallies_at rows.old other).least }
-    requires open { IsOpen partial.now rows.old open_paths }
+    requires open { AreOpenPaths partial.now rows.old open_paths }
     ensures rows { rows.new ≡ slice_set rows.old other
         (tallies_by (tallies_with step.now.taking step.now.tables.now step.now.level step.now.literal other (tallies_at rows.old other).tallies)) }
-    ensures open { IsOpen partial.now rows.new result }
+    ensures open { AreOpenPaths partial.now rows.new result }
 {
     let change = move_at(step, other, positions, link, rows);
     if partial.get(other).is_some() {
@@ -86,16 +86,16 @@ pub fn move_all(
     tallies: &TallyTable,
     rows: &mut [PathTallies],
     partial: &Partial,
-    open_paths: Open,
-) -> Open
+    open_paths: OpenPaths,
+) -> OpenPaths
     requires tallies { tallies.now ≡ tallies_at step.now.tables.now step.now.level }
     requires instance { IsInstance step.now.tables.now }
     requires rows { AreRows step.now.tables.now rows.old }
     requires slots { length partial.now ≡ length step.now.tables.now.paths }
     requires can { CanMoveAll step.now.taking step.now.tables.now step.now.level step.now.literal rows.old }
-    requires open { IsOpen partial.now rows.old open_paths }
+    requires open { AreOpenPaths partial.now rows.old open_paths }
     ensures rows { rows.new ≡ rows_with step.now.taking step.now.tables.now step.now.level step.now.literal rows.old }
-    ensures open { IsOpen partial.now rows.new result }
+    ensures open { AreOpenPaths partial.now rows.new result }
 {
     let path = step.literal.path;
     let neighbours = step.tables.neighbours(path);

@@ -1,7 +1,7 @@
 ghost use Rattle.std.specs.Prelude.{◌≡◌, ◌≢◌, ◌≤◌, ◌<◌, ◌^◌, length, min, slice_set};
 ghost use Rattle.choice_counts.specs.Moves.{CanMove, CanMoveRow, moved, tallies_with};
-ghost use Rattle.choice_counts.specs.Tallies.{least_of, tallies_by, tally_at};
-ghost use Rattle.choice_counts.specs.Links.{IsLink};
+ghost use Rattle.choice_counts.specs.Tallies.{least_of_tallies, tallies_by, tally_at};
+ghost use Rattle.choice_counts.specs.Links.{IsPairCells};
 ghost use Rattle.fapp_model.specs.Assignments.{count_at};
 ghost use Rattle.fapp_model.specs.Instances.{IsInstance};
 ghost use Rattle.fapp_tables.specs.Indexes.{records_of};
@@ -10,7 +10,7 @@ ghost use Rattle.forward_count.specs.Floors.{IsFloor};
 use crate::step::Step;
 use crate::window::first_within;
 use choice_counts::{NO_TALLY, PathTallies, Tallies};
-use choice_counts::Link;
+use choice_counts::PairCells;
 use fapp_model::{choice_at, choice_count};
 
 /// A tally with a pair's taken away, or added.
@@ -63,11 +63,11 @@ fn move_by_records(step: &Step, tallies: &mut Tallies, positions: &[u32], other:
 /// Takes from the tallies of a neighbour what a literal counts there, or adds it, by the cells of the two paths: only the choices
 /// that are less than the link's far distance from the literal's are looked at. Answers a floor of theirs, from one that they
 /// had.
-fn move_by_cells(step: &Step, tallies: &mut Tallies, link: &Link, other: u16, floor: u64) -> u64
+fn move_by_cells(step: &Step, tallies: &mut Tallies, link: &PairCells, other: u16, floor: u64) -> u64
     requires instance { IsInstance step.now.tables.now }
     requires apart { step.now.literal.path ≢ other }
     requires other { other < length step.now.tables.now.paths }
-    requires link { IsLink step.now.tables.now step.now.level step.now.literal.path other link.now }
+    requires link { IsPairCells step.now.tables.now step.now.level step.now.literal.path other link.now }
     requires some { 0 < length link.now.cells }
     requires count { length tallies.old ≡ count_at step.now.tables.now other }
     requires can { CanMoveRow step.now.taking step.now.tables.now step.now.level step.now.literal other tallies.old }
@@ -96,7 +96,7 @@ fn move_by_cells(step: &Step, tallies: &mut Tallies, link: &Link, other: u16, fl
 fn least_from(tallies: &mut Tallies, floor: u64) -> u64
     requires { IsFloor tallies.old floor }
     ensures tallies { tallies.new ≡ tallies.old }
-    ensures least { result ≡ least_of tallies.old }
+    ensures least { result ≡ least_of_tallies tallies.old }
 {
     if tallies.has_marked(floor) {
         return floor;
@@ -119,12 +119,12 @@ fn least_from(tallies: &mut Tallies, floor: u64) -> u64
 }
 
 /// Takes from the row of a neighbour what a literal counts there, or adds it.
-pub fn move_row(step: &Step, row: &mut PathTallies, positions: &[u32], link: &Link, other: u16)
+pub fn move_row(step: &Step, row: &mut PathTallies, positions: &[u32], link: &PairCells, other: u16)
     requires instance { IsInstance step.now.tables.now }
     requires apart { step.now.literal.path ≢ other }
     requires other { other < length step.now.tables.now.paths }
     requires positions { positions.now ≡ records_of step.now.tables.now step.now.literal.path other }
-    requires link { IsLink step.now.tables.now step.now.level step.now.literal.path other link.now }
+    requires link { IsPairCells step.now.tables.now step.now.level step.now.literal.path other link.now }
     requires count { length row.old.tallies ≡ count_at step.now.tables.now other }
     requires can { CanMoveRow step.now.taking step.now.tables.now step.now.level step.now.literal other row.old.tallies }
     requires least { IsFloor row.old.tallies row.old.least }

@@ -13,7 +13,7 @@ ghost use Rattle.forward_count.specs.Starts.{AreShaped};
 
 use crate::step::count;
 use arc_levels::ArcTable;
-use choice_counts::{HARD, NO_TALLY, Open, PathTallies, Totals, Tallies};
+use choice_counts::{HARD, NO_TALLY, OpenPaths, PathTallies, Totals, Tallies};
 use fapp_model::{Instance, NoMemory};
 use std::alloc::Global;
 
@@ -79,12 +79,12 @@ pub fn reset_rows(instance: &Instance, arcs: &ArcTable, level: u32, rows: &mut [
 }
 
 /// What is counted for the paths where none has a literal.
-fn open_of(rows: &[PathTallies]) -> Open
+fn open_of(rows: &[PathTallies]) -> OpenPaths
     requires { length rows.now ≤ MAX_PATHS }
     ensures stuck { result.stuck ≡ sum_by (λ row. stuck_part row.least) rows.now }
     ensures least { result.least ≡ sum_by (λ row. least_part row.least) rows.now }
 {
-    let mut open_paths = Open { stuck: 0, least: 0 };
+    let mut open_paths = OpenPaths { stuck: 0, least: 0 };
     for row in rows {
         open_paths = open_paths.with(row.least);
     }

@@ -7,7 +7,7 @@ ghost use Rattle.fapp_model.specs.Instances.{IsInstance, IsPath};
 ghost use Rattle.fapp_model.specs.search.Partials.{IsLiteral, choice_of, literal};
 ghost use Rattle.fapp_tables.specs.Indexes.{records_of};
 
-use choice_counts::Pair;
+use choice_counts::Edge;
 use fapp_model::{Choice, Instance, Literal, Path, choice_at, choice_count};
 use fapp_tables::Tables;
 
@@ -104,7 +104,7 @@ impl<'a> Step<'a> {
         ensures small { result ≤ 2 ^ 49 }
     {
         let second = self.choice_at(other, index);
-        let pair = Pair {
+        let pair = Edge {
             instance: self.tables.instance(),
             level: self.level,
             path: self.literal.path,

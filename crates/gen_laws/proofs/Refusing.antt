@@ -14,8 +14,8 @@ use Rattle.record_reader.specs.declared.cause.Cause.{Cause}
 use Rattle.record_reader.specs.declared.cause.Cause.TheVariants as causes
 use Rattle.record_reader.specs.declared.entry.PathEntry.{PathEntry}
 use Rattle.record_reader.specs.declared.entry.ConstraintEntry.{ConstraintEntry}
-use Rattle.record_reader.specs.declared.entry.Link.{Link}
-use Rattle.record_reader.specs.declared.entry.Link.TheVariants as links
+use Rattle.record_reader.specs.declared.entry.Pending.{Pending}
+use Rattle.record_reader.specs.declared.entry.Pending.TheVariants as links
 use Rattle.record_reader.specs.Contents.{Contents, Domains}
 use Rattle.record_reader.specs.Instances.{frequencies, paths_of, place_of, instance_of}
 use Rattle.record_reader.specs.Links.{choice_count, path_link_refusal, constraint_link_refusal, fault_at, or_later, first_link_refusal}
@@ -54,7 +54,7 @@ module _ (domains : Domains) (all : ℕ) (paths : List PathEntry) (known : (numb
   constraint_free : (entry : ConstraintEntry) → 1 ≤ entry.first → entry.first ≤ all → 1 ≤ entry.second → entry.second ≤ all → constraint_link_refusal paths entry ≡ None
   constraint_free entry f1 f2 s1 s2 = rw (known entry.first f1 f2, known entry.second s1 s2) refl
 
-  pub none_refused : (earlier rest : List Link) → AllByRecursion (IsMade all) rest → length (paths_of earlier) + length (paths_of rest) ≤ 2000 → first_link_refusal domains paths earlier rest ≡ None
+  pub none_refused : (earlier rest : List Pending) → AllByRecursion (IsMade all) rest → length (paths_of earlier) + length (paths_of rest) ≤ 2000 → first_link_refusal domains paths earlier rest ≡ None
   none_refused earlier [] made short = refl
   none_refused earlier (links.Path entry ∷ rest) made short =
       let free : path_link_refusal domains (paths_of earlier) entry ≡ None = path_free (paths_of earlier) entry (omega arith) made.0.0 made.0.1 in

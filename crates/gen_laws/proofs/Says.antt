@@ -13,8 +13,8 @@ use Rattle.record_reader.specs.declared.cause.Cause.{Cause}
 use Rattle.record_reader.specs.declared.cause.Cause.TheVariants as causes
 use Rattle.record_reader.specs.declared.entry.Entry.{Entry}
 use Rattle.record_reader.specs.declared.entry.Entry.TheVariants as entries
-use Rattle.record_reader.specs.declared.entry.Link.TheVariants as links
-use Rattle.record_reader.specs.declared.entry.Rule.{Rule}
+use Rattle.record_reader.specs.declared.entry.Pending.TheVariants as links
+use Rattle.record_reader.specs.declared.entry.Demand.{Demand}
 use Rattle.record_reader.specs.Fields.{number, numbers, either_word}
 use Rattle.record_reader.specs.Entries.{rises, rises_after, rule_rises, constraint, imperative, compatible, with_zeros, distances, compatible_entry, entry_of}
 use Rattle.cert_lines.specs.declared.fault.CertCause.TheVariants as certificate
@@ -43,10 +43,10 @@ pub path_says : (line path domain : ℕ) → IsNumber path → IsNumber domain
 path_says line path domain p d = rw (number_again path p, number_again domain d, decimal_digit 0 (omega arith)) refl
 
 -- a constraint of two paths
-abbrev pub between : ℕ → ℕ → Rule → ℕ → Entry
+abbrev pub between : ℕ → ℕ → Demand → ℕ → Entry
 between first second rule line = entries.Link (links.Constraint (record { line = line; first = first; second = second; rule = rule }))
 
-constraint_says : (line first second : ℕ) (rule : Rule) → first ≢ second → rule_rises rule ≡ false → constraint line first second rule ≡ Ok (between first second rule line)
+constraint_says : (line first second : ℕ) (rule : Demand) → first ≢ second → rule_rises rule ≡ false → constraint line first second rule ≡ Ok (between first second rule line)
 constraint_says line first second rule apart flat = rw (ne_eqb first second apart, flat) refl
 
 imperative_flat : (of_frequencies : Bool) (n : ℕ) → rule_rises (imperative of_frequencies true n) ≡ false

@@ -14,9 +14,9 @@ use Rattle.record_reader.specs.declared.cause.Cause.TheVariants as causes
 use Rattle.record_reader.specs.declared.entry.DomainEntry.{DomainEntry}
 use Rattle.record_reader.specs.declared.entry.PathEntry.{PathEntry}
 use Rattle.record_reader.specs.declared.entry.ConstraintEntry.{ConstraintEntry}
-use Rattle.record_reader.specs.declared.entry.Rule.{Rule}
-use Rattle.record_reader.specs.declared.entry.Link.{Link}
-use Rattle.record_reader.specs.declared.entry.Link.TheVariants as links
+use Rattle.record_reader.specs.declared.entry.Demand.{Demand}
+use Rattle.record_reader.specs.declared.entry.Pending.{Pending}
+use Rattle.record_reader.specs.declared.entry.Pending.TheVariants as links
 use Rattle.record_reader.specs.declared.entry.Entry.TheVariants as entries
 use Rattle.record_reader.specs.Contents.{Contents}
 use Rattle.record_reader.specs.Entries.{entry_of}
@@ -140,7 +140,7 @@ has_pushed : (paths : List PathEntry) (entry : PathEntry) (number : ℕ) → has
 has_pushed paths entry number = list_any-append (λ (e : PathEntry). eqb e.number number) paths (entry ∷ [])
 
 -- a path of one of the two domains, or a constraint between two of so many paths
-abbrev pub IsMade : ℕ → Link → Type 0
+abbrev pub IsMade : ℕ → Pending → Type 0
 IsMade paths (links.Path entry) = (1 ≤ entry.domain) × (entry.domain ≤ 2)
 IsMade paths (links.Constraint entry) = (1 ≤ entry.first) × (entry.first ≤ paths) × (1 ≤ entry.second) × (entry.second ≤ paths)
 
@@ -226,7 +226,7 @@ only_cause : (test : Bool) (one : Cause) → test ≡ false → ◌≡◌ {A = O
 only_cause true one e = absurd cc
 only_cause false one e = refl
 
-constraint_fits : (all records first second : ℕ) (rule : Rule) (line : ℕ) → records < 8000 → 1 ≤ first → first ≤ all → 1 ≤ second → second ≤ all → (before : Contents) → HasLinks all all records before
+constraint_fits : (all records first second : ℕ) (rule : Demand) (line : ℕ) → records < 8000 → 1 ≤ first → first ≤ all → 1 ≤ second → second ≤ all → (before : Contents) → HasLinks all all records before
     → (entry_refusal before (between first second rule line) ≡ None) × HasLinks all all (records + 1) (with_entry before (between first second rule line))
 constraint_fits all records first second rule line few f1 f2 s1 s2 before h =
     let entry : ConstraintEntry = record { line = line; first = first; second = second; rule = rule } in
@@ -245,7 +245,7 @@ constraint_fits all records first second rule line few f1 f2 s1 s2 before h =
     )
 
 -- the line of a constraint between two paths
-pub constraint_passes : (all records first second : ℕ) (rule : Rule) (word : List ℕ) (fields : List (List ℕ)) → records < 8000 → 1 ≤ first → first ≤ all → 1 ≤ second → second ≤ all → IsLine (word ∷ fields)
+pub constraint_passes : (all records first second : ℕ) (rule : Demand) (word : List ℕ) (fields : List (List ℕ)) → records < 8000 → 1 ≤ first → first ≤ all → 1 ≤ second → second ≤ all → IsLine (word ∷ fields)
     → ((line : ℕ) → entry_of LEVELS line (word ∷ fields) ≡ Ok (between first second rule line)) → Passes (HasLinks all all records) ((word ∷ fields) ∷ []) (HasLinks all all (records + 1))
 constraint_passes all records first second rule word fields few f1 f2 s1 s2 whole says =
     passes_one (HasLinks all all records) (HasLinks all all (records + 1)) word fields (between first second rule) whole says (λ before line h. constraint_fits all records first second rule line few f1 f2 s1 s2 before h)

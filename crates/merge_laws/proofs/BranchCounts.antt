@@ -15,7 +15,7 @@ use Rattle.merge_laws.specs.Certificates.{gathered}
 use Rattle.search_log.specs.GoodLogs.{all_lines, lines_of}
 use Rattle.merge_laws.specs.MergedLines.{branch_total, is_branch_path}
 use Rattle.merge_laws.specs.Pieces.{emit_piece, emit_pieces, emit_rest, emit_rests, left_to}
-use Rattle.merge_laws.specs.Stages.{Merged, done_of, emit, emit_all, emit_branch, emit_by, left_out, noted, number_of, start}
+use Rattle.merge_laws.specs.Stages.{Merged, done_of, emit, emit_all, emit_branch, emit_by, left_out, noted, merged_number, start}
 use Rattle.merge_laws.specs.Written.{written}
 use Rattle.merge_laws.proofs.StageSteps.{emit-after}
 use Rattle.merge_laws.proofs.Stretches.{from-dropped}
@@ -70,8 +70,8 @@ module _ (Q : List Line → Type 0) (grows : (out : List Line) (line : Line) →
       few =
           (let e = noted-branches s.own logs log (length s.out + 1) line true inside at (ap is_branch_path is) in
           let f = h.few in
-          let one = length_push s.out (written (number_of s log) path line) in omega arith);
-      kept = grows s.out (written (number_of s log) path line) some h.kept;
+          let one = length_push s.out (written (merged_number s log) path line) in omega arith);
+      kept = grows s.out (written (merged_number s log) path line) some h.kept;
     }
 
     by_tag : (path : ℕ) → line.path ≡ Some path → (b : Bool) → eqb line.tag.code 0 ≡ b → IsBounded Q logs begun (let m : Merged = cond b (left_out log s) (emit_branch log line path s) in m)

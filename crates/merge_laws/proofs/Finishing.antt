@@ -40,7 +40,7 @@ use Rattle.merge_laws.specs.Laws.{IsSettledAt}
 use Rattle.merge_laws.specs.Levels.{root_line}
 use Rattle.merge_laws.specs.Refuted.{number_by, prefix_number}
 use Rattle.fapp_plan.specs.Shown.{AreRefuted}
-use Rattle.merge_laws.specs.Stages.{Merged, number_of}
+use Rattle.merge_laws.specs.Stages.{Merged, merged_number}
 use Rattle.search_log.specs.GoodLogs.{lines_of}
 use Rattle.merge_laws.proofs.Beside.{above-least}
 use Rattle.merge_laws.proofs.Ruling.{IsFound, found-everywhere, job-of, root-is_tag, ruled-tag}
@@ -118,7 +118,7 @@ settled-is instance outcomes code place found = found.first
 
 module _ (instance : Instance) (split : ℕ) (outcomes : List Placed) (rows : List KnownRow) (logs : List (List LogLine)) (t : Tag) (arcs : ℕ) (own : IsTagFor instance t) (some : 0 < t.code) (count : length outcomes ≡ job_count instance split)
     (refuted : AreRefuted instance split rows logs outcomes) (above : arcs < t.code) (most : t.code ≤ lower_code instance split outcomes arcs) (s : Merged)
-    (fates : (log : ℕ) (ref : Ref) (content : Content) → Cites rows (lines_of logs log) ref content → IsFate instance s.out content (number_of s log ref)) where
+    (fates : (log : ℕ) (ref : Ref) (content : Content) → Cites rows (lines_of logs log) ref content → IsFate instance s.out content (merged_number s log ref)) where
   abbrev pub number : ℕ → ℕ
   number place = prefix_number instance outcomes t.code s place
 

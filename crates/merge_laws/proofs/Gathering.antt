@@ -18,7 +18,7 @@ use Rattle.search_log.specs.declared.piece.Piece.{Piece}
 use Rattle.merge_laws.specs.Certificates.{gathered}
 use Rattle.merge_laws.specs.Fates.{IsFate}
 use Rattle.merge_laws.specs.Pieces.{emit_pieces, emit_rest, emit_rests}
-use Rattle.merge_laws.specs.Stages.{Merged, done_of, number_of, start}
+use Rattle.merge_laws.specs.Stages.{Merged, done_of, merged_number, start}
 use Rattle.search_log.specs.GoodLogs.{lines_of}
 use Rattle.merge_laws.specs.Conditions.{AreOld}
 use Rattle.merge_laws.specs.GoodLogs.{IsPlacedIn}
@@ -97,10 +97,10 @@ module _ (instance : Instance) (rows : List KnownRow) (logs : List (List LogLine
   all-inside = All-from_members (λ log. log < length segmented.own) (range_with_len 0 (length logs)) (λ log m. let e = segmented-stage.logs_are in let l = from-range (length logs) log m in omega arith)
 
   -- what a line or a row says has its fate
-  pub cited-fate : (log : ℕ) (ref : Ref) (content : Content) → Cites rows (lines_of logs log) ref content → IsFate instance whole.out content (number_of whole log ref)
+  pub cited-fate : (log : ℕ) (ref : Ref) (content : Content) → Cites rows (lines_of logs log) ref content → IsFate instance whole.out content (merged_number whole log ref)
   cited-fate log (Own n) content (line, at, is) =
       let inside = log-inside logs log n line at in
       let done = rests-done logs (range_with_len 0 (length logs)) segmented all-inside log (in-range (length logs) log inside) in
       let small = slice_get_within (lines_of logs log) n line at in
-      subst (λ c. IsFate instance whole.out c (number_of whole log (Own n))) (sym is) (whole-stage.own log n line (omega arith) at)
+      subst (λ c. IsFate instance whole.out c (merged_number whole log (Own n))) (sym is) (whole-stage.own log n line (omega arith) at)
   cited-fate log (Row r) content m = whole-stage.row (known_row r content) m (all-done instance rows logs done pieces facts (known_row r content) m)

@@ -15,7 +15,7 @@ use Rattle.cert_lines.specs.acceptance.LineFaults.{line_fault, rejected_at}
 use Rattle.accept_laws.specs.Lines.{AreGood}
 use Rattle.accept_laws.proofs.Options.{mapped-none}
 use Rattle.search_log.specs.Contents.{Content}
-use Rattle.merge_laws.specs.Fates.{AreMarked, IsFate, Stands}
+use Rattle.merge_laws.specs.Fates.{AreMarked, IsFate, StandsAt}
 
 pub marked-grows : (instance : Instance) (out : List Line) (line : Line) → is_delete line.rule ≡ false → AreMarked instance out → AreMarked instance (out ++ line ∷ [])
 marked-grows instance out line plain h = record {
@@ -26,7 +26,7 @@ marked-grows instance out line plain h = record {
 at-front : (out more : List Line) (n : ℕ) → 0 < n → n ≤ length out → line_at (out ++ more) n ≡ line_at out n
 at-front out more n low high = get_or_append_left out more no_line (n - 1) (omega (arith, low, high))
 
-pub stands-grows : (out more : List Line) (content : Content) (n : ℕ) → Stands out content n → Stands (out ++ more) content n
+pub stands-grows : (out more : List Line) (content : Content) (n : ℕ) → StandsAt out content n → StandsAt (out ++ more) content n
 stands-grows out more content n h = record {
   low = h.low;
   high = omega (arith, h.high, length-append out more);
@@ -41,7 +41,7 @@ fate-grows instance out more content n (inr stands) = inr (stands-grows out more
 at-end : (out : List Line) (line : Line) → line_at (out ++ line ∷ []) (length out + 1) ≡ line
 at-end out line = get_or_push out line no_line (length out + 1 - 1) (omega arith)
 
-pub stands-last : (out : List Line) (line : Line) → Stands (out ++ line ∷ []) (record { tag = line.tag.code; lits = line.lits }) (length out + 1)
+pub stands-last : (out : List Line) (line : Line) → StandsAt (out ++ line ∷ []) (record { tag = line.tag.code; lits = line.lits }) (length out + 1)
 stands-last out line = record {
   low = omega arith;
   high = omega (arith, length_push out line);

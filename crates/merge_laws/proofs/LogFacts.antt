@@ -20,7 +20,7 @@ use Rattle.search_log.proofs.Places.{zip-left}
 use Rattle.search_log.specs.LogStates.{LogState}
 use Rattle.search_log.specs.declared.piece.Piece.{Piece}
 use Rattle.merge_laws.specs.GoodLogs.{AreByRow, AreGoodLogsAfter, IsPlacedIn}
-use Rattle.search_log.specs.GoodLogs.{IsBare, IsHome, all_lines, lines_of, piece_of, pieces_from, pieces_of}
+use Rattle.search_log.specs.GoodLogs.{IsBare, IsHomeRow, all_lines, lines_of, piece_of, pieces_from, pieces_of}
 
 -- the numbers of the rows that old lines say
 abbrev pub placed_numbers : List (ℕ × ℕ) → List ℕ
@@ -157,7 +157,7 @@ module _ (instance : Instance) (rows : List KnownRow) (logs : List LogState) (pi
       omega arith
 
   home-at : (row : KnownRow) → Contains rows row → IsHomeIn (all_lines logs) pieces row ⊎ Contains (placed_numbers placed) row.number
-  home-at row m = elim (All-contains (λ row. IsHome logs row ⊎ IsPlacedIn old placed row) rows row h.home m) [
+  home-at row m = elim (All-contains (λ row. IsHomeRow logs row ⊎ IsPlacedIn old placed row) rows row h.home m) [
     | inl r ↦ inl (record { piece = r.piece; member = to-sorted r.piece r.member; line = r.line; last = r.last; is = r.is })
     | inr p ↦ inr (in-map (λ q. q.0) placed (row.number, p.number) p.listed)
   ]

@@ -25,7 +25,7 @@ use Rattle.cert_lines.specs.WellFormed.{IsLine}
 use Rattle.cert_lines.specs.acceptance.LineFaults.{line_fault}
 use Rattle.cert_lines.specs.acceptance.Accepts.{answer_fault}
 use Rattle.cert_lines.specs.acceptance.PlanFaults.{plan_fault}
-use Rattle.cert_lines.specs.acceptance.RootFaults.{greater, is_root, root_fault, root_fault_by, root_tag, verdict_tag, with_line}
+use Rattle.cert_lines.specs.acceptance.RootFaults.{greater, is_root, root_fault, root_fault_by, root_tag, verdict_tag, with_root_line}
 use Rattle.cert_lines.proofs.Deleting.{IsPlain, all-stay, formed-plain}
 use Rattle.accept_laws.specs.Lines.{AreGood}
 use Rattle.accept_laws.proofs.GoodLines.{clean-lines, good-none}
@@ -42,15 +42,15 @@ use Rattle.fapp_plan.proofs.Depths.{prefix_paths-in}
 use Rattle.search_log.specs.declared.piece.Piece.{Piece}
 use Rattle.merge_laws.specs.Certificates.{gathered}
 use Rattle.merge_laws.specs.Conditions.{AreOld, IsMergeable, IsMergeableAfter}
-use Rattle.merge_laws.specs.Fates.{IsFate, Stands}
+use Rattle.merge_laws.specs.Fates.{IsFate, StandsAt}
 use Rattle.merge_laws.specs.GoodLogs.{AreByRow, AreGoodLogsAfter, IsPlacedIn}
-use Rattle.search_log.specs.GoodLogs.{AreGoodLogs, IsHome, all_lines, lines_of, pieces_of}
+use Rattle.search_log.specs.GoodLogs.{AreGoodLogs, IsHomeRow, all_lines, lines_of, pieces_of}
 use Rattle.merge_laws.specs.OldRoots.{code_or_zero, is_enough, is_rooted, old_root}
 use Rattle.merge_laws.specs.Laws.{AreGathered}
-use Rattle.merge_laws.specs.Levels.{branch_line, emit_level, emit_prefixes, emit_tree, all_longer, prefix_line, root_line}
+use Rattle.merge_laws.specs.Levels.{level_line, emit_level, emit_prefixes, emit_tree, all_longer, prefix_line, root_line}
 use Rattle.merge_laws.specs.MergedLines.{IsBareLine, IsCertificate, IsCertificateAfter, IsCertificateAfterAt, IsCertificateAt, IsMerged, IsMergedAfter, IsOrderedAfter, branch_total}
 use Rattle.merge_laws.specs.Refuted.{prefix_number}
-use Rattle.merge_laws.specs.Stages.{Merged, number_of}
+use Rattle.merge_laws.specs.Stages.{Merged, merged_number}
 use Rattle.merge_laws.proofs.Staged.{IsStage}
 use Rattle.merge_laws.proofs.BottomLists.{bottom, bottom-all}
 use Rattle.merge_laws.proofs.BranchCounts.{IsBounded, all-branches, gathered-bounded}
@@ -96,9 +96,9 @@ module _ (instance : Instance) where
       by_order true = own
       by_order false = h
 
-  own-found : (lines : List Line) (found : Option Tag) → All (IsLine instance) lines → IsOwn found → IsOwn (fold with_line found lines)
+  own-found : (lines : List Line) (found : Option Tag) → All (IsLine instance) lines → IsOwn found → IsOwn (fold with_root_line found lines)
   own-found [] found formed h = h
-  own-found (line ∷ lines) found formed h = own-found lines (with_line found line) (All-tail (IsLine instance) line lines formed) (by_root (is_root line))
+  own-found (line ∷ lines) found formed h = own-found lines (with_root_line found line) (All-tail (IsLine instance) line lines formed) (by_root (is_root line))
     where
       by_root : (b : Bool) → IsOwn (let o : Option Tag = cond b (Some (greater found line.tag)) found in o)
       by_root true = own-greater found line.tag h (All-head (IsLine instance) line lines formed).tag
@@ -106,7 +106,7 @@ module _ (instance : Instance) where
 
   pub own-root : (old : List Line) → All (IsLine instance) old → IsTagOf instance (triple_from (old_root old))
   unfolding root_tag
-  own-root old formed = by_tag (fold with_line None old) (own-found old None formed tt)
+  own-root old formed = by_tag (fold with_root_line None old) (own-found old None formed tt)
     where
       by_tag : (found : Option Tag) → IsOwn found → IsTagOf instance (triple_from (code_or_zero found))
       by_tag None h = tag_from_plain (levels_of instance) (triple_from 0) refl refl (omega arith)
@@ -155,7 +155,7 @@ keeps-itself old = record { more = []; begins = sym (append-nil old); bare = λ 
 record IsEnded (instance : Instance) (split : ℕ) (old : List Line) (logs : List LogState) (t : Tag) (lines : List Line) : Type 0 where
   pub good : AreGood instance lines
   pub formed : AreFormed instance lines
-  pub root : Stands lines (says t []) (length lines)
+  pub root : StandsAt lines (says t []) (length lines)
   pub kept : Keeps old lines
   pub few : length lines ≤ length old + (choice_total instance + tree_size instance split + branch_total logs + 1)
 
@@ -164,7 +164,7 @@ record IsEnded (instance : Instance) (split : ℕ) (old : List Line) (logs : Lis
 module _ (old : List Line) where
   level-keeps : (instance : Instance) (t : Tag) (path : ℕ) → 0 < t.code → (lists : List (List Literal)) (next : ℕ) (out : List Line) → Keeps old out → Keeps old (emit_level instance t path next lists out)
   level-keeps instance t path some [] next out h = h
-  level-keeps instance t path some (literals ∷ lists) next out h = level-keeps instance t path some lists (next + count_at instance path) (out ++ branch_line instance t path next literals ∷ []) (keeps-above old out (branch_line instance t path next literals) some h)
+  level-keeps instance t path some (literals ∷ lists) next out h = level-keeps instance t path some lists (next + count_at instance path) (out ++ level_line instance t path next literals ∷ []) (keeps-above old out (level_line instance t path next literals) some h)
 
   prefixes-keep : (t : Tag) (number : ℕ → ℕ) → 0 < t.code → (lists : List (List Literal)) (place : ℕ) (out : List Line) → Keeps old out → Keeps old (emit_prefixes t number place lists out)
   prefixes-keep t number some [] place out h = h
@@ -192,7 +192,7 @@ root-alone : (instance : Instance) (split : ℕ) (old : List Line) (logs : List 
 root-alone instance split old logs t old_are own e = record {
   good = good-grows instance old (root_line t) old_are.good (no-fault-at-zero instance old t e);
   formed = formed-grows instance old (root_line t) (λ few. old_are.formed) (λ few. root-formed instance t own);
-  root = subst (λ n. Stands (old ++ root_line t ∷ []) (says t []) n) (sym (length_push old (root_line t))) (stands-last old (root_line t));
+  root = subst (λ n. StandsAt (old ++ root_line t ∷ []) (says t []) n) (sym (length_push old (root_line t))) (stands-last old (root_line t));
   kept = keeps-more old old (root_line t) (λ e. refl) (keeps-itself old);
   few = (let one = length_push old (root_line t) in omega arith);
 }
@@ -210,7 +210,7 @@ rows-fit instance rows logs placed pieces room facts fit placed_fit = All-from_m
 -- a row that is no segment's is said by an old line
 only-said : (instance : Instance) (old : List Line) (placed : List (ℕ × ℕ)) (rows : List KnownRow) (logs : List LogState) → AreGoodLogsAfter instance old placed rows logs → (row : KnownRow) → Contains rows row →
     Contains (placed_numbers placed) row.number → IsPlacedIn old placed row
-only-said instance old placed rows logs h row m k = elim (All-contains (λ row. IsHome logs row ⊎ IsPlacedIn old placed row) rows row h.home m) [
+only-said instance old placed rows logs h row m k = elim (All-contains (λ row. IsHomeRow logs row ⊎ IsPlacedIn old placed row) rows row h.home m) [
   | inr p ↦ p
   | inl r ↦ absurd (
       let found = from-map (λ p. p.0) placed row.number k in
@@ -256,7 +256,7 @@ module _ (instance : Instance) (split : ℕ) (logs : List LogState) (outcomes : 
   stage : IsStage instance rows (all_lines logs) (placed_numbers placed) (pooled_at_end 0 made.pieces) whole
   stage = whole-stage instance rows (all_lines logs) made.pieces made.arcs made.room valid made.arcs_are old given.old_are placed facts fits (only-said instance old placed rows logs given.logs_are) given.logs_are.placed_once
 
-  fates : (log : ℕ) (ref : Ref) (content : Content) → Cites rows (lines_of (all_lines logs) log) ref content → IsFate instance whole.out content (number_of whole log ref)
+  fates : (log : ℕ) (ref : Ref) (content : Content) → Cites rows (lines_of (all_lines logs) log) ref content → IsFate instance whole.out content (merged_number whole log ref)
   fates = cited-fate instance rows (all_lines logs) made.pieces made.arcs made.room valid made.arcs_are old given.old_are placed facts fits (only-said instance old placed rows logs given.logs_are) given.logs_are.placed_once
 
   arcs-bare : (line : Line) → Contains made.arcs line → IsBareLine line
@@ -281,7 +281,7 @@ module _ (instance : Instance) (split : ℕ) (logs : List LogState) (outcomes : 
   by-arcs some most = record {
     good = good-grows instance whole.out (root_line t) stage.good (root-good instance whole.out t made.root stage.marked ruled.own some made.root_is most);
     formed = formed-grows instance whole.out (root_line t) stage.formed (λ few. root-formed instance t ruled.own);
-    root = subst (λ n. Stands (whole.out ++ root_line t ∷ []) (says t []) n) (sym (length_push whole.out (root_line t))) (stands-last whole.out (root_line t));
+    root = subst (λ n. StandsAt (whole.out ++ root_line t ∷ []) (says t []) n) (sym (length_push whole.out (root_line t))) (stands-last whole.out (root_line t));
     kept = keeps-above old whole.out (root_line t) some bounded.kept;
     few = (let one = length_push whole.out (root_line t) in let w = whole-few in omega arith);
   }
@@ -378,7 +378,7 @@ no-old instance = record { formed = All-nil (IsLine instance); good = λ n small
 pub logs-after : (instance : Instance) (rows : List KnownRow) (logs : List LogState) → AreGoodLogs instance rows logs → AreGoodLogsAfter instance [] [] rows logs
 logs-after instance rows logs h = record {
   good = h.good;
-  home = All-weaker (IsHome logs) (λ row. IsHome logs row ⊎ IsPlacedIn [] [] row) (λ row at. inl at) rows h.home;
+  home = All-weaker (IsHomeRow logs) (λ row. IsHomeRow logs row ⊎ IsPlacedIn [] [] row) (λ row at. inl at) rows h.home;
   once = h.once;
   placed_once = pairs-nil (λ p q. p.0 ≢ q.0);
   apart = All-nil (λ p. All (λ (q : Piece). p.0 ≢ q.row) (pieces_of logs));

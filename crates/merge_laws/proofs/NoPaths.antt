@@ -20,7 +20,7 @@ use Rattle.cert_lines.specs.WellFormed.{IsLine}
 use Rattle.cert_lines.specs.acceptance.Excluded.{line_at, no_line}
 use Rattle.dead_laws.proofs.CostLaws.{within-cost}
 use Rattle.dead_laws.proofs.DeadImplied.{dead-implied}
-use Rattle.accept_laws.specs.Lines.{AreGood, IsImplied}
+use Rattle.accept_laws.specs.Lines.{AreGood, IsLineImplied}
 use Rattle.accept_laws.proofs.GoodLines.{good-lines}
 use Rattle.search_log.specs.Contents.{Content}
 use Rattle.search_log.proofs.CodeOrder.{below-codes}
@@ -70,7 +70,7 @@ module _ (instance : Instance) (valid : IsInstance instance) (none : length inst
       let low = stands.low in
       let high = stands.high in
       let line : IsLine instance (line_at out n) = formed (n - 1) no_line (omega arith) in
-      let implied : IsImplied instance (line_at out n) = good-lines instance out valid (λ k d l. inl (formed k d l)) good (n - 1) no_line (omega arith) in
+      let implied : IsLineImplied instance (line_at out n) = good-lines instance out valid (λ k d l. inl (formed k d l)) good (n - 1) no_line (omega arith) in
       none-implied content.tag content.lits
       (subst (λ c. IsTagOf instance (triple_from c)) stands.tag_is line.tag) some within
       (subst (λ c. Implied instance (triple_from c) content.lits) stands.tag_is (subst (Implied instance (triple_from (line_at out n).tag.code)) stands.lits_are implied))

@@ -20,7 +20,7 @@ use Rattle.search_log.specs.GoodLines.{IsGoodLine, PassesBy}
 use Rattle.search_log.proofs.Places.{get-take}
 use Rattle.merge_laws.specs.Fates.{IsFate}
 use Rattle.search_log.specs.GoodLogs.{IsBare, lines_of}
-use Rattle.merge_laws.specs.Stages.{Merged, done_of, emit, emit_branch, emit_by, land, left_out, noted, number_of, own_of}
+use Rattle.merge_laws.specs.Stages.{Merged, done_of, emit, emit_branch, emit_by, land, left_out, noted, merged_number, own_of}
 use Rattle.merge_laws.specs.Written.{written}
 use Rattle.merge_laws.proofs.Staged.{IsDoneRow, IsStage}
 use Rattle.merge_laws.proofs.Beside.{same-some}
@@ -83,13 +83,13 @@ module _ (instance : Instance) (rows : List KnownRow) (logs : List (List LogLine
   abbrev pub earlier : List LogLine
   earlier = take (done_of s log) (lines_of logs log)
 
-  fates-by : (ref : ChoiceRef) → Contains line.refs ref → (place : Ref) → ref.line ≡ place → (content : Content) → Cites rows earlier place content → IsFate instance s.out content (number_of s log place)
+  fates-by : (ref : ChoiceRef) → Contains line.refs ref → (place : Ref) → ref.line ≡ place → (content : Content) → Cites rows earlier place content → IsFate instance s.out content (merged_number s log place)
   fates-by ref m (Own n) e content own =
       let before = get-take (lines_of logs log) (done_of s log) n own.0 own.1 in
-      subst (λ c. IsFate instance s.out c (number_of s log (Own n))) (sym own.2) (stage.own log n own.0 before.0 before.1)
+      subst (λ c. IsFate instance s.out c (merged_number s log (Own n))) (sym own.2) (stage.own log n own.0 before.0 before.1)
   fates-by ref m (Row r) e content row = stage.row (known_row r content) row (ready.below ref r m e)
 
-  fates : HaveFates instance rows earlier s.out (number_of s log) line
+  fates : HaveFates instance rows earlier s.out (merged_number s log) line
   fates ref content m at = fates-by ref m ref.line refl content at
 
   -- the lines before keep their fates in a certificate that has grown, and this one has its own
@@ -134,17 +134,17 @@ module _ (instance : Instance) (rows : List KnownRow) (logs : List (List LogLine
 
   writes : (path : ℕ) → line.path ≡ Some path → 0 < line.tag.code → PassesBy instance line ready.good.contents (Some path) → IsStage instance rows logs placed pooled (emit_branch log line path s)
   writes path e some branch =
-      let new = written (number_of s log) path line in
+      let new = written (merged_number s log) path line in
       let refs = rw e at ready.good.refs in
       record {
-        good = good-grows instance s.out new stage.good (written-good instance rows earlier s.out (number_of s log) line path valid stage.marked fates some ready.good.tag ready.good.lits refs ready.good.contents ready.good.cites branch);
+        good = good-grows instance s.out new stage.good (written-good instance rows earlier s.out (merged_number s log) line path valid stage.marked fates some ready.good.tag ready.good.lits refs ready.good.contents ready.good.cites branch);
         formed = formed-grows instance s.out new stage.formed
-            (written-formed instance rows earlier s.out (number_of s log) line path valid stage.marked fates some ready.good.tag ready.good.lits refs ready.good.contents ready.good.cites branch);
+            (written-formed instance rows earlier s.out (merged_number s log) line path valid stage.marked fates some ready.good.tag ready.good.lits refs ready.good.contents ready.good.cites branch);
         marked = marked-grows instance s.out new refl stage.marked;
         logs_are = length-set s.own log (get_or s.own log [] ++ (length s.out + 1) ∷ []) ∙ stage.logs_are;
         room = stage.room;
         own = next-own (s.out ++ new ∷ []) (length s.out + 1) (λ content k h. fate-grows instance s.out (new ∷ []) content k h) (inr (stands-last s.out new));
-        row = λ row m small. fate-grows instance s.out (new ∷ []) row.content (number_of s 0 (Row row.number)) (stage.row row m small);
+        row = λ row m small. fate-grows instance s.out (new ∷ []) row.content (merged_number s 0 (Row row.number)) (stage.row row m small);
       }
 
   by_tag : (path : ℕ) → line.path ≡ Some path → (b : Bool) → eqb line.tag.code 0 ≡ b → IsStage instance rows logs placed pooled (let m : Merged = cond b (left_out log s) (emit_branch log line path s) in m)
@@ -178,25 +178,25 @@ row-step instance rows logs placed pooled s log place r line stage apart high sm
   formed = stage.formed;
   marked = stage.marked;
   logs_are = stage.logs_are;
-  room = subst (λ n. All (λ (row : KnownRow). row.number < n) rows) (sym (length-set s.row r (number_of s log (Own place)))) stage.room;
+  room = subst (λ n. All (λ (row : KnownRow). row.number < n) rows) (sym (length-set s.row r (merged_number s log (Own place)))) stage.room;
   own = stage.own;
   row = landed;
 }
   where
-    new : (row : KnownRow) → Contains rows row → row ≡ known_row r (content_of line) → IsFate instance s.out row.content (get_or (set s.row r (number_of s log (Own place))) row.number 0)
+    new : (row : KnownRow) → Contains rows row → row ≡ known_row r (content_of line) → IsFate instance s.out row.content (get_or (set s.row r (merged_number s log (Own place))) row.number 0)
     new row m e =
         let is = ap (λ (x : KnownRow). x.number) e in
         let fits = All-contains (λ (x : KnownRow). x.number < length s.row) rows row stage.room m in
-        subst (λ x. IsFate instance s.out x.content (get_or (set s.row r (number_of s log (Own place))) x.number 0)) (sym e)
-        (rw (get_or-set_same s.row r (number_of s log (Own place)) 0 (omega arith)) (stage.own log place line small at))
+        subst (λ x. IsFate instance s.out x.content (get_or (set s.row r (merged_number s log (Own place))) x.number 0)) (sym e)
+        (rw (get_or-set_same s.row r (merged_number s log (Own place)) 0 (omega arith)) (stage.own log place line small at))
 
-    old : (row : KnownRow) → Contains rows row → (row.number ≢ r) → IsDoneRow placed pooled row.number → IsFate instance s.out row.content (get_or (set s.row r (number_of s log (Own place))) row.number 0)
-    old row m other done = rw (get_or-set_other s.row r row.number (number_of s log (Own place)) 0 other) (stage.row row m done)
+    old : (row : KnownRow) → Contains rows row → (row.number ≢ r) → IsDoneRow placed pooled row.number → IsFate instance s.out row.content (get_or (set s.row r (merged_number s log (Own place))) row.number 0)
+    old row m other done = rw (get_or-set_other s.row r row.number (merged_number s log (Own place)) 0 other) (stage.row row m done)
 
-    said : (row : KnownRow) → Contains rows row → Contains placed row.number → IsFate instance s.out row.content (get_or (set s.row r (number_of s log (Own place))) row.number 0)
+    said : (row : KnownRow) → Contains rows row → Contains placed row.number → IsFate instance s.out row.content (get_or (set s.row r (merged_number s log (Own place))) row.number 0)
     said row m k = old row m (λ same. apart (subst (Contains placed) same k)) (inr k)
 
-    landed : (row : KnownRow) → Contains rows row → IsDoneRow placed (r + 1) row.number → IsFate instance s.out row.content (get_or (set s.row r (number_of s log (Own place))) row.number 0)
+    landed : (row : KnownRow) → Contains rows row → IsDoneRow placed (r + 1) row.number → IsFate instance s.out row.content (get_or (set s.row r (merged_number s log (Own place))) row.number 0)
     landed row m (inr k) = said row m k
     landed row m (inl bound) = elim (cases_lt row.number pooled) [
       | inl below ↦ old row m (λ same. absurd (omega arith)) (inl below)

@@ -9,7 +9,7 @@ use Rattle.search_log.specs.declared.line.LogLine.{LogLine}
 use Rattle.search_log.specs.declared.line.Ref.TheVariants.{Own, Row}
 use Rattle.search_log.specs.Contents.{KnownRow, content_of}
 use Rattle.merge_laws.specs.Fates.{AreMarked, IsFate}
-use Rattle.merge_laws.specs.Stages.{Merged, done_of, number_of}
+use Rattle.merge_laws.specs.Stages.{Merged, done_of, merged_number}
 use Rattle.search_log.specs.GoodLogs.{lines_of}
 
 -- rows below a number are done, and those that old lines say
@@ -24,6 +24,6 @@ pub record IsStage (instance : Instance) (rows : List KnownRow) (logs : List (Li
   pub logs_are : length s.own ≡ length logs
   pub room : All (λ row. row.number < length s.row) rows
   pub own : (log place : ℕ) (line : LogLine) → place < done_of s log → slice_get (lines_of logs log) place ≡ Some line →
-      IsFate instance s.out (content_of line) (number_of s log (Own place))
+      IsFate instance s.out (content_of line) (merged_number s log (Own place))
   pub row : (row : KnownRow) → Contains rows row → IsDoneRow placed pooled row.number →
-      IsFate instance s.out row.content (number_of s 0 (Row row.number))
+      IsFate instance s.out row.content (merged_number s 0 (Row row.number))

@@ -25,15 +25,15 @@ use Rattle.fapp_plan.proofs.ByPath.{from-by_path, in-by_path}
 use Rattle.fapp_plan.proofs.Rules.{by_path-literals}
 use Rattle.accept_laws.proofs.Having.{formed-partial}
 use Rattle.search_log.specs.Contents.{Content}
-use Rattle.merge_laws.specs.Fates.{AreMarked, IsFate, Stands}
-use Rattle.merge_laws.specs.Levels.{all_longer, branch_line, children_from, cites_of, emit_level, emit_prefixes, longer, prefix_line}
+use Rattle.merge_laws.specs.Fates.{AreMarked, IsFate, StandsAt}
+use Rattle.merge_laws.specs.Levels.{all_longer, level_line, children_from, cites_of, emit_level, emit_prefixes, longer, prefix_line}
 use Rattle.merge_laws.proofs.Growing.{AreFormed, fate-grows, formed-grows, good-grows, marked-grows, stands-grows, stands-last}
 use Rattle.merge_laws.proofs.TreeLines.{Serves, prefix-good, says, whole-branch-good}
 
 -- the lists have lines with numbers from one on
 abbrev pub AreNumbered : List Line → Tag → ℕ → List (List Literal) → Type 0
 AreNumbered out t n [] = Unit {0}
-AreNumbered out t n (literals ∷ lists) = Stands out (says t (by_path literals)) n × AreNumbered out t (n + 1) lists
+AreNumbered out t n (literals ∷ lists) = StandsAt out (says t (by_path literals)) n × AreNumbered out t (n + 1) lists
 
 -- a good certificate in which the lists have their lines
 pub record IsLevel (instance : Instance) (out : List Line) (t : Tag) (n : ℕ) (lists : List (List Literal)) : Type 0 where
@@ -56,10 +56,10 @@ numbered-back : (t : Tag) (xs ys : List (List Literal)) (out : List Line) (n m :
 numbered-back t [] ys out n m e h = subst (λ k. AreNumbered out t k ys) (let s : n ≡ m = omega (arith, e) in s) h
 numbered-back t (x ∷ xs) ys out n m e h = numbered-back t xs ys out (n + 1) m (omega (arith, e)) h.1
 
-numbered-at : (t : Tag) (xs : List (List Literal)) (out : List Line) (n k : ℕ) (d : List Literal) → k < length xs → AreNumbered out t n xs → Stands out (says t (by_path (get_or xs k d))) (n + k)
+numbered-at : (t : Tag) (xs : List (List Literal)) (out : List Line) (n k : ℕ) (d : List Literal) → k < length xs → AreNumbered out t n xs → StandsAt out (says t (by_path (get_or xs k d))) (n + k)
 numbered-at t [] out n k d small h = absurd (omega arith)
-numbered-at t (x ∷ xs) out n zero d small h = subst (Stands out (says t (by_path x))) (let s : n ≡ n + 0 = omega arith in s) h.0
-numbered-at t (x ∷ xs) out n (suc k) d small h = subst (Stands out (says t (by_path (get_or xs k d)))) (let s : n + 1 + k ≡ n + suc k = omega arith in s) (numbered-at t xs out (n + 1) k d (omega arith) h.1)
+numbered-at t (x ∷ xs) out n zero d small h = subst (StandsAt out (says t (by_path x))) (let s : n ≡ n + 0 = omega arith in s) h.0
+numbered-at t (x ∷ xs) out n (suc k) d small h = subst (StandsAt out (says t (by_path (get_or xs k d)))) (let s : n + 1 + k ≡ n + suc k = omega arith in s) (numbered-at t xs out (n + 1) k d (omega arith) h.1)
 
 -- ---- one more literal
 
@@ -84,7 +84,7 @@ module _ (instance : Instance) (t : Tag) (own : IsTagFor instance t) (some : 0 <
     serves : (literals : List Literal) (next : ℕ) (out : List Line) → AreNumbered out t next (longer instance path literals) → (index : ℕ) → index < count_at instance path → Serves out t (by_path literals) path (record { choice = index; cite = next + index })
     serves literals next out h index below = record {
       lits = by_path (literals ++ literal path index ∷ []);
-      stands = subst (λ l. Stands out (says t (by_path l)) (next + index)) (longer-at instance path literals index below)
+      stands = subst (λ l. StandsAt out (says t (by_path l)) (next + index)) (longer-at instance path literals index below)
           (numbered-at t (longer instance path literals) out next index [] (omega (arith, below, length-longer instance path literals)) h);
       within = All-from_members (Contains (literal path index ∷ by_path literals)) (by_path (literals ++ literal path index ∷ [])) (λ a m. there a (from-by_path (literals ++ literal path index ∷ []) a m));
     }
@@ -98,13 +98,13 @@ module _ (instance : Instance) (t : Tag) (own : IsTagFor instance t) (some : 0 <
     child-from : ℕ → ℕ → Child
     child-from next index = record { choice = index; cite = next + index }
 
-    branch-good : (literals : List Literal) (next : ℕ) (out : List Line) → All IsPlain out → names literals path ≡ false → AreNumbered out t next (longer instance path literals) → line_fault instance out (branch_line instance t path next literals) ≡ None
+    branch-good : (literals : List Literal) (next : ℕ) (out : List Line) → All IsPlain out → names literals path ≡ false → AreNumbered out t next (longer instance path literals) → line_fault instance out (level_line instance t path next literals) ≡ None
     branch-good literals next out plain free front = whole-branch-good instance out plain t (by_path literals) path (children_from instance path next) (sorted-free literals path free)
         (λ child m. let found = from-map (λ index. record { choice = index; cite = next + index }) (range_with_len 0 (count_at instance path)) child m in
         subst (Serves out t (by_path literals) path) found.2 (serves literals next out front found.0 (from-range (count_at instance path) found.0 found.1)))
         (λ index below. (record { choice = index; cite = next + index }, in-map (λ index. record { choice = index; cite = next + index }) (range_with_len 0 (count_at instance path)) index (in-range (count_at instance path) index below), refl)) some
 
-    branch-formed : (literals : List Literal) (next : ℕ) (out : List Line) → IsPartial instance literals → AreNumbered out t next (longer instance path literals) → IsNumber (length out) → IsLine instance (branch_line instance t path next literals)
+    branch-formed : (literals : List Literal) (next : ℕ) (out : List Line) → IsPartial instance literals → AreNumbered out t next (longer instance path literals) → IsNumber (length out) → IsLine instance (level_line instance t path next literals)
     branch-formed literals next out partial front few = record {
       tag = own;
       lits = by_path-literals instance literals partial;
@@ -127,12 +127,12 @@ module _ (instance : Instance) (t : Tag) (own : IsTagFor instance t) (some : 0 <
 
     record Grown (old new : List Line) (n : ℕ) (lists : List (List Literal)) : Type 0 where
       pub level : IsLevel instance new t n lists
-      pub keeps : (content : Content) (k : ℕ) → Stands old content k → Stands new content k
+      pub keeps : (content : Content) (k : ℕ) → StandsAt old content k → StandsAt new content k
 
     grown : (lists : List (List Literal)) (next : ℕ) (out : List Line) → AreFree path lists → IsLevel instance out t next (all_longer instance path lists) → Grown out (emit_level instance t path next lists out) (length out + 1) lists
     grown [] next out free level = record { level = record { good = level.good; formed = level.formed; marked = level.marked; numbered = tt }; keeps = λ content k h. h }
     grown (literals ∷ lists) next out free level =
-        let new = branch_line instance t path next literals in
+        let new = level_line instance t path next literals in
         let front = numbered-front t (longer instance path literals) (all_longer instance path lists) out next level.numbered in
         let back = numbered-back t (longer instance path literals) (all_longer instance path lists) out next (next + count_at instance path) (omega (arith, length-longer instance path literals)) level.numbered in
         let own_free = free literals (at_front literals lists) in
@@ -202,7 +202,7 @@ module _ (instance : Instance) (t : Tag) (own : IsTagFor instance t) (some : 0 <
 
     pub record Bottomed (old new : List Line) (lists : List (List Literal)) : Type 0 where
       pub level : IsLevel instance new t (length old + 1) lists
-      pub keeps : (content : Content) (k : ℕ) → Stands old content k → Stands new content k
+      pub keeps : (content : Content) (k : ℕ) → StandsAt old content k → StandsAt new content k
 
     pub bottomed : (lists : List (List Literal)) (place : ℕ) (out : List Line) → AreGood instance out → AreFormed instance out → AreMarked instance out → ArePartial lists → AreSettled out number place lists → Bottomed out (emit_prefixes t number place lists out) lists
     bottomed [] place out good formed marked partial settled = record { level = record { good = good; formed = formed; marked = marked; numbered = tt }; keeps = λ content k h. h }

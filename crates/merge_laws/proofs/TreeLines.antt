@@ -28,7 +28,7 @@ use Rattle.accept_laws.proofs.Judging.{judged-where-excluded}
 use Rattle.accept_laws.proofs.Options.{both-none}
 use Rattle.search_log.specs.Contents.{Content}
 use Rattle.cert_lines.proofs.Deleting.{IsPlain, plain-excluded}
-use Rattle.merge_laws.specs.Fates.{AreMarked, IsFate, Stands}
+use Rattle.merge_laws.specs.Fates.{AreMarked, IsFate, StandsAt}
 use Rattle.merge_laws.specs.Levels.{cites_of}
 use Rattle.merge_laws.proofs.Beside.{above-least}
 use Rattle.merge_laws.proofs.Clean.{all-from, clean-cite, first_of-clean, has-from, has_all-from, passes-none}
@@ -69,7 +69,7 @@ all-outside : (instance : Instance) (t : Tag) (literals : List Literal) → 0 < 
 all-outside instance t [] some = no_choice_left 0 some refl (λ index below. inl tt)
 all-outside instance t (a ∷ more) some = outside_literal a (at_front a more) tt
 
-cited-good : (instance : Instance) (out : List Line) → All IsPlain out → (t : Tag) (literals : List Literal) (content : Content) (n : ℕ) → IsPartial instance literals → 0 < length instance.paths → 0 < t.code → t.code ≤ content.tag → HasAll literals content.lits → Stands out content n →
+cited-good : (instance : Instance) (out : List Line) → All IsPlain out → (t : Tag) (literals : List Literal) (content : Content) (n : ℕ) → IsPartial instance literals → 0 < length instance.paths → 0 < t.code → t.code ≤ content.tag → HasAll literals content.lits → StandsAt out content n →
     line_fault instance out (record { tag = t; lits = literals; rule = Count (n ∷ []) }) ≡ None
 cited-good instance out plain t literals content n partial paths some most within stands =
     from-count instance out t literals (n ∷ []) some
@@ -109,7 +109,7 @@ prefix-good instance out t literals content (suc n) valid marked own partial pat
 -- a child stands for literals that lie within those of the line with its choice
 pub record Serves (out : List Line) (t : Tag) (literals : List Literal) (path : ℕ) (child : Child) : Type 0 where
   pub lits : List Literal
-  pub stands : Stands out (says t lits) child.cite
+  pub stands : StandsAt out (says t lits) child.cite
   pub within : HasAll (literal path child.choice ∷ literals) lits
 
 -- a line with a child for each choice

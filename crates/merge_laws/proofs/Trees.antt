@@ -18,8 +18,8 @@ use Rattle.fapp_model.proofs.InOrder.{pairs-head, pairs-nil, pairs-tail}
 use Rattle.fapp_model.proofs.Members.{at_front, behind, from-flat_map, from-map, from-range, front_or_behind, no_member}
 use Rattle.cert_lines.specs.declared.answer.Line.{Line}
 use Rattle.accept_laws.specs.Lines.{AreGood}
-use Rattle.merge_laws.specs.Fates.{AreMarked, Stands}
-use Rattle.merge_laws.specs.Levels.{all_longer, emit_level, emit_prefixes, emit_tree, longer, prefix_line, branch_line}
+use Rattle.merge_laws.specs.Fates.{AreMarked, StandsAt}
+use Rattle.merge_laws.specs.Levels.{all_longer, emit_level, emit_prefixes, emit_tree, longer, prefix_line, level_line}
 use Rattle.merge_laws.proofs.BottomLists.{bottom}
 use Rattle.merge_laws.proofs.Growing.{AreFormed}
 use Rattle.merge_laws.proofs.Tree.{AreSettled, IsLevel, bottomed, level-good}
@@ -30,8 +30,8 @@ use Rattle.merge_laws.proofs.TreeLines.{says}
 pub length-level : (instance : Instance) (t : Tag) (path : ℕ) (lists : List (List Literal)) (next : ℕ) (out : List Line) → length (emit_level instance t path next lists out) ≡ length out + length lists
 length-level instance t path [] next out = omega arith
 length-level instance t path (literals ∷ lists) next out =
-    let rest = length-level instance t path lists (next + count_at instance path) (out ++ branch_line instance t path next literals ∷ []) in
-    let one = length_push out (branch_line instance t path next literals) in omega arith
+    let rest = length-level instance t path lists (next + count_at instance path) (out ++ level_line instance t path next literals ∷ []) in
+    let one = length_push out (level_line instance t path next literals) in omega arith
 
 pub length-prefixes : (t : Tag) (number : ℕ → ℕ) (lists : List (List Literal)) (place : ℕ) (out : List Line) → length (emit_prefixes t number place lists out) ≡ length out + length lists
 length-prefixes t number [] place out = omega arith
@@ -106,7 +106,7 @@ module _ (instance : Instance) (t : Tag) (own : IsTagFor instance t) (some : 0 <
   -- the whole tree ends with its root
   pub rooted-tree : (paths : List ℕ) (out : List Line) → All (λ path. path < length instance.paths) paths → AllPairs (λ p q. p ≢ q) paths →
       AreGood instance out → AreFormed instance out → AreMarked instance out → AreSettled instance t own some out number 0 (bottom instance paths ([] ∷ [])) →
-      AreGood instance (tree paths ([] ∷ []) out) × AreFormed instance (tree paths ([] ∷ []) out) × Stands (tree paths ([] ∷ []) out) (says t []) (length (tree paths ([] ∷ []) out))
+      AreGood instance (tree paths ([] ∷ []) out) × AreFormed instance (tree paths ([] ∷ []) out) × StandsAt (tree paths ([] ∷ []) out) (says t []) (length (tree paths ([] ∷ []) out))
   rooted-tree paths out small apart good formed marked settled =
       let level = tree-good paths ([] ∷ []) out small apart (nothing-open paths) good formed marked settled in
-      (level.good, level.formed, subst (Stands (tree paths ([] ∷ []) out) (says t [])) (let e : length (tree paths ([] ∷ []) out) + 1 - 1 ≡ length (tree paths ([] ∷ []) out) = omega arith in e) level.numbered.0)
+      (level.good, level.formed, subst (StandsAt (tree paths ([] ∷ []) out) (says t [])) (let e : length (tree paths ([] ∷ []) out) + 1 - 1 ≡ length (tree paths ([] ∷ []) out) = omega arith in e) level.numbered.0)

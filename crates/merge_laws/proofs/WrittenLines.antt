@@ -35,9 +35,9 @@ use Rattle.search_log.specs.declared.line.ChoiceRef.{ChoiceRef}
 use Rattle.search_log.specs.declared.line.LogLine.{LogLine}
 use Rattle.search_log.specs.declared.line.Ref.{Ref}
 use Rattle.search_log.specs.Contents.{Cites, Content, KnownRow}
-use Rattle.search_log.specs.GoodLines.{AreChildren, IsBranch, IsChildOf}
+use Rattle.search_log.specs.GoodLines.{AreBranchRefs, IsBranch, IsChildOf}
 use Rattle.merge_laws.specs.Fates.{AreMarked, IsFate}
-use Rattle.merge_laws.specs.Written.{child_at, written, written_child}
+use Rattle.merge_laws.specs.Written.{child_for, written, written_child}
 use Rattle.merge_laws.proofs.Beside.{above-least, with-literal, zip-both}
 use Rattle.merge_laws.proofs.Clean.{all-from, clean-cite, first_of-clean, passes-none}
 
@@ -49,20 +49,20 @@ marked-judged instance out t cites literals marked own partial some dead =
     (above-least t.code some) dead
 
 -- what a written child is
-not-zero : (choice n : ℕ) (z : Child) → Contains (child_at choice n) z → (0 < n) × (record { choice = choice; cite = n } ≡ z)
+not-zero : (choice n : ℕ) (z : Child) → Contains (child_for choice n) z → (0 < n) × (record { choice = choice; cite = n } ≡ z)
 not-zero choice n z m = by_zero (eqb n 0) refl m
   where
     by_zero : (b : Bool) → eqb n 0 ≡ b → Contains (cond b [] (record { choice = choice; cite = n } ∷ [])) z → (0 < n) × (record { choice = choice; cite = n } ≡ z)
     by_zero true e m = absurd (no_member z m)
     by_zero false e m = (let apart = eqb-false n 0 e in omega arith, elim (front_or_behind (record { choice = choice; cite = n }) [] z m) [ inl here ↦ here | inr later ↦ absurd (no_member z later) ])
 
-child-there : (choice n : ℕ) → 0 < n → Contains (child_at choice n) (record { choice = choice; cite = n })
+child-there : (choice n : ℕ) → 0 < n → Contains (child_for choice n) (record { choice = choice; cite = n })
 child-there choice n some = rw (ne_eqb n 0 (omega arith)) (at_front (record { choice = choice; cite = n }) [])
 
 abbrev Rise : Child → Child → Type 0
 Rise a b = a.choice < b.choice
 
-one-rises : (choice n : ℕ) → AllPairs Rise (child_at choice n)
+one-rises : (choice n : ℕ) → AllPairs Rise (child_for choice n)
 one-rises choice n = by_zero (eqb n 0)
   where
     by_zero : (b : Bool) → AllPairs Rise (cond b [] (record { choice = choice; cite = n } ∷ []))
@@ -75,7 +75,7 @@ HaveFates instance rows earlier out number line = (ref : ChoiceRef) (content : C
     Cites rows earlier ref.line content → IsFate instance out content (number ref.line)
 
 module _ (instance : Instance) (rows : List KnownRow) (earlier : List LogLine) (out : List Line) (number : Ref → ℕ) (line : LogLine) (path : ℕ) (valid : IsInstance instance) (marked : AreMarked instance out)
-    (fates : HaveFates instance rows earlier out number line) (above : 0 < line.tag.code) (own : IsTagFor instance line.tag) (lits : AreLiterals instance line.lits) (refs : AreChildren instance path line.refs)
+    (fates : HaveFates instance rows earlier out number line) (above : 0 < line.tag.code) (own : IsTagFor instance line.tag) (lits : AreLiterals instance line.lits) (refs : AreBranchRefs instance path line.refs)
     (contents : List Content) (cites : AllZip (λ (ref : ChoiceRef) content. Cites rows earlier ref.line content) line.refs contents) (branch : IsBranch instance line.tag.code line.lits path line.refs contents) where
   abbrev pub children : List Child
   children = flat_map (written_child number) line.refs

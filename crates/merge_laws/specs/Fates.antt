@@ -14,7 +14,7 @@ use Rattle.cert_lines.specs.acceptance.Excluded.{is_marked, line_at}
 use Rattle.search_log.specs.Contents.{Content}
 
 -- line n of the certificate, from 1, says this
-pub record Stands (out : List Line) (content : Content) (n : ℕ) : Type 0 where
+pub record StandsAt (out : List Line) (content : Content) (n : ℕ) : Type 0 where
   pub low : 0 < n
   pub high : n ≤ length out
   pub tag_is : (line_at out n).tag.code ≡ content.tag
@@ -29,7 +29,7 @@ pub record IsLeftOut (instance : Instance) (content : Content) (n : ℕ) : Type 
 
 -- the number of a line that says it, or 0 where it was left out
 abbrev pub IsFate : Instance → List Line → Content → ℕ → Type 0
-IsFate instance out content n = IsLeftOut instance content n ⊎ Stands out content n
+IsFate instance out content n = IsLeftOut instance content n ⊎ StandsAt out content n
 
 -- no line deletes, and each choice outside the arcs of a tag's level is excluded at that tag
 pub record AreMarked (instance : Instance) (out : List Line) : Type 0 where

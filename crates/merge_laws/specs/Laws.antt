@@ -31,7 +31,7 @@ use Rattle.merge_laws.specs.GoodLogs.{AreByRow}
 use Rattle.search_log.specs.GoodLogs.{AreGoodLogs, all_lines, lines_of}
 use Rattle.merge_laws.specs.Levels.{emit_tree}
 use Rattle.merge_laws.specs.MergedLines.{IsCertificate, IsCertificateAfter, IsMerged, IsMergedAfter}
-use Rattle.merge_laws.specs.Stages.{Merged, number_of}
+use Rattle.merge_laws.specs.Stages.{Merged, merged_number}
 
 -- Merged lines are well formed and accepted for the verdict, cite nothing at (0, 0, 0), and are no more than the bound.
 abbrev pub MergedLinesAreAccepted : Type 0
@@ -52,7 +52,7 @@ pub record AreGathered (instance : Instance) (rows : List KnownRow) (logs : List
   pub formed : IsNumber (length s.out) → All (IsLine instance) s.out
   pub marked : AreMarked instance s.out
   pub cited : (log : ℕ) (ref : Ref) (content : Content) → Cites rows (lines_of (all_lines logs) log) ref content →
-      IsFate instance s.out content (number_of s log ref)
+      IsFate instance s.out content (merged_number s log ref)
 
 -- The arc lines, the segments by row and the rests of good logs are that.
 abbrev pub GatheredLinesAreGood : Type 0

@@ -35,15 +35,15 @@ abbrev pub children_from : Instance → ℕ → ℕ → List Child
 children_from instance path next =
     map (λ index. record { choice = index; cite = next + index }) (range_with_len 0 (count_at instance path))
 
-abbrev pub branch_line : Instance → Tag → ℕ → ℕ → List Literal → Line
-branch_line instance t path next literals =
+abbrev pub level_line : Instance → Tag → ℕ → ℕ → List Literal → Line
+level_line instance t path next literals =
     record { tag = t; lits = by_path literals; rule = Branch path (children_from instance path next) }
 
 -- a Branch line on a path for each list, whose children cite the next lines
 abbrev pub emit_level : Instance → Tag → ℕ → ℕ → List (List Literal) → List Line → List Line
 emit_level instance t path next [] out = out
 emit_level instance t path next (literals ∷ lists) out =
-    emit_level instance t path (next + count_at instance path) lists (out ++ branch_line instance t path next literals ∷ [])
+    emit_level instance t path (next + count_at instance path) lists (out ++ level_line instance t path next literals ∷ [])
 
 -- the lists that are longer by a choice of a path
 abbrev pub longer : Instance → ℕ → List Literal → List (List Literal)

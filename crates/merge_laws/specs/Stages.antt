@@ -30,9 +30,9 @@ abbrev pub done_of : Merged → ℕ → ℕ
 done_of s log = length (own_of s log)
 
 -- the number of what a line of a log cites
-abbrev pub number_of : Merged → ℕ → Ref → ℕ
-number_of s log (Own n) = slice_index_or (own_of s log) n 0
-number_of s log (Row r) = slice_index_or s.row r 0
+abbrev pub merged_number : Merged → ℕ → Ref → ℕ
+merged_number s log (Own n) = slice_index_or (own_of s log) n 0
+merged_number s log (Row r) = slice_index_or s.row r 0
 
 -- the next line of a log gets a number
 abbrev pub noted : List (List ℕ) → ℕ → ℕ → List (List ℕ)
@@ -43,7 +43,7 @@ left_out log s = record { out = s.out; own = noted s.own log 0; row = s.row }
 
 abbrev pub emit_branch : ℕ → LogLine → ℕ → Merged → Merged
 emit_branch log line path s = record {
-  out = s.out ++ written (number_of s log) path line ∷ [];
+  out = s.out ++ written (merged_number s log) path line ∷ [];
   own = noted s.own log (length s.out + 1);
   row = s.row;
 }
@@ -63,4 +63,4 @@ emit_all log (line ∷ lines) s = emit_all log lines (emit log line s)
 
 -- a row gets the number of a line of a log
 abbrev pub land : ℕ → ℕ → ℕ → Merged → Merged
-land row log place s = record { out = s.out; own = s.own; row = slice_set s.row row (number_of s log (Own place)) }
+land row log place s = record { out = s.out; own = s.own; row = slice_set s.row row (merged_number s log (Own place)) }

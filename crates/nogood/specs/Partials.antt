@@ -7,5 +7,5 @@ abbrev pub choice_given : List (Option ℕ) → ℕ → Option ℕ
 choice_given part path = slice_index_or part path None
 
 -- the literal's path is set to its choice
-abbrev pub Gives : List (Option ℕ) → Literal → Type 0
-Gives part a = choice_given part a.path ≡ Some a.choice
+abbrev pub GivesChoice : List (Option ℕ) → Literal → Type 0
+GivesChoice part a = choice_given part a.path ≡ Some a.choice

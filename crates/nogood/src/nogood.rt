@@ -1,6 +1,6 @@
 ghost use Rattle.std.specs.Prelude.{◌≡◌, ◌↔◌, All, Contains, IfOk, IsTrue};
 ghost use Rattle.nogood.specs.Literals.{IsAscending, Agree, IsJoin, other_paths};
-ghost use Rattle.nogood.specs.Partials.{Gives};
+ghost use Rattle.nogood.specs.Partials.{GivesChoice};
 
 use crate::Partial;
 use fapp_model::{Items, Literal, NoMemory};
@@ -74,7 +74,7 @@ impl Nogood {
 
     /// Whether a partial assignment has each of the literals.
     pub fn is_within(&self, part: &Partial) -> bool
-        ensures { IsTrue result ↔ All (Gives part.now) self.now }
+        ensures { IsTrue result ↔ All (GivesChoice part.now) self.now }
     {
         self.lits()
             .iter()

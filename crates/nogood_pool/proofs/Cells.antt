@@ -8,7 +8,7 @@ use Rattle.fapp_model.specs.declared.instance.Instance.{Instance}
 use Rattle.nogood_pool.specs.declared.view.HeldRow.{HeldRow}
 use Rattle.nogood_pool.specs.declared.view.PoolView.{PoolView}
 use Rattle.nogood_pool.specs.declared.view.RowInWriting.{RowInWriting}
-use Rattle.nogood_pool.specs.Pool.{cell, counter_of, once, times, below, written, IsHeld, IsWriting, Fits}
+use Rattle.nogood_pool.specs.Pool.{cell, counter_of, once, times, below, written, IsHeld, IsRowInWriting, FitsPool}
 
 pub cell_here : (ws : List ℕ) (r k n : ℕ) → 1 + 9 * r + k < length ws → cell (set ws (1 + 9 * r + k) n) r k ≡ n
 cell_here ws r k n h = get_or-set_same ws (1 + 9 * r + k) n 0 h
@@ -47,7 +47,7 @@ module _ (instance : Instance) (ws new : List ℕ) (r : ℕ) (beside : Beside ws
     valid = is.valid;
   }
 
-  pub writing_kept : (o : Option RowInWriting) → written r o ≡ 0 → IfSome o (IsWriting instance ws) → IfSome o (IsWriting instance new)
+  pub writing_kept : (o : Option RowInWriting) → written r o ≡ 0 → IfSome o (IsRowInWriting instance ws) → IfSome o (IsRowInWriting instance new)
   writing_kept None z is = tt
   writing_kept (Some w) z is = let ne = once_zero r w.row z in record {
     drawn = le_trans is.drawn beside.counter;
@@ -66,7 +66,7 @@ module _ (instance : Instance) (ws new : List ℕ) (r : ℕ) (beside : Beside ws
   pub helds_kept : cell ws r 0 ≡ 0 → (hs : List HeldRow) → All (IsHeld instance ws) hs → All (IsHeld instance new) hs
   helds_kept z hs all = All-weaker (IsHeld instance ws) (IsHeld instance new) (λ h is. held_kept h (held_apart z h is) is) hs all
 
-  pub fits_kept : (rows : ℕ) (v : PoolView) → cell ws r 0 ≡ 0 → written r v.writing ≡ 0 → Fits rows instance ws v → Fits rows instance new v
+  pub fits_kept : (rows : ℕ) (v : PoolView) → cell ws r 0 ≡ 0 → written r v.writing ≡ 0 → FitsPool rows instance ws v → FitsPool rows instance new v
   fits_kept rows v z none f = record {
     instance_is = f.instance_is;
     rows_are = f.rows_are;

@@ -17,9 +17,9 @@ use Rattle.fapp_model.specs.declared.instance.Instance.{Instance}
 use Rattle.nogood.specs.declared.row.Row.{Row}
 use Rattle.nogood_pool.specs.declared.view.HeldRow.{HeldRow}
 use Rattle.nogood_pool.specs.declared.view.PoolView.{PoolView}
-use Rattle.nogood_pool.specs.Pool.{Words, IsPool, IsHeld, IsWriting, Fits, cell, Live, is_spent, share_of, counter_of, times, written, once, held_row, first_view, kept_half, given_half, after_join, spent_view}
+use Rattle.nogood_pool.specs.Pool.{Words, IsPool, IsHeld, IsRowInWriting, FitsPool, cell, Live, is_spent, share_of, counter_of, times, written, once, held_row, first_view, kept_half, given_half, after_join, spent_view}
 use Rattle.nogood_pool.specs.Steps.{Mine, HasPart}
-use Rattle.nogood_pool.specs.Ends.{IsWhole, RowsAreImplied, RowsStay}
+use Rattle.nogood_pool.specs.Ends.{IsWholePool, RowsAreImplied, RowsStay}
 use Rattle.nogood_pool.proofs.Cells.{once_same, times_live, not_below, below_most}
 use Rattle.nogood_pool.proofs.Views.{alone}
 use Rattle.nogood_pool.proofs.Contents.{one_content}
@@ -38,7 +38,7 @@ pub opens : (rows : ℕ) (instance : Instance) (ws : List ℕ) → ws ≡ replic
 opens rows instance ws e = subst (λ (xs : List ℕ). IsPool rows instance (opening {S = Row} xs [] (first_view rows instance))) (sym e) (record {
   width = length-replicate (1 + 9 * rows) 0;
   counter = rw (zeros (1 + 9 * rows) 0 0 refl) (omega arith);
-  fits = λ j v l. subst (Fits rows instance (replicate (1 + 9 * rows) 0)) (only j v l.there) first_fits;
+  fits = λ j v l. subst (FitsPool rows instance (replicate (1 + 9 * rows) 0)) (only j v l.there) first_fits;
   reached = (0, first_view rows instance, record { there = refl; unspent = refl }, sym (zeros (1 + 9 * rows) 0 0 refl));
   owners = λ q. sym (not_below q (counter_of (replicate (1 + 9 * rows) 0)) (rw (zeros (1 + 9 * rows) 0 0 refl) (omega arith)));
   fresh = λ q k _ _ _. zeros (1 + 9 * rows) (1 + 9 * q + k) 0 refl;
@@ -46,7 +46,7 @@ opens rows instance ws e = subst (λ (xs : List ℕ). IsPool rows instance (open
   shares = record { parts = λ j v l. subst (λ (u : PoolView). 1 ≤ u.share) (only j v l.there) (omega arith); sum = refl };
 })
   where
-    first_fits : Fits rows instance (replicate (1 + 9 * rows) 0) (first_view rows instance)
+    first_fits : FitsPool rows instance (replicate (1 + 9 * rows) 0) (first_view rows instance)
     first_fits = record { instance_is = refl; rows_are = refl; counter = omega arith; writing = tt; published = All-nil (IsHeld instance (replicate (1 + 9 * rows) 0)); seen = All-nil (IsHeld instance (replicate (1 + 9 * rows) 0)) }
 
     only : (j : ℕ) (v : PoolView) → get_elem? (first_view rows instance ∷ []) j ≡ some v → first_view rows instance ≡ v
@@ -61,7 +61,7 @@ implies rows instance s b = record {
 }
 
 -- a row without a tag is none of those that hold a content
-apart_row : (instance : Instance) (ws : List ℕ) (o : Option RowInWriting) (known : List HeldRow) → IfSome o (IsWriting instance ws) → All (IsHeld instance ws) known → IfSome o (λ w. All (λ h. h.row ≢ w.row) known)
+apart_row : (instance : Instance) (ws : List ℕ) (o : Option RowInWriting) (known : List HeldRow) → IfSome o (IsRowInWriting instance ws) → All (IsHeld instance ws) known → IfSome o (λ w. All (λ h. h.row ≢ w.row) known)
 apart_row instance ws None known is all = tt
 apart_row instance ws (Some w) known is all = All-weaker (IsHeld instance ws) (λ h. h.row ≢ w.row) (λ h held_there. held_apart_from h held_there) known all
   where
@@ -101,19 +101,19 @@ splits rows instance id v un idle two s b at =
     let left : PoolView = kept_half v in
     let right : PoolView = given_half v in
     let vs : List PoolView = set s.views id left in
-    let f : Fits rows instance s.words v = b.fits id v l in
+    let f : FitsPool rows instance s.words v = b.fits id v l in
     let half : 1 ≤ v.share / 2 = omega arith in
     let other_half : 1 ≤ v.share - v.share / 2 = omega arith in
-    let left_fits : Fits rows instance s.words left = record { instance_is = f.instance_is; rows_are = f.rows_are; counter = f.counter; writing = f.writing; published = f.published; seen = f.seen } in
-    let right_fits : Fits rows instance s.words right = record { instance_is = f.instance_is; rows_are = f.rows_are; counter = f.counter; writing = tt; published = All-nil (IsHeld instance s.words); seen = All-append (IsHeld instance s.words) v.published v.seen f.published f.seen } in
+    let left_fits : FitsPool rows instance s.words left = record { instance_is = f.instance_is; rows_are = f.rows_are; counter = f.counter; writing = f.writing; published = f.published; seen = f.seen } in
+    let right_fits : FitsPool rows instance s.words right = record { instance_is = f.instance_is; rows_are = f.rows_are; counter = f.counter; writing = tt; published = All-nil (IsHeld instance s.words); seen = All-append (IsHeld instance s.words) v.published v.seen f.published f.seen } in
     let here : Live vs id left = record { there = set_at s.views id v left at; unspent = refl } in
     let further : (j : ℕ) (u : PoolView) → Live vs j u → Live (vs ++ right ∷ []) j u = λ j u lu. record { there = at_longer vs (right ∷ []) j u lu.there; unspent = lu.unspent } in
     record {
       width = b.width;
       counter = b.counter;
       fits = λ j u lu. ⊎_elim
-          (λ h. ⊎_elim (λ (t : (j ≡ id) × (left ≡ u)). subst (Fits rows instance s.words) t.1 left_fits) (λ (t : (j ≢ id) × Live s.views j u). b.fits j u t.1) (live_set is_spent s.views id left j u (record { there = h; unspent = lu.unspent })))
-          (λ e. subst (Fits rows instance s.words) e right_fits)
+          (λ h. ⊎_elim (λ (t : (j ≡ id) × (left ≡ u)). subst (FitsPool rows instance s.words) t.1 left_fits) (λ (t : (j ≢ id) × Live s.views j u). b.fits j u t.1) (live_set is_spent s.views id left j u (record { there = h; unspent = lu.unspent })))
+          (λ e. subst (FitsPool rows instance s.words) e right_fits)
           (at_snoc vs right u j lu.there);
       reached = let o = b.reached in dite (ℕ_discrete o.0 id)
           (λ e. let same = same_view is_spent s.views o.0 id o.1 v e o.2 l in (id, left, further id left here, subst (λ (u : PoolView). u.counter ≡ counter_of s.words) same o.3))
@@ -140,9 +140,9 @@ joins rows instance id v other w unv unw idle s b at apart at' =
     let r : Live s.views other w = live_me s other w unw (sym (set_else s.views id other both apart) ∙ at') in
     let vs : List PoolView = set s.views id both in
     let ends : List PoolView = set vs other spent_view in
-    let f : Fits rows instance s.words v = b.fits id v l in
-    let g : Fits rows instance s.words w = b.fits other w r in
-    let fits : Fits rows instance s.words both = record {
+    let f : FitsPool rows instance s.words v = b.fits id v l in
+    let g : FitsPool rows instance s.words w = b.fits other w r in
+    let fits : FitsPool rows instance s.words both = record {
       instance_is = f.instance_is;
       rows_are = f.rows_are;
       counter = let a = f.counter in let c = g.counter in let m : max v.counter w.counter ≤ counter_of s.words = omega arith in m;
@@ -156,7 +156,7 @@ joins rows instance id v other w unv unw idle s b at apart at' =
     record {
       width = b.width;
       counter = b.counter;
-      fits = λ j u lu. ⊎_elim (λ (t : (j ≡ id) × (both ≡ u)). subst (Fits rows instance s.words) t.1 fits) (λ (t : (j ≢ id) × Live s.views j u). b.fits j u t.1) (live_joined s.views id other both j u lu);
+      fits = λ j u lu. ⊎_elim (λ (t : (j ≡ id) × (both ≡ u)). subst (FitsPool rows instance s.words) t.1 fits) (λ (t : (j ≢ id) × Live s.views j u). b.fits j u t.1) (live_joined s.views id other both j u lu);
       reached = let o = b.reached in dite (ℕ_discrete o.0 id)
           (λ e. let same = same_view is_spent s.views o.0 id o.1 v e o.2 l in (id, both, here, reached_by v (subst (λ (u : PoolView). u.counter ≡ counter_of s.words) same o.3) (omega arith)))
           (λ ne. dite (ℕ_discrete o.0 other)
@@ -187,12 +187,12 @@ has_part rows instance slots id me un s b _ at _ =
     let sum = b.shares.sum in
     (v, keeps, tt, looked rows instance s b id v v l un refl (b.fits id v l) (le_refl v.counter) refl refl 0, (omega arith, refl, published-apart rows instance s id v un b l))
 
-pub closes : (rows : ℕ) (instance : Instance) (id : ℕ) (v : PoolView) (words : List ℕ) (slots : List Row) → v.spent ≡ false → v.share ≡ WHOLE_SHARE → Final (Seen (IsPool rows instance) id v) words slots → IsWhole v
+pub closes : (rows : ℕ) (instance : Instance) (id : ℕ) (v : PoolView) (words : List ℕ) (slots : List Row) → v.spent ≡ false → v.share ≡ WHOLE_SHARE → Final (Seen (IsPool rows instance) id v) words slots → IsWholePool v
 closes rows instance id v words slots un all f =
     let s : Words = f.0 in
     let b : IsPool rows instance s = f.1.0 in
     let l : Live s.views id v = live_me s id v un f.1.1 in
-    let fits : Fits rows instance s.words v = b.fits id v l in
+    let fits : FitsPool rows instance s.words v = b.fits id v l in
     let most = b.counter in
     record {
       seen = All-weaker (Contains v.seen) (Contains v.published) (λ h has.

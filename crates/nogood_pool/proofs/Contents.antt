@@ -6,11 +6,11 @@ use Rattle.fapp_model.specs.declared.instance.Instance.{Instance}
 use Rattle.fapp_model.specs.declared.literal.Literal.{Literal}
 use Rattle.nogood_pool.specs.declared.view.Content.{Content}
 use Rattle.nogood_pool.specs.declared.view.HeldRow.{HeldRow}
-use Rattle.nogood_pool.specs.Pool.{IsHeld, held_row, word_at, literal_word}
+use Rattle.nogood_pool.specs.Pool.{IsHeld, held_row, pool_word_at, literal_word}
 
 -- two lists of literals with the same words are one
 same_literals : (xs ys : List Literal) → All (λ a. (a.path < 65536) × (a.choice < 65536)) xs → All (λ a. (a.path < 65536) × (a.choice < 65536)) ys → (n : ℕ) → length xs ≤ n → length ys ≤ n
-    → ((k : ℕ) → k < n → word_at xs k ≡ word_at ys k) → xs ≡ ys
+    → ((k : ℕ) → k < n → pool_word_at xs k ≡ pool_word_at ys k) → xs ≡ ys
 same_literals [] [] p q n a c same = refl
 same_literals [] (y ∷ ys) p q zero a c same = absurd (omega arith)
 same_literals [] (y ∷ ys) p q (suc n) a c same = let e : 0 ≡ literal_word y = same 0 (omega arith) in absurd (omega arith)

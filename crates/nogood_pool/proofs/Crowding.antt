@@ -15,7 +15,7 @@ use Rattle.fapp_model.specs.search.Partials.{literal, AreLiterals, IsLiteral}
 use Rattle.fapp_model.proofs.Members.{All-range}
 use Rattle.fapp_model.proofs.InOrder.{pairs-map, rising}
 use Rattle.nogood_pool.specs.Examples.{narrow_path, crowded, first_choices, top_code}
-use Rattle.nogood_pool.specs.Pool.{IsRow, content}
+use Rattle.nogood_pool.specs.Pool.{IsPoolRow, content}
 
 -- a choice of a path of two frequencies
 abbrev pick : ℕ → Choice
@@ -51,7 +51,7 @@ nobody-meets more plan feasible =
     (kept-off _ first.0) (kept-off _ second.0) (kept-off _ third.0)
 
 -- literals of a crowded instance may be published at its top tag
-pub crowded-row : (more : List ℕ) (lits : List Literal) → AreLiterals (crowded more) lits → IsRow (crowded more) (content lits top_code)
+pub crowded-row : (more : List ℕ) (lits : List Literal) → AreLiterals (crowded more) lits → IsPoolRow (crowded more) (content lits top_code)
 unfolding levels_of
 crowded-row more lits are = record {
   literals = are;
@@ -85,5 +85,5 @@ nine-first = record {
     at-path (suc (suc (suc (suc (suc (suc (suc (suc (suc path))))))))) l = absurd (omega arith)
 
 -- the same of an instance, literals and a code that are these
-pub crowded-row-by : (instance : Instance) (more : List ℕ) (lits are : List Literal) (code : ℕ) → instance ≡ crowded more → lits ≡ are → code ≡ top_code → AreLiterals (crowded more) are → IsRow instance (content lits code)
+pub crowded-row-by : (instance : Instance) (more : List ℕ) (lits are : List Literal) (code : ℕ) → instance ≡ crowded more → lits ≡ are → code ≡ top_code → AreLiterals (crowded more) are → IsPoolRow instance (content lits code)
 crowded-row-by instance more lits are code i l c formed = rw (i, l, c) (crowded-row more are formed)

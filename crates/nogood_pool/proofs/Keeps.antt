@@ -18,7 +18,7 @@ use Rattle.nogood.specs.declared.row.Row.{Row}
 use Rattle.nogood_pool.specs.declared.view.Content.{Content}
 use Rattle.nogood_pool.specs.declared.view.HeldRow.{HeldRow}
 use Rattle.nogood_pool.specs.declared.view.PoolView.{PoolView}
-use Rattle.nogood_pool.specs.Pool.{Words, IsPool, IsHeld, IsWriting, IsRow, IsShort, Fits, Live, cell, counter_of, times, below, written, once, held_row, content_of, word_at, literal_word}
+use Rattle.nogood_pool.specs.Pool.{Words, IsPool, IsHeld, IsRowInWriting, IsPoolRow, AreShort, FitsPool, Live, cell, counter_of, times, below, written, once, held_row, content_of_row, pool_word_at, literal_word}
 use Rattle.nogood_pool.specs.Steps.{Mine, Counts, Draws, Stores, StoresTag, LoadsTag, ReadsTag, ReadsLiteral, IsOnlyContent, after_count, after_draw, after_miss, writing_at, after_publish, after_read}
 use Rattle.nogood_pool.proofs.Cells.{cell_here, cell_else, cell_counter, counter_else, once_same, Beside, helds_kept, fits_kept, times_live, past, one_more, not_below, below_most}
 use Rattle.nogood_pool.proofs.Views.{kept, alone}
@@ -34,7 +34,7 @@ behind instance ws hs all = All-weaker (IsHeld instance ws) (λ h. h.row < count
 
 -- a step that changes no word and nothing of what is written or published
 pub looked : (rows : ℕ) (instance : Instance) (s : Words) (b : IsPool rows instance s) (id : ℕ) (v w : PoolView) → Live s.views id v → w.spent ≡ false → w.share ≡ v.share
-    → Fits rows instance s.words w → v.counter ≤ w.counter → w.writing ≡ v.writing → w.published ≡ v.published
+    → FitsPool rows instance s.words w → v.counter ≤ w.counter → w.writing ≡ v.writing → w.published ≡ v.published
     → (i : ℕ) → IsPool rows instance (stepped s i (get_or s.words i 0) id [] w keeps)
 looked rows instance s b id v w l un sh fits up wr pub' i =
     let times_same : (q : ℕ) → times q w ≡ times q v = λ q. rw (un, l.unspent, wr, pub') in
@@ -47,9 +47,9 @@ counts rows instance slots id me un s b _ at _ =
     let n : ℕ = counter_of s.words in
     let v : PoolView = me.0 in
     let l : Live s.views id v = live_me s id v un at in
-    let f : Fits rows instance s.words v = b.fits id v l in
+    let f : FitsPool rows instance s.words v = b.fits id v l in
     let w : PoolView = after_count v n in
-    let fits : Fits rows instance s.words w = record { instance_is = f.instance_is; rows_are = f.rows_are; counter = le_refl n; writing = f.writing; published = f.published; seen = f.seen } in (
+    let fits : FitsPool rows instance s.words w = record { instance_is = f.instance_is; rows_are = f.rows_are; counter = le_refl n; writing = f.writing; published = f.published; seen = f.seen } in (
       w,
       keeps,
       tt,
@@ -68,7 +68,7 @@ whole_counter : (rows : ℕ) (instance : Instance) (s : Words) (b : IsPool rows 
 whole_counter rows instance s b id v l all = let o = b.reached in let same = alone rows instance s b id v l all o.0 o.1 o.2 in sym (ap (λ (u : PoolView). u.counter) same ∙ o.3)
 
 drawn_kept : (rows : ℕ) (instance : Instance) (s : Words) (b : IsPool rows instance s) (id : ℕ) (v : PoolView) (next : ℕ) (c : Content)
-    → Live s.views id v → v.writing ≡ None → counter_of s.words ≡ next → next < rows → IsRow instance c → IsShort c.lits
+    → Live s.views id v → v.writing ≡ None → counter_of s.words ≡ next → next < rows → IsPoolRow instance c → AreShort c.lits
     → IsPool rows instance (record { words = set s.words 0 (next + 1); homes = s.homes; views = set s.views id (after_draw v next c) })
 drawn_kept rows instance s b id v next c l idle e lt valid short =
     let w : PoolView = after_draw v next c in
@@ -78,10 +78,10 @@ drawn_kept rows instance s b id v next c l idle e lt valid short =
     let same : (q k : ℕ) → cell ws q k ≡ cell s.words q k = λ q k. cell_counter s.words (next + 1) q k in
     let beside : Beside s.words ws next = record { counter = omega arith; cells = λ q k _ _. same q k } in
     let zero_word : (k : ℕ) → k < 9 → cell s.words next k ≡ 0 = λ k h. b.fresh next k (omega arith) lt h in
-    let f : Fits rows instance s.words v = b.fits id v l in
+    let f : FitsPool rows instance s.words v = b.fits id v l in
     let nobody : (j : ℕ) (u : PoolView) → Live s.views j u → written next u.writing ≡ 0 = λ j u lu.
     let o = one_within (times next) s.views j u lu.there in let t = times_live next u lu.unspent in let all = b.owners next in let none = not_below next (counter_of s.words) (omega arith) in omega arith in
-    let fits : Fits rows instance ws w = record {
+    let fits : FitsPool rows instance ws w = record {
       instance_is = f.instance_is;
       rows_are = f.rows_are;
       counter = omega arith;
@@ -106,18 +106,18 @@ drawn_kept rows instance s b id v next c l idle e lt valid short =
     (λ q h tagged. inl (λ z. tagged (same q 0 ∙ z)))
     (λ h k. k)
 
-pub draws : (rows : ℕ) (instance : Instance) (slots id : ℕ) (me : Mine) (next : ℕ) (said : Row) → me.0.spent ≡ false → me.0.writing ≡ None → next < rows → IsRow instance (content_of said) → IsShort (content_of said).lits
+pub draws : (rows : ℕ) (instance : Instance) (slots id : ℕ) (me : Mine) (next : ℕ) (said : Row) → me.0.spent ≡ false → me.0.writing ≡ None → next < rows → IsPoolRow instance (content_of_row said) → AreShort (content_of_row said).lits
     → Allows (IsPool rows instance) slots id me 0 (λ n. either (eqb n next) (next + 1) n) (Draws (step slots 0 next (next + 1) (some said)) me)
 draws rows instance slots id me next said un idle lt valid short s b _ at _ =
     let n : ℕ = counter_of s.words in
     let v : PoolView = me.0 in
     let l : Live s.views id v = live_me s id v un at in
-    let c : Content = content_of said in
+    let c : Content = content_of_row said in
     let hit_view : PoolView = after_draw v next c in
     let miss_view : PoolView = after_miss v next n in
-    let f : Fits rows instance s.words v = b.fits id v l in
+    let f : FitsPool rows instance s.words v = b.fits id v l in
     let few : n ≤ v.rows = subst (λ (r : ℕ). n ≤ r) (sym f.rows_are) b.counter in
-    let miss_fits : Fits rows instance s.words miss_view = record { instance_is = f.instance_is; rows_are = f.rows_are; counter = le_refl n; writing = f.writing; published = f.published; seen = f.seen } in
+    let miss_fits : FitsPool rows instance s.words miss_view = record { instance_is = f.instance_is; rows_are = f.rows_are; counter = le_refl n; writing = f.writing; published = f.published; seen = f.seen } in
     dite (ℕ_discrete n next)
     (λ e. (
       hit_view,
@@ -138,8 +138,8 @@ some_is : (a b : RowInWriting) → Some a ≡ Some b → a ≡ b
 some_is a b e = cc
 
 -- what the view says of its row in writing
-row_in_writing : (instance : Instance) (ws : List ℕ) (v : PoolView) (w : RowInWriting) → v.writing ≡ Some w → IfSome v.writing (IsWriting instance ws) → IsWriting instance ws w
-row_in_writing instance ws v w e h = subst (λ (o : Option RowInWriting). IfSome o (IsWriting instance ws)) e h
+row_in_writing : (instance : Instance) (ws : List ℕ) (v : PoolView) (w : RowInWriting) → v.writing ≡ Some w → IfSome v.writing (IsRowInWriting instance ws) → IsRowInWriting instance ws w
+row_in_writing instance ws v w e h = subst (λ (o : Option RowInWriting). IfSome o (IsRowInWriting instance ws)) e h
 
 -- no other seat writes the row that this one writes
 only_writer : (rows : ℕ) (instance : Instance) (s : Words) (b : IsPool rows instance s) (id : ℕ) (v : PoolView) (w : RowInWriting) → Live s.views id v → v.writing ≡ Some w → (j : ℕ) (u : PoolView) → j ≢ id → Live s.views j u → written w.row u.writing ≡ 0
@@ -155,15 +155,15 @@ only_writer rows instance s b id v w l e j u ne lu =
 
 stored_kept : (rows : ℕ) (instance : Instance) (s : Words) (b : IsPool rows instance s) (id : ℕ) (v : PoolView) (w : RowInWriting)
     → Live s.views id v → v.writing ≡ Some w → w.stored < length w.content.lits
-    → IsPool rows instance (record { words = set s.words (1 + 9 * w.row + (1 + w.stored)) (word_at w.content.lits w.stored); homes = s.homes; views = set s.views id (writing_at v w.row w.content (w.stored + 1)) })
+    → IsPool rows instance (record { words = set s.words (1 + 9 * w.row + (1 + w.stored)) (pool_word_at w.content.lits w.stored); homes = s.homes; views = set s.views id (writing_at v w.row w.content (w.stored + 1)) })
 stored_kept rows instance s b id v w l e lt =
     let r : ℕ = w.row in
     let k : ℕ = w.stored in
-    let n : ℕ = word_at w.content.lits k in
+    let n : ℕ = pool_word_at w.content.lits k in
     let ws : List ℕ = set s.words (1 + 9 * r + (1 + k)) n in
     let v' : PoolView = writing_at v r w.content (k + 1) in
-    let f : Fits rows instance s.words v = b.fits id v l in
-    let is : IsWriting instance s.words w = row_in_writing instance s.words v w e f.writing in
+    let f : FitsPool rows instance s.words v = b.fits id v l in
+    let is : IsRowInWriting instance s.words w = row_in_writing instance s.words v w e f.writing in
     let short = is.short in
     let after_draw' = is.drawn in
     let width = b.width in
@@ -172,7 +172,7 @@ stored_kept rows instance s b id v w l e lt =
     let other : (q j : ℕ) → j < 9 → (q ≡ r → j ≡ 1 + k → ⊥) → cell ws q j ≡ cell s.words q j = λ q j h apart. cell_else s.words r (1 + k) n q j (omega arith) h apart in
     let tags : (q : ℕ) → cell ws q 0 ≡ cell s.words q 0 = λ q. other q 0 (omega arith) (λ _ z. absurd (omega arith)) in
     let beside : Beside s.words ws r = record { counter = omega arith; cells = λ q j h ne. other q j h (λ same _. ne same) } in
-    let fits : Fits rows instance ws v' = record {
+    let fits : FitsPool rows instance ws v' = record {
       instance_is = f.instance_is;
       rows_are = f.rows_are;
       counter = let c = f.counter in omega arith;
@@ -182,7 +182,7 @@ stored_kept rows instance s b id v w l e lt =
         within = omega arith;
         tag = tags r ∙ is.tag;
         done = λ j h. dite (ℕ_discrete j k)
-            (λ same. subst (λ (i : ℕ). cell ws r (1 + i) ≡ word_at w.content.lits i) (sym same) (cell_here s.words r (1 + k) n (omega arith)))
+            (λ same. subst (λ (i : ℕ). cell ws r (1 + i) ≡ pool_word_at w.content.lits i) (sym same) (cell_here s.words r (1 + k) n (omega arith)))
             (λ ne. other r (1 + j) (omega arith) (λ _ z. ne (omega arith)) ∙ is.done j (omega arith));
         left = λ j le h. other r (1 + j) (omega arith) (λ _ z. absurd (omega arith)) ∙ is.left j (omega arith) h;
         valid = is.valid;
@@ -206,8 +206,8 @@ finished_kept rows instance s b id v w l e full =
     let n : ℕ = w.content.tag in
     let ws : List ℕ = set s.words (1 + 9 * r + 0) n in
     let v' : PoolView = after_publish v r w.content in
-    let f : Fits rows instance s.words v = b.fits id v l in
-    let is : IsWriting instance s.words w = row_in_writing instance s.words v w e f.writing in
+    let f : FitsPool rows instance s.words v = b.fits id v l in
+    let is : IsRowInWriting instance s.words w = row_in_writing instance s.words v w e f.writing in
     let short = is.short in
     let after_draw' = is.drawn in
     let width = b.width in
@@ -224,7 +224,7 @@ finished_kept rows instance s b id v w l e full =
           (λ more. is.left k (omega arith) h ∙ sym (past (map literal_word w.content.lits) k (omega (arith, length-map w.content.lits literal_word))));
       valid = is.valid;
     } in
-    let fits : Fits rows instance ws v' = record {
+    let fits : FitsPool rows instance ws v' = record {
       instance_is = f.instance_is;
       rows_are = f.rows_are;
       counter = let c = f.counter in omega arith;
@@ -244,7 +244,7 @@ finished_kept rows instance s b id v w l e full =
     (λ h c. Contains-append_left v.published (held_row r w.content ∷ []) h c)
 
 pub stores : (rows : ℕ) (instance : Instance) (slots id : ℕ) (me : Mine) (w : RowInWriting) (word n : ℕ) → me.0.spent ≡ false → me.0.writing ≡ Some w → w.stored < length w.content.lits
-    → word ≡ 1 + 9 * w.row + (1 + w.stored) → n ≡ word_at w.content.lits w.stored
+    → word ≡ 1 + 9 * w.row + (1 + w.stored) → n ≡ pool_word_at w.content.lits w.stored
     → Allows (IsPool rows instance) slots id me word (λ _. n) (λ _. Stores (step slots word n 0 none) me n)
 stores rows instance slots id me w word n un e lt at_word is_n s b _ at _ =
     let v : PoolView = me.0 in
@@ -280,9 +280,9 @@ tag_read : (rows : ℕ) (instance : Instance) (s : Words) (b : IsPool rows insta
 tag_read rows instance s b id me row l lt i =
     let n : ℕ = cell s.words row 0 in
     let v : PoolView = me.0 in
-    let f : Fits rows instance s.words v = b.fits id v l in
+    let f : FitsPool rows instance s.words v = b.fits id v l in
     let after : List HeldRow → PoolView = λ more. after_read v row n more in
-    let fits : (more : List HeldRow) → All (IsHeld instance s.words) more → Fits rows instance s.words (after more) = λ more all.
+    let fits : (more : List HeldRow) → All (IsHeld instance s.words) more → FitsPool rows instance s.words (after more) = λ more all.
     record { instance_is = f.instance_is; rows_are = f.rows_are; counter = f.counter; writing = f.writing; published = f.published; seen = All-append (IsHeld instance s.words) v.seen more f.seen all } in
     let keep : (more : List HeldRow) → All (IsHeld instance s.words) more → IsPool rows instance (stepped s i (get_or s.words i 0) id [] (after more) keeps) = λ more all.
     looked rows instance s b id v (after more) l refl refl (fits more all) (le_refl v.counter) refl refl i in
@@ -305,7 +305,7 @@ tag_read rows instance s b id me row l lt i =
     let is : IsHeld instance s.words (held_row row c) = All-contains (IsHeld instance s.words) o.1.published (held_row row c) (b.fits o.0 o.1 o.2).published o.4 in (
       after (held_row row c ∷ []),
       keep (held_row row c ∷ []) (All-cons (IsHeld instance s.words) (held_row row c) [] is (All-nil (IsHeld instance s.words))),
-      inr (c, is.tag, subst (λ (x : Instance). IsRow x c) (sym f.instance_is) is.valid, is.short, only_one c is, refl),
+      inr (c, is.tag, subst (λ (x : Instance). IsPoolRow x c) (sym f.instance_is) is.valid, is.short, only_one c is, refl),
     ))
 
 pub reads : (rows : ℕ) (instance : Instance) (slots id : ℕ) (me : Mine) (row word : ℕ) → me.0.spent ≡ false → row < rows → word ≡ 1 + 9 * row
@@ -330,7 +330,7 @@ pub reads_literal : (rows : ℕ) (instance : Instance) (slots id : ℕ) (me : Mi
 reads_literal rows instance slots id me word un s b _ at _ =
     let v : PoolView = me.0 in
     let l : Live s.views id v = live_me s id v un at in
-    let f : Fits rows instance s.words v = b.fits id v l in (
+    let f : FitsPool rows instance s.words v = b.fits id v l in (
       v,
       keeps,
       tt,

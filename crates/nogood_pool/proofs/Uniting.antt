@@ -10,7 +10,7 @@ use Rattle.nogood_pool.specs.declared.view.PoolView.{PoolView}
 use Rattle.nogood_pool.specs.Pool.{after_join, given_half, kept_half}
 use Rattle.nogood_pool.specs.Seats.{view_of, IsSeatOf}
 use Rattle.nogood_pool.specs.Dealt.{IsSplitFrom, KeepsAllButShare}
-use Rattle.nogood_pool.specs.Ends.{ArePooled, IsWhole, published_by}
+use Rattle.nogood_pool.specs.Ends.{ArePooled, IsWholePool, published_by}
 
 -- a view has what some views published, in order, and whatever they saw
 pub record IsUnited (views : List PoolView) (all : PoolView) : Type 0 where
@@ -34,7 +34,7 @@ united-more v w views h =
           (λ u has. All-weaker (Contains w.seen) (Contains more) (λ g in'. Contains-append_right v.seen w.seen g in') u.seen has) views h.seen);
     }
 
-pub united-all : (views : List PoolView) (all : PoolView) → IsUnited views all → IsWhole all → ArePooled views
+pub united-all : (views : List PoolView) (all : PoolView) → IsUnited views all → IsWholePool all → ArePooled views
 united-all views all h whole = record {
   seen = All-weaker (λ (v : PoolView). All (Contains all.seen) v.seen) (λ (v : PoolView). All (Contains (published_by views)) v.seen)
       (λ v has. All-weaker (Contains all.seen) (Contains (published_by views))
@@ -58,7 +58,7 @@ tail-more all some rest seat w x e joined h = record {
   united = subst (IsUnited (map view_of (seat ∷ h.gone))) (sym joined) (united-more (view_of seat) w (map view_of h.gone) h.united);
 }
 
-pub tail-all : (all : List PoolSeat) (first w x : PoolView) → x ≡ after_join first w → IsTail all [] w → IsWhole x → ArePooled (first ∷ map view_of all)
+pub tail-all : (all : List PoolSeat) (first w x : PoolView) → x ≡ after_join first w → IsTail all [] w → IsWholePool x → ArePooled (first ∷ map view_of all)
 tail-all all first w x joined h whole =
     subst (λ (xs : List PoolSeat). ArePooled (first ∷ map view_of xs)) (sym h.parts)
     (united-all (first ∷ map view_of h.gone) x (subst (IsUnited (first ∷ map view_of h.gone)) (sym joined) (united-more first w (map view_of h.gone) h.united)) whole)

@@ -10,14 +10,14 @@ use Rattle.nogood.specs.declared.row.Row.{Row}
 use Rattle.nogood_pool.specs.declared.view.Content.{Content}
 use Rattle.nogood_pool.specs.declared.view.HeldRow.{HeldRow}
 use Rattle.nogood_pool.specs.declared.view.PoolView.{PoolView}
-use Rattle.nogood_pool.specs.Pool.{Words, cell, counter_of, is_spent, share_of, times, below, held_row, Live, Fits, IsPool}
+use Rattle.nogood_pool.specs.Pool.{Words, cell, counter_of, is_spent, share_of, times, below, held_row, Live, FitsPool, IsPool}
 use Rattle.seat_laws.proofs.Sums.{sum_set}
 use Rattle.seat_laws.proofs.Views.{set_at, live_set, live_else, same_view, shared_set, alone as only}
 
 -- a step that changes the words and one live view keeps the rule, if it keeps these parts
 pub kept : (rows : ℕ) (instance : Instance) (s : Words) (b : IsPool rows instance s) (homes : List (Option Row)) (id : ℕ) (v w : PoolView) (ws : List ℕ)
     → Live s.views id v → w.spent ≡ false → w.share ≡ v.share → length ws ≡ length s.words → counter_of ws ≤ rows
-    → Fits rows instance ws w → ((j : ℕ) (u : PoolView) → j ≢ id → Live s.views j u → Fits rows instance ws u)
+    → FitsPool rows instance ws w → ((j : ℕ) (u : PoolView) → j ≢ id → Live s.views j u → FitsPool rows instance ws u)
     → (w.counter ≡ counter_of ws) ⊎ ((counter_of ws ≡ counter_of s.words) × (v.counter ≤ w.counter))
     → ((q : ℕ) → times q w + below q (counter_of s.words) ≡ times q v + below q (counter_of ws))
     → ((q k : ℕ) → counter_of ws ≤ q → q < rows → k < 9 → cell ws q k ≡ 0)
@@ -29,7 +29,7 @@ kept rows instance s b homes id v w ws l un sh len most mine others reach owners
     record {
       width = len ∙ b.width;
       counter = most;
-      fits = λ j u lu. ⊎_elim (λ (t : (j ≡ id) × (w ≡ u)). subst (Fits rows instance ws) t.1 mine) (λ t. others j u t.0 t.1) (live_set is_spent s.views id w j u lu);
+      fits = λ j u lu. ⊎_elim (λ (t : (j ≡ id) × (w ≡ u)). subst (FitsPool rows instance ws) t.1 mine) (λ t. others j u t.0 t.1) (live_set is_spent s.views id w j u lu);
       reached = ⊎_elim (λ e. (id, w, here, e))
           (λ (t : (counter_of ws ≡ counter_of s.words) × (v.counter ≤ w.counter)). let o = b.reached in dite (ℕ_discrete o.0 id)
           (λ e. let same : o.1 ≡ v = same_view is_spent s.views o.0 id o.1 v e o.2 l in let vc : v.counter ≡ counter_of s.words = subst (λ (u : PoolView). u.counter ≡ counter_of s.words) same o.3 in

@@ -30,8 +30,8 @@ abbrev pub literal_word : Literal → ℕ
 literal_word a = 1 + 65536 * a.path + a.choice
 
 -- a literal word of a content, 0 past its literals
-abbrev pub word_at : List Literal → ℕ → ℕ
-word_at lits k = slice_index (map literal_word lits) k
+abbrev pub pool_word_at : List Literal → ℕ → ℕ
+pool_word_at lits k = slice_index (map literal_word lits) k
 
 abbrev pub content : List Literal → ℕ → Content
 content lits tag = record { lits = lits; tag = tag }
@@ -39,11 +39,11 @@ content lits tag = record { lits = lits; tag = tag }
 abbrev pub held_row : ℕ → Content → HeldRow
 held_row row c = record { row = row; content = c }
 
-abbrev pub content_of : Row → Content
-content_of r = record { lits = take r.len r.lits; tag = r.tag.code }
+abbrev pub content_of_row : Row → Content
+content_of_row r = record { lits = take r.len r.lits; tag = r.tag.code }
 
 -- what may be published: literals of the instance, ascending, implied at a tag of the instance above (0, 0, 0)
-pub record IsRow (instance : Instance) (c : Content) : Type 0 where
+pub record IsPoolRow (instance : Instance) (c : Content) : Type 0 where
   pub literals : AreLiterals instance c.lits
   pub code : IsTrue (is_code c.tag)
   pub tag : IsTagOf instance (triple_from c.tag)
@@ -51,27 +51,27 @@ pub record IsRow (instance : Instance) (c : Content) : Type 0 where
   pub implied : Implied instance (triple_from c.tag) c.lits
 
 -- what eight words can hold
-pub record IsShort (lits : List Literal) : Type 0 where
+pub record AreShort (lits : List Literal) : Type 0 where
   pub most : length lits ≤ 8
   pub narrow : All (λ a. (a.path < 65536) × (a.choice < 65536)) lits
 
 -- the row holds the content
 pub record IsHeld (instance : Instance) (ws : List ℕ) (h : HeldRow) : Type 0 where
   pub drawn : h.row < counter_of ws
-  pub short : IsShort h.content.lits
+  pub short : AreShort h.content.lits
   pub tag : cell ws h.row 0 ≡ h.content.tag
-  pub lits : (k : ℕ) → k < 8 → cell ws h.row (1 + k) ≡ word_at h.content.lits k
-  pub valid : IsRow instance h.content
+  pub lits : (k : ℕ) → k < 8 → cell ws h.row (1 + k) ≡ pool_word_at h.content.lits k
+  pub valid : IsPoolRow instance h.content
 
 -- the row has no tag yet, and as many of its literals as were stored
-pub record IsWriting (instance : Instance) (ws : List ℕ) (w : RowInWriting) : Type 0 where
+pub record IsRowInWriting (instance : Instance) (ws : List ℕ) (w : RowInWriting) : Type 0 where
   pub drawn : w.row < counter_of ws
-  pub short : IsShort w.content.lits
+  pub short : AreShort w.content.lits
   pub within : w.stored ≤ length w.content.lits
   pub tag : cell ws w.row 0 ≡ 0
-  pub done : (k : ℕ) → k < w.stored → cell ws w.row (1 + k) ≡ word_at w.content.lits k
+  pub done : (k : ℕ) → k < w.stored → cell ws w.row (1 + k) ≡ pool_word_at w.content.lits k
   pub left : (k : ℕ) → w.stored ≤ k → k < 8 → cell ws w.row (1 + k) ≡ 0
-  pub valid : IsRow instance w.content
+  pub valid : IsPoolRow instance w.content
 
 abbrev pub is_spent : PoolView → Bool
 is_spent v = v.spent
@@ -99,11 +99,11 @@ abbrev pub times : ℕ → PoolView → ℕ
 times row v = cond v.spent 0 (written row v.writing + sum_by (λ h. once row h.row) v.published)
 
 -- what a live view says is so
-pub record Fits (rows : ℕ) (instance : Instance) (ws : List ℕ) (v : PoolView) : Type 0 where
+pub record FitsPool (rows : ℕ) (instance : Instance) (ws : List ℕ) (v : PoolView) : Type 0 where
   pub instance_is : v.instance ≡ instance
   pub rows_are : v.rows ≡ rows
   pub counter : v.counter ≤ counter_of ws
-  pub writing : IfSome v.writing (IsWriting instance ws)
+  pub writing : IfSome v.writing (IsRowInWriting instance ws)
   pub published : All (IsHeld instance ws) v.published
   pub seen : All (IsHeld instance ws) v.seen
 
@@ -111,7 +111,7 @@ pub record Fits (rows : ℕ) (instance : Instance) (ws : List ℕ) (v : PoolView
 pub record IsPool (rows : ℕ) (instance : Instance) (s : Words) : Type 0 where
   pub width : length s.words ≡ 1 + 9 * rows
   pub counter : counter_of s.words ≤ rows
-  pub fits : (seat : ℕ) (v : PoolView) → Live s.views seat v → Fits rows instance s.words v
+  pub fits : (seat : ℕ) (v : PoolView) → Live s.views seat v → FitsPool rows instance s.words v
   pub reached : (seat : ℕ) × (v : PoolView) × Live s.views seat v × (v.counter ≡ counter_of s.words)
   pub owners : (row : ℕ) → sum_by (times row) s.views ≡ below row (counter_of s.words)
   pub fresh : (row k : ℕ) → counter_of s.words ≤ row → row < rows → k < 9 → cell s.words row k ≡ 0

@@ -9,7 +9,7 @@ use Rattle.nogood_pool.specs.declared.view.HeldRow.{HeldRow}
 use Rattle.nogood_pool.specs.declared.view.TrailEntry.TheVariants.{Counted, Exchanged, Read}
 use Rattle.nogood_pool.specs.declared.view.PoolView.{PoolView}
 use Rattle.nogood_pool.specs.declared.view.RowInWriting.{RowInWriting}
-use Rattle.nogood_pool.specs.Pool.{IsRow, IsShort, content, content_of, held_row, word_at}
+use Rattle.nogood_pool.specs.Pool.{IsPoolRow, AreShort, content, content_of_row, held_row, pool_word_at}
 
 abbrev pub Mine : Type 0
 Mine = Me Row PoolView
@@ -41,11 +41,11 @@ after_read v row n more = record { spent = false; share = v.share; instance = v.
 -- the content that a step announces
 abbrev pub said_content : core.Option Row → Content
 said_content core.none = content [] 0
-said_content (core.some r) = content_of r
+said_content (core.some r) = content_of_row r
 
 -- no row was published twice
-abbrev pub AreApart : List HeldRow → Type 0
-AreApart held = AllPairs (λ g h. g.row ≢ h.row) held
+abbrev pub AreRowsApart : List HeldRow → Type 0
+AreRowsApart held = AllPairs (λ g h. g.row ≢ h.row) held
 
 -- all that a view published or saw is below n
 pub record IsBehind (v : PoolView) (n : ℕ) : Type 0 where
@@ -75,7 +75,7 @@ IsOnlyContent v row c = (d : Content) → Contains v.published (held_row row d) 
 abbrev pub ReadsTag : PoolView → ℕ → ℕ → PoolView → Type 0
 ReadsTag v row n w =
     ((n ≡ 0) × (w ≡ after_read v row n []) × ((c : Content) → Contains v.published (held_row row c) ⊎ Contains v.seen (held_row row c) → ⊥))
-    ⊎ ((c : Content) × (n ≡ c.tag) × IsRow v.instance c × IsShort c.lits × IsOnlyContent v row c × (w ≡ after_read v row n (held_row row c ∷ [])))
+    ⊎ ((c : Content) × (n ≡ c.tag) × IsPoolRow v.instance c × AreShort c.lits × IsOnlyContent v row c × (w ≡ after_read v row n (held_row row c ∷ [])))
 
 abbrev pub LoadsTag : Step Row → Mine → ℕ → Mine → Type 0
 LoadsTag st me n me' = (me'.1 ≡ me.1) × ((row : ℕ) → st.word ≡ 1 + 9 * row → ReadsTag me.0 row n me'.0)
@@ -83,7 +83,7 @@ LoadsTag st me n me' = (me'.1 ≡ me.1) × ((row : ℕ) → st.word ≡ 1 + 9 * 
 -- a literal word of a row that was seen
 abbrev pub ReadsLiteral : Step Row → Mine → ℕ → Mine → Type 0
 ReadsLiteral st me n me' =
-    (me' ≡ me) × ((row k : ℕ) (c : Content) → st.word ≡ 1 + 9 * row + (1 + k) → k < 8 → Contains me.0.seen (held_row row c) → n ≡ word_at c.lits k)
+    (me' ≡ me) × ((row k : ℕ) (c : Content) → st.word ≡ 1 + 9 * row + (1 + k) → k < 8 → Contains me.0.seen (held_row row c) → n ≡ pool_word_at c.lits k)
 
 abbrev pub HasPart : Step Row → Mine → ℕ → Mine → Type 0
-HasPart st me n me' = (me.0.share ≤ WHOLE_SHARE) × (me' ≡ me) × AreApart me.0.published
+HasPart st me n me' = (me.0.share ≤ WHOLE_SHARE) × (me' ≡ me) × AreRowsApart me.0.published

@@ -2,8 +2,8 @@
 ghost use Rattle.std.specs.Prelude.{◌≡◌, ◌≤◌, IfOk};
 ghost use Rattle.seat_laws.specs.declared.TheConstants.{WHOLE_SHARE};
 ghost use Rattle.nogood_pool.specs.Pool.{first_view, kept_half, given_half, after_join};
-ghost use Rattle.nogood_pool.specs.Ends.{IsWhole};
-ghost use Rattle.nogood_pool.specs.Seats.{view_of, instance_of, IsSeatOf, IsSameSeat};
+ghost use Rattle.nogood_pool.specs.Ends.{IsWholePool};
+ghost use Rattle.nogood_pool.specs.Seats.{view_of, instance_seen, IsSeatOf, IsSameSeat};
 
 use crate::plays::{Halve, Share, Unite};
 use crate::seat::{MAX_ROWS, Pool, PoolSeat};
@@ -19,7 +19,7 @@ impl Pool {
     /// here: 72 bytes a row.
     pub fn new(alloc: Global, rows: u32, instance: &Instance) -> Result<(Pool, PoolSeat), NoMemory>
         requires { rows ≤ MAX_ROWS }
-        ensures { IfOk result (λ r. IsSeatOf r.0 r.1 × (view_of r.1 ≡ first_view rows instance.now) × (r.0.rows ≡ rows) × (instance_of r.0 ≡ instance.now)) }
+        ensures { IfOk result (λ r. IsSeatOf r.0 r.1 × (view_of r.1 ≡ first_view rows instance.now) × (r.0.rows ≡ rows) × (instance_seen r.0 ≡ instance.now)) }
     {
         let key = Key {
             rows: u64::from(rows),
@@ -80,7 +80,7 @@ impl Pool {
     pub fn close(self, seat: PoolSeat)
         requires own { IsSeatOf self seat }
         requires share { (view_of seat).share ≡ WHOLE_SHARE }
-        ensures { IsWhole (view_of seat) }
+        ensures { IsWholePool (view_of seat) }
     {
         let Pool { table, rows: _ } = self;
         let PoolSeat {

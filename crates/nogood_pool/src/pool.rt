@@ -1,10 +1,10 @@
 // The calls.
 ghost use Rattle.std.specs.Prelude.{◌≡◌, ◌≢◌, ℕ, ◌+◌, ◌*◌, ◌≤◌, ◌<◌, ◌∷◌, [], false, length, slice_index, Contains, IfOk, MatchBool, Some, None};
 ghost use Rattle.seat_laws.specs.declared.TheConstants.{WHOLE_SHARE};
-ghost use Rattle.nogood_pool.specs.Pool.{IsRow, IsShort, content, content_of, held_row, first_view, word_at};
+ghost use Rattle.nogood_pool.specs.Pool.{IsPoolRow, AreShort, content, content_of_row, held_row, first_view, pool_word_at};
 ghost use Rattle.nogood_pool.specs.declared.view.Content.{Content};
 ghost use Rattle.nogood_pool.specs.Steps.{ReadsTag, after_count, after_draw, after_miss, after_publish, writing_at, after_read};
-ghost use Rattle.nogood_pool.specs.Seats.{view_of, instance_of, IsSeatOf, IsSameSeat, Loads, Publishes, Reads, Gets};
+ghost use Rattle.nogood_pool.specs.Seats.{view_of, instance_seen, IsSeatOf, IsSameSeat, Loads, SeatPublishes, SeatReads, Gets};
 
 use crate::plays::{Count, Draw, ReadLiteral, ReadTag, StoreLiteral, StoreTag};
 use crate::seat::{Pool, PoolSeat};
@@ -60,9 +60,9 @@ impl Pool {
     fn draw(&self, seat: &mut Seat<Row, PoolView>, next: u64, said: &Row) -> u64
         requires table { seat.old.table_id ≡ self.now.table.shared.table_id }
         requires idle { (seat.old.me.1 ≡ []) × (seat.old.me.0.spent ≡ false) × (seat.old.me.0.writing ≡ None) }
-        requires row { (next < self.now.rows) × IsRow (instance_of self.now) (content_of said.now) × IsShort (content_of said.now).lits }
+        requires row { (next < self.now.rows) × IsPoolRow (instance_seen self.now) (content_of_row said.now) × AreShort (content_of_row said.now).lits }
         ensures same { (seat.new.table_id ≡ seat.old.table_id) × (seat.new.id ≡ seat.old.id) × (seat.new.me.1 ≡ []) }
-        ensures hit { result ≡ next → seat.new.me.0 ≡ after_draw seat.old.me.0 next (content_of said.now) }
+        ensures hit { result ≡ next → seat.new.me.0 ≡ after_draw seat.old.me.0 next (content_of_row said.now) }
         ensures miss { result ≢ next → seat.new.me.0 ≡ after_miss seat.old.me.0 next result }
         ensures most { (seat.old.me.0.counter ≤ result) × (result ≤ seat.old.me.0.rows) }
         ensures alone { seat.old.me.0.share ≡ WHOLE_SHARE → result ≡ seat.old.me.0.counter }
@@ -76,10 +76,10 @@ impl Pool {
     fn write_row(&self, seat: &mut Seat<Row, PoolView>, row: usize, said: &Row)
         requires table { seat.old.table_id ≡ self.now.table.shared.table_id }
         requires idle { (seat.old.me.1 ≡ []) × (seat.old.me.0.spent ≡ false) }
-        requires row { (row < self.now.rows) × (seat.old.me.0.writing ≡ Some (record { row = row; content = content_of said.now; stored = 0 })) }
-        requires said { IsShort (content_of said.now).lits × (length (content_of said.now).lits ≡ said.now.len) }
+        requires row { (row < self.now.rows) × (seat.old.me.0.writing ≡ Some (record { row = row; content = content_of_row said.now; stored = 0 })) }
+        requires said { AreShort (content_of_row said.now).lits × (length (content_of_row said.now).lits ≡ said.now.len) }
         ensures same { (seat.new.table_id ≡ seat.old.table_id) × (seat.new.id ≡ seat.old.id) × (seat.new.me.1 ≡ []) }
-        ensures view { seat.new.me.0 ≡ after_publish seat.old.me.0 row (content_of said.now) }
+        ensures view { seat.new.me.0 ≡ after_publish seat.old.me.0 row (content_of_row said.now) }
     {
         for k in 0..usize::from(said.len) {
             let word = word_of(said.lits[k]);
@@ -99,9 +99,9 @@ impl Pool {
     /// `read` and the one exchange found `seen` in its place; never for a seat with the whole share.
     pub fn publish(&self, seat: &mut PoolSeat, lits: &[Literal], tag: Tag) -> Published
         requires own { IsSeatOf self.now seat.old }
-        requires row { IsRow (instance_of self.now) (content lits.now tag.code) }
+        requires row { IsPoolRow (instance_seen self.now) (content lits.now tag.code) }
         ensures same { IsSameSeat seat.old seat.new }
-        ensures published { Publishes (view_of seat.old) lits.now tag.code result (view_of seat.new) }
+        ensures published { SeatPublishes (view_of seat.old) lits.now tag.code result (view_of seat.new) }
     {
         let Some(said) = row_of(lits, tag) else {
             return Published::TooLong;
@@ -140,7 +140,7 @@ impl Pool {
         requires idle { (seat.old.me.1 ≡ []) × (seat.old.me.0.spent ≡ false) }
         requires row { row < self.now.rows }
         ensures same { (seat.new.table_id ≡ seat.old.table_id) × (seat.new.id ≡ seat.old.id) × (seat.new.me ≡ seat.old.me) }
-        ensures words { (c : Content) → Contains seat.old.me.0.seen (held_row row c) → (i : ℕ) → i < 8 → slice_index result i ≡ word_at c.lits i }
+        ensures words { (c : Content) → Contains seat.old.me.0.seen (held_row row c) → (i : ℕ) → i < 8 → slice_index result i ≡ pool_word_at c.lits i }
     {
         let mut words = [0u64; 8];
         for k in 0..8 {
@@ -157,7 +157,7 @@ impl Pool {
         requires own { IsSeatOf self.now seat.old }
         requires row { row < self.now.rows }
         ensures same { IsSameSeat seat.old seat.new }
-        ensures read { Reads (view_of seat.old) row result (view_of seat.new) }
+        ensures read { SeatReads (view_of seat.old) row result (view_of seat.new) }
     {
         let code = self.load_tag(&mut seat.seat, row as usize);
         if code == 0 {

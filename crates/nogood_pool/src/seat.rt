@@ -1,6 +1,6 @@
 // The pool and a seat, as they are kept.
 ghost use Rattle.nogood_pool.specs.declared.seat.TheConstants.{MAX_ROWS};
-ghost use Rattle.nogood_pool.specs.Steps.{AreApart};
+ghost use Rattle.nogood_pool.specs.Steps.{AreRowsApart};
 ghost use Rattle.std.specs.Prelude.{◌≡◌, ◌+◌, ◌*◌, ◌≤◌, false, [], None};
 
 use crate::view::{Key, PoolRule, PoolView};
@@ -32,5 +32,5 @@ pub struct PoolSeat {
     ghost idle: { seat.me.0.writing ≡ None },
     ghost shares: { seat.me.0.share ≡ share },
     ghost counts: { seat.me.0.counter ≡ counter },
-    ghost apart: { AreApart seat.me.0.published },
+    ghost apart: { AreRowsApart seat.me.0.published },
 }

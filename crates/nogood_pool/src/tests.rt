@@ -2,7 +2,7 @@ ghost use Rattle.std.specs.Prelude.{◌≡◌, ◌<◌, ◌≤◌, [], ◌∷◌
 ghost use Rattle.std.specs.Thread.{IsSync};
 ghost use Rattle.nogood_pool.specs.Examples.{crowded, crowded_paths, first_choices, narrow_path, pairwise_apart, top_code};
 ghost use Rattle.fapp_model.specs.declared.record.Record.TheVariants.{Freq};
-ghost use Rattle.nogood_pool.specs.Seats.{view_of, instance_of, IsSeatOf};
+ghost use Rattle.nogood_pool.specs.Seats.{view_of, instance_seen, IsSeatOf};
 
 use super::*;
 use fapp_model::{Instance, Items, LEVELS, Literal, NoMemory, Path, Record, Tag, Triple, tag_of};
@@ -81,7 +81,7 @@ fn crowded_instance(alloc: Global, more: &[u32]) -> Result<Instance, NoMemory>
 /// Publishes the list without literals.
 fn publish_none(pool: &Pool, seat: &mut PoolSeat) -> Published
     requires own { IsSeatOf pool.now seat.old }
-    requires crowded { instance_of pool.now ≡ crowded [] }
+    requires crowded { instance_seen pool.now ≡ crowded [] }
     ensures own { IsSeatOf pool.now seat.new }
     ensures share { (view_of seat.new).share ≡ (view_of seat.old).share }
 {
@@ -91,7 +91,7 @@ fn publish_none(pool: &Pool, seat: &mut PoolSeat) -> Published
 /// Publishes nine literals.
 fn publish_nine(pool: &Pool, seat: &mut PoolSeat, lits: &[Literal]) -> Published
     requires own { IsSeatOf pool.now seat.old }
-    requires crowded { instance_of pool.now ≡ crowded (4 ∷ 5 ∷ 6 ∷ 7 ∷ 8 ∷ 9 ∷ []) }
+    requires crowded { instance_seen pool.now ≡ crowded (4 ∷ 5 ∷ 6 ∷ 7 ∷ 8 ∷ 9 ∷ []) }
     requires lits { lits.now ≡ first_choices 9 }
 {
     pool.publish(seat, lits, top())
@@ -139,7 +139,7 @@ fn nine_literals_are_too_long(rt: HostRuntime) -> Result<(), NoMemory> {
 /// The rows that a seat gets for the list without literals, offered 500 times.
 fn publish_often(alloc: Global, pool: &Pool, seat: &mut PoolSeat) -> Result<Vec<u32>, NoMemory>
     requires own { IsSeatOf pool.now seat.old }
-    requires crowded { instance_of pool.now ≡ crowded [] }
+    requires crowded { instance_seen pool.now ≡ crowded [] }
     ensures own { IsSeatOf pool.now seat.new }
     ensures share { (view_of seat.new).share ≡ (view_of seat.old).share }
 {
@@ -161,7 +161,7 @@ fn publish_by<R: Threads + Sync>(
     seats: u32,
 ) -> (PoolSeat, Result<Vec<u32>, NoMemory>)
     requires own { IsSeatOf pool.now seat }
-    requires crowded { instance_of pool.now ≡ crowded [] }
+    requires crowded { instance_seen pool.now ≡ crowded [] }
     requires share { seats ≤ (view_of seat).share }
     ensures own { IsSeatOf pool.now result.0 }
 {
@@ -175,11 +175,11 @@ fn publish_by<R: Threads + Sync>(
     let (left, right) = join(
         rt,
         move || -> (PoolSeat, Result<Vec<u32>, NoMemory>)
-            requires { IsSync R.row × IsSeatOf pool.now other × (instance_of pool.now ≡ crowded []) × (half ≤ (view_of other).share) }
+            requires { IsSync R.row × IsSeatOf pool.now other × (instance_seen pool.now ≡ crowded []) × (half ≤ (view_of other).share) }
             ensures { IsSeatOf pool.entry.now result.0 }
         { publish_by(rt, alloc, pool, other, half) },
         move || -> (PoolSeat, Result<Vec<u32>, NoMemory>)
-            requires { IsSync R.row × IsSeatOf pool.now seat × (instance_of pool.now ≡ crowded []) × (rest ≤ (view_of seat).share) }
+            requires { IsSync R.row × IsSeatOf pool.now seat × (instance_seen pool.now ≡ crowded []) × (rest ≤ (view_of seat).share) }
             ensures { IsSeatOf pool.entry.now result.0 }
         { publish_by(rt, alloc, pool, seat, rest) },
     );

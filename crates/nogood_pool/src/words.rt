@@ -1,6 +1,6 @@
 // Rows and their words.
 ghost use Rattle.std.specs.Prelude.{◌≡◌, ◌<◌, ◌≤◌, ℕ, List, length, slice_index, MatchOption};
-ghost use Rattle.nogood_pool.specs.Pool.{IsShort, content, content_of, literal_word, word_at};
+ghost use Rattle.nogood_pool.specs.Pool.{AreShort, content, content_of_row, literal_word, pool_word_at};
 ghost use Rattle.fapp_model.specs.declared.literal.Literal.{Literal};
 
 use fapp_model::{Literal, Tag};
@@ -34,7 +34,7 @@ fn known(a: Literal) -> Literal
 
 // The literals and the tag as a row, where there are at most eight literals.
 pub(crate) fn row_of(lits: &[Literal], tag: Tag) -> Option<Row>
-    ensures { MatchOption result (8 < length lits.now) (λ r. (content_of r ≡ content lits.now tag.code) × IsShort lits.now × (length lits.now ≡ r.len)) }
+    ensures { MatchOption result (8 < length lits.now) (λ r. (content_of_row r ≡ content lits.now tag.code) × AreShort lits.now × (length lits.now ≡ r.len)) }
 {
     if lits.len() > 8 {
         return None;
@@ -52,8 +52,8 @@ pub(crate) fn row_of(lits: &[Literal], tag: Tag) -> Option<Row>
 
 // The row of eight words.
 pub(crate) fn row_from(words: &[u64; 8], tag: Tag) -> Row
-    requires { (lits : List Literal) × IsShort lits × ((k : ℕ) → k < 8 → slice_index words.now k ≡ word_at lits k) }
-    ensures { (lits : List Literal) → IsShort lits → ((k : ℕ) → k < 8 → slice_index words.now k ≡ word_at lits k) → content_of result ≡ content lits tag.code }
+    requires { (lits : List Literal) × AreShort lits × ((k : ℕ) → k < 8 → slice_index words.now k ≡ pool_word_at lits k) }
+    ensures { (lits : List Literal) → AreShort lits → ((k : ℕ) → k < 8 → slice_index words.now k ≡ pool_word_at lits k) → content_of_row result ≡ content lits tag.code }
 {
     let mut all = [Literal { path: 0, choice: 0 }; 8];
     let mut len = 0;

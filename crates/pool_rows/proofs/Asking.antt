@@ -16,19 +16,19 @@ use Rattle.search_log.specs.Shares.{HaveOneContent}
 use Rattle.nogood_pool.specs.declared.view.HeldRow.{HeldRow}
 use Rattle.nogood_pool.specs.declared.view.PoolView.{PoolView}
 use Rattle.nogood_pool.specs.Pool.{below, held_row, once}
-use Rattle.nogood_pool.specs.Seats.{Gets, Reads}
-use Rattle.nogood_pool.specs.Steps.{AreApart}
-use Rattle.pool_rows.specs.Copying.{Takes, all_known, cite_of, held_known}
+use Rattle.nogood_pool.specs.Seats.{Gets, SeatReads}
+use Rattle.nogood_pool.specs.Steps.{AreRowsApart}
+use Rattle.pool_rows.specs.Copying.{TakesRow, all_known, cite_of, held_known}
 
 -- ---- what a load answers
 
-gets-here : (v : PoolView) (row : ℕ) (o : Option Row) (w : PoolView) → row < v.counter → Gets v row o w → Reads v row o w
+gets-here : (v : PoolView) (row : ℕ) (o : Option Row) (w : PoolView) → row < v.counter → Gets v row o w → SeatReads v row o w
 gets-here v row o w low h = ⊎_elim (λ here. here.1) (λ later. absurd (omega (arith, low, later.0))) h
 
-pub takes-some : (v : PoolView) (row : ℕ) (r : Row) (w : PoolView) (old new : List Cite) → row < v.counter → Gets v row (Some r) w → new ≡ old ++ cite_of row r ∷ [] → Takes v row true old w new
+pub takes-some : (v : PoolView) (row : ℕ) (r : Row) (w : PoolView) (old new : List Cite) → row < v.counter → Gets v row (Some r) w → new ≡ old ++ cite_of row r ∷ [] → TakesRow v row true old w new
 takes-some v row r w old new low h is = let reads = gets-here v row (Some r) w low h in (r, reads.0, reads.1, reads.2, is)
 
-pub takes-none : (v : PoolView) (row : ℕ) (w : PoolView) (old new : List Cite) → row < v.counter → Gets v row None w → new ≡ old → Takes v row false old w new
+pub takes-none : (v : PoolView) (row : ℕ) (w : PoolView) (old new : List Cite) → row < v.counter → Gets v row None w → new ≡ old → TakesRow v row false old w new
 takes-none v row w old new low h is =
     let reads = gets-here v row None w low h in
     (reads.0, λ held m same. reads.1 held.content (inl (subst (λ n. Contains v.published (held_row n held.content)) same m)), is)
@@ -52,7 +52,7 @@ from-drop (suc k) (y ∷ xs) x m = behind y xs x (from-drop k xs x m)
 
 -- ---- one number has one content
 
-pub apart-one : (held : List HeldRow) → AreApart held → HaveOneContent (all_known held)
+pub apart-one : (held : List HeldRow) → AreRowsApart held → HaveOneContent (all_known held)
 apart-one held apart a b ma mb same =
     let ra = from-map held_known held a ma in
     let rb = from-map held_known held b mb in

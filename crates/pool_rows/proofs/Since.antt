@@ -7,7 +7,7 @@ use Rattle.nogood.specs.declared.row.Published.TheVariants.{Home, Full, Busy, To
 use Rattle.nogood_pool.specs.declared.view.PoolView.{PoolView}
 use Rattle.nogood_pool.specs.declared.view.TrailEntry.TheVariants.{Counted, Exchanged}
 use Rattle.nogood_pool.specs.Pool.{content, held_row}
-use Rattle.nogood_pool.specs.Seats.{IsSameSeat, Publishes, view_of}
+use Rattle.nogood_pool.specs.Seats.{IsSameSeat, SeatPublishes, view_of}
 use Rattle.nogood_pool.specs.Steps.{after_count}
 use Rattle.pool_rows.specs.declared.rows.PoolRows.{PoolRows}
 use Rattle.search_log.specs.declared.shared.Cite.{Cite}
@@ -40,7 +40,7 @@ rows-on was rows newer h pool same view = record {
   view = view-on (view_of was.seat) (view_of rows.seat) (view_of newer.seat) h.view view;
 }
 
-pub view-published : (v w : PoolView) (lits : List Literal) (tag : ℕ) (answer : Published) → Publishes v lits tag answer w → IsLaterView v w
+pub view-published : (v w : PoolView) (lits : List Literal) (tag : ℕ) (answer : Published) → SeatPublishes v lits tag answer w → IsLaterView v w
 view-published v w lits tag TooLong p =
     subst (IsLaterView v) (sym p.1) (record { share_is = refl; instance_is = refl; rows_are = refl; published = grew-none v.published v.published refl; trail = grew-none v.trail v.trail refl })
 view-published v w lits tag (Full n) p =

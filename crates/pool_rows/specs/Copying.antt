@@ -3,12 +3,12 @@ use Rattle.std.specs.Prelude.{◌≡◌, ◌≢◌, ℕ, ◌+◌, ◌-◌, ◌�
 use Rattle.nogood.specs.declared.row.Row.{Row}
 use Rattle.search_log.specs.Contents.{KnownRow, known_row}
 use Rattle.search_log.specs.declared.shared.Cite.{Cite}
-use Rattle.search_log.specs.Shares.{HaveOneContent, IsServed, SharedState, row_content}
+use Rattle.search_log.specs.Shares.{HaveOneContent, IsServedContent, SharedState, row_content}
 use Rattle.nogood_pool.specs.declared.view.HeldRow.{HeldRow}
 use Rattle.nogood_pool.specs.declared.view.PoolView.{PoolView}
 use Rattle.nogood_pool.specs.declared.view.TrailEntry.{TrailEntry}
 use Rattle.nogood_pool.specs.declared.view.TrailEntry.TheVariants.{Counted, Exchanged, Read}
-use Rattle.nogood_pool.specs.Pool.{IsRow, below, content_of, held_row, once}
+use Rattle.nogood_pool.specs.Pool.{IsPoolRow, below, content_of_row, held_row, once}
 use Rattle.nogood_pool.specs.Seats.{Loads}
 use Rattle.nogood_pool.specs.Steps.{IsOnlyContent, after_read}
 use Rattle.row_copies.specs.Filed.{known_cites}
@@ -43,11 +43,11 @@ in_missing row missing = sum_by (λ m. once row m) missing
 
 -- The copies are the last rows that the seat saw. Each row below next was copied once, or is still missing. With the published
 -- ones, one number has one content. What was copied is implied.
-pub record AreCopied (v : PoolView) (cites : List Cite) (next : ℕ) (missing : List ℕ) : Type 0 where
+pub record AreSeatCopies (v : PoolView) (cites : List Cite) (next : ℕ) (missing : List ℕ) : Type 0 where
   pub few : length cites ≤ length v.seen
   pub last : known_cites cites ≡ all_known (drop (length v.seen - length cites) v.seen)
   pub one : HaveOneContent (known_cites cites ++ all_known v.published)
-  pub served : All (λ (cite : Cite). IsServed v.instance (row_content cite.content)) cites
+  pub served : All (λ (cite : Cite). IsServedContent v.instance (row_content cite.content)) cites
   pub once_each : (row : ℕ) → in_copies row cites + in_missing row missing ≡ below row next
   pub all : length cites + length missing ≡ next
   pub inside : next ≤ v.rows
@@ -62,10 +62,10 @@ pub record Looked (v w : PoolView) : Type 0 where
   pub refusals : refusals_in v ≤ refusals_in w
 
 -- one row was asked for: it is copied with its content, or it has none yet
-abbrev pub Takes : PoolView → ℕ → Bool → List Cite → PoolView → List Cite → Type 0
-Takes v row true old w new = (r : Row) × IsRow v.instance (content_of r) × IsOnlyContent v row (content_of r)
-    × (w ≡ after_read v row r.tag.code (held_row row (content_of r) ∷ [])) × (new ≡ old ++ cite_of row r ∷ [])
-Takes v row false old w new = (w ≡ after_read v row 0 []) × ((h : HeldRow) → Contains v.published h → h.row ≢ row) × (new ≡ old)
+abbrev pub TakesRow : PoolView → ℕ → Bool → List Cite → PoolView → List Cite → Type 0
+TakesRow v row true old w new = (r : Row) × IsPoolRow v.instance (content_of_row r) × IsOnlyContent v row (content_of_row r)
+    × (w ≡ after_read v row r.tag.code (held_row row (content_of_row r) ∷ [])) × (new ≡ old ++ cite_of row r ∷ [])
+TakesRow v row false old w new = (w ≡ after_read v row 0 []) × ((h : HeldRow) → Contains v.published h → h.row ≢ row) × (new ≡ old)
 
 -- no row in some list was published by this seat
 abbrev pub NonePublished : PoolView → List ℕ → Type 0
@@ -77,10 +77,10 @@ pub record Grew {X : Type 0} (old new : List X) : Type 0 where
   pub are : new ≡ old ++ more
 
 -- some rows were asked for
-pub record IsAsked (v w : PoolView) (old new : List Cite) (next : ℕ) (missing : List ℕ) : Type 0 where
+pub record AreRowsAskedFor (v w : PoolView) (old new : List Cite) (next : ℕ) (missing : List ℕ) : Type 0 where
   pub looked : Looked v w
   pub gains : Grew old new
-  pub copied : AreCopied w new next missing
+  pub copied : AreSeatCopies w new next missing
 
 -- a row with the tag word that was found
 abbrev pub read_of : ℕ × ℕ → TrailEntry

@@ -1,7 +1,7 @@
 ghost use Rattle.std.specs.Prelude.{All, Contains, ◌↔◌, ◌≡◌, [], IfOk, IfErr};
-ghost use Rattle.nogood_pool.specs.Seats.{IsSeatOf, Publishes, view_of};
+ghost use Rattle.nogood_pool.specs.Seats.{IsSeatOf, SeatPublishes, view_of};
 ghost use Rattle.fapp_model.specs.declared.instance.Instance.{Instance};
-ghost use Rattle.search_log.specs.Shares.{IsCiteOf, IsOffer, Looks, Offered};
+ghost use Rattle.search_log.specs.Shares.{IsCiteOf, IsOffer, LooksUp, OffersRow};
 ghost use Rattle.pool_rows.specs.Copying.{IsLookUp, all_known};
 ghost use Rattle.pool_rows.specs.PoolRows.{AreLater, state_of_rows};
 ghost use Rattle.row_copies.specs.Filed.{known_cites};
@@ -64,7 +64,7 @@ impl<'a> Shared for PoolRows<'a> {
     ghost since = { are_later };
 
     fn lookup(&mut self, part: &Partial, target: Tag) -> Option<Cite>
-        ensures looks { Looks (state_of_rows self.old) (state_of_rows self.new) part.now target.code result }
+        ensures looks { LooksUp (state_of_rows self.old) (state_of_rows self.new) part.now target.code result }
         ensures serves { (instance : Instance) → ((view_of self.old.seat).instance ≡ instance) ↔ ((view_of self.new.seat).instance ≡ instance) }
         ensures look_up { IsLookUp (view_of self.old.seat) (view_of self.new.seat) self.old.copies.cites self.new.copies.cites }
         ensures implied { (instance : Instance) → (view_of self.old.seat).instance ≡ instance → IsCiteOf instance result }
@@ -94,10 +94,10 @@ impl<'a> Shared for PoolRows<'a> {
 
     fn offer(&mut self, lits: &[Literal], tag: Tag) -> Published
         requires { (instance : Instance) × ((view_of self.old.seat).instance ≡ instance) × IsOffer instance lits.now tag.code }
-        ensures offered { Offered (state_of_rows self.old) (state_of_rows self.new) lits.now tag.code result }
+        ensures offered { OffersRow (state_of_rows self.old) (state_of_rows self.new) lits.now tag.code result }
         ensures serves { (instance : Instance) → ((view_of self.old.seat).instance ≡ instance) ↔ ((view_of self.new.seat).instance ≡ instance) }
         ensures since { (was : _) → AreLater was self.old → AreLater was self.new }
-        ensures published { Publishes (view_of self.old.seat) lits.now tag.code result (view_of self.new.seat) }
+        ensures published { SeatPublishes (view_of self.old.seat) lits.now tag.code result (view_of self.new.seat) }
         ensures copies { self.new.copies ≡ self.old.copies }
     {
         self.pool.publish(&mut self.seat, lits, tag)

@@ -1,7 +1,7 @@
 // What a worker keeps of the pool.
 ghost use Rattle.std.specs.Prelude.{◌≡◌, ◌≤◌, ◌++◌, [], vec_capacity};
 ghost use Rattle.nogood_pool.specs.Seats.{IsSeatOf, view_of};
-ghost use Rattle.pool_rows.specs.Copying.{AreCopied};
+ghost use Rattle.pool_rows.specs.Copying.{AreSeatCopies};
 
 use nogood_pool::{Pool, PoolSeat};
 use row_copies::Copies;
@@ -21,7 +21,7 @@ pub struct PoolRows<'a> {
     ghost own: { IsSeatOf pool.now seat },
     ghost room: { (copies.room ≡ pool.now.rows) × (pool.now.rows ≤ vec_capacity missing) × (pool.now.rows ≤ vec_capacity spare) },
     ghost empty: { spare.items ≡ [] },
-    ghost copied: { AreCopied (view_of seat) copies.cites next missing.items },
+    ghost copied: { AreSeatCopies (view_of seat) copies.cites next missing.items },
 }
 
 /// A seat that comes back: there was no memory for what it was given for.

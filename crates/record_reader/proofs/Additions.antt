@@ -11,31 +11,31 @@ use Rattle.record_reader.specs.declared.cause.Cause.TheVariants as causes
 use Rattle.record_reader.specs.declared.entry.DomainEntry.{DomainEntry}
 use Rattle.record_reader.specs.declared.entry.PathEntry.{PathEntry}
 use Rattle.record_reader.specs.declared.entry.ConstraintEntry.{ConstraintEntry}
-use Rattle.record_reader.specs.declared.entry.Link.{Link}
-use Rattle.record_reader.specs.declared.entry.Link.TheVariants as links
+use Rattle.record_reader.specs.declared.entry.Pending.{Pending}
+use Rattle.record_reader.specs.declared.entry.Pending.TheVariants as links
 use Rattle.record_reader.specs.declared.entry.Entry.{Entry}
 use Rattle.record_reader.specs.declared.entry.Entry.TheVariants as entries
 use Rattle.record_reader.specs.declared.reader.Reader.{Reader}
 use Rattle.record_reader.specs.Contents.{Contents}
 use Rattle.record_reader.specs.Instances.{put_entry, frequencies, paths_of, constraints_of, place_of}
 use Rattle.record_reader.specs.LineReading.{read_entry}
-use Rattle.record_reader.specs.Readers.{Holds, AddsFrequency, frequencies_in}
+use Rattle.record_reader.specs.Readers.{ReaderHolds, AddsFrequency, frequencies_in}
 use Rattle.record_reader.proofs.LinkLists.{paths_append, constraints_append}
 use Rattle.record_reader.proofs.Places.{places_push}
 use Rattle.record_reader.proofs.Frequencies.{frequencies_push}
 
 -- the contents that an entry leads to, held by a reader
 abbrev pub HoldsMore : Contents → ℕ → Entry → Reader → Type 0
-HoldsMore contents line entry reader = (more : Contents) × (at_line line (read_entry contents entry) ≡ Ok more) × Holds reader more
+HoldsMore contents line entry reader = (more : Contents) × (at_line line (read_entry contents entry) ≡ Ok more) × ReaderHolds reader more
 
-abbrev with_link : Contents → Link → Contents
+abbrev with_link : Contents → Pending → Contents
 with_link contents link = record contents { links = contents.links ++ link ∷ [] }
 
-pub constraint_added : (old new : Reader) (contents : Contents) (entry : ConstraintEntry) (line : ℕ) → Holds old contents → old.constraints < MAX_RECORDS
+pub constraint_added : (old new : Reader) (contents : Contents) (entry : ConstraintEntry) (line : ℕ) → ReaderHolds old contents → old.constraints < MAX_RECORDS
     → new.links ≡ old.links ++ links.Constraint entry ∷ [] → new ≡ record old { links = new.links; constraints = old.constraints + 1 }
     → HoldsMore contents line (entries.Link (links.Constraint entry)) new
 constraint_added old new contents entry line held few pushed same =
-    let link : Link = links.Constraint entry in
+    let link : Pending = links.Constraint entry in
     let paths : paths_of (contents.links ++ link ∷ []) ≡ paths_of contents.links = paths_append contents.links (link ∷ []) ∙ append-nil (paths_of contents.links) in
     let more : constraints_of (contents.links ++ link ∷ []) ≡ constraints_of contents.links ++ entry ∷ [] = constraints_append contents.links (link ∷ []) in
     let free : leb MAX_RECORDS (length (constraints_of contents.links)) ≡ false = lt-leb MAX_RECORDS (length (constraints_of contents.links)) (rw held.constraints at few) in (
@@ -51,13 +51,13 @@ constraint_added old new contents entry line held few pushed same =
       },
     )
 
-pub path_added : (old new : Reader) (contents : Contents) (entry : PathEntry) (line : ℕ) → Holds old contents → get nat_cmp old.positions entry.number ≡ None
+pub path_added : (old new : Reader) (contents : Contents) (entry : PathEntry) (line : ℕ) → ReaderHolds old contents → get nat_cmp old.positions entry.number ≡ None
     → btree_map_len old.positions < MAX_PATHS → Updates nat_cmp old.positions new.positions entry.number (Some (btree_map_len old.positions))
     → btree_map_len new.positions ≡ btree_map_len old.positions + 1
     → new.links ≡ old.links ++ links.Path entry ∷ [] → new ≡ record old { links = new.links; positions = new.positions }
     → HoldsMore contents line (entries.Link (links.Path entry)) new
 path_added old new contents entry line held none few u longer pushed same =
-    let link : Link = links.Path entry in
+    let link : Pending = links.Path entry in
     let earlier : List PathEntry = paths_of contents.links in
     let more : paths_of (contents.links ++ link ∷ []) ≡ earlier ++ entry ∷ [] = paths_append contents.links (link ∷ []) in
     let others : constraints_of (contents.links ++ link ∷ []) ≡ constraints_of contents.links = constraints_append contents.links (link ∷ []) ∙ append-nil (constraints_of contents.links) in
@@ -83,12 +83,12 @@ pub one_longer : {A : Type 0} (old : Option A) (n m : ℕ) → old ≡ None → 
 one_longer old n m e h = h ∙ ap (λ o. m + cond (is_some o) 0 1) e
 
 -- the frequencies of a domain after one more
-count_is : (old new : Reader) (contents : Contents) (entry : DomainEntry) (count : ℕ) → Holds old contents → AddsFrequency entry old.domains count new.domains
+count_is : (old new : Reader) (contents : Contents) (entry : DomainEntry) (count : ℕ) → ReaderHolds old contents → AddsFrequency entry old.domains count new.domains
     → length (frequencies (contents.domains ++ entry ∷ []) entry.domain) ≡ count
 count_is old new contents entry count held adds =
     ap length (frequencies_push contents.domains entry entry.domain ∙ ap (λ fs. put_entry entry.domain fs entry) (sym (held.domains entry.domain)) ∙ sym (adds.0 entry.domain)) ∙ sym adds.1
 
-pub domain_refused : (old new : Reader) (contents : Contents) (entry : DomainEntry) (line count : ℕ) → Holds old contents → old.domain_records < MAX_DOMAIN_RECORDS
+pub domain_refused : (old new : Reader) (contents : Contents) (entry : DomainEntry) (line count : ℕ) → ReaderHolds old contents → old.domain_records < MAX_DOMAIN_RECORDS
     → AddsFrequency entry old.domains count new.domains → MAX_DOMAIN_FREQUENCIES < count
     → at_line line (read_entry contents (entries.Domain entry)) ≡ Err (fault line causes.DomainTooLarge)
 domain_refused old new contents entry line count held few adds many =
@@ -96,7 +96,7 @@ domain_refused old new contents entry line count held few adds many =
     let over : ltb MAX_DOMAIN_FREQUENCIES count ≡ true = lt-ltb MAX_DOMAIN_FREQUENCIES count many in
     rw (free, count_is old new contents entry count held adds, over) refl
 
-pub domain_added : (old new : Reader) (contents : Contents) (entry : DomainEntry) (line count : ℕ) → Holds old contents → old.domain_records < MAX_DOMAIN_RECORDS
+pub domain_added : (old new : Reader) (contents : Contents) (entry : DomainEntry) (line count : ℕ) → ReaderHolds old contents → old.domain_records < MAX_DOMAIN_RECORDS
     → AddsFrequency entry old.domains count new.domains → count ≤ MAX_DOMAIN_FREQUENCIES
     → new ≡ record old { domains = new.domains; domain_records = old.domain_records + 1 }
     → HoldsMore contents line (entries.Domain entry) new

@@ -19,9 +19,9 @@ use Rattle.record_reader.specs.declared.cause.Cause.TheVariants as causes
 use Rattle.record_reader.specs.declared.draft.Draft.{Draft}
 use Rattle.record_reader.specs.declared.entry.PathEntry.{PathEntry}
 use Rattle.record_reader.specs.declared.entry.ConstraintEntry.{ConstraintEntry}
-use Rattle.record_reader.specs.declared.entry.Link.{Link}
-use Rattle.record_reader.specs.declared.entry.Link.TheVariants as links
-use Rattle.record_reader.specs.declared.entry.Rule.{Rule}
+use Rattle.record_reader.specs.declared.entry.Pending.{Pending}
+use Rattle.record_reader.specs.declared.entry.Pending.TheVariants as links
+use Rattle.record_reader.specs.declared.entry.Demand.{Demand}
 use Rattle.record_reader.specs.Contents.{Domains}
 use Rattle.record_reader.specs.Instances.{paths_of, constraints_of, place_of, path_of, record_between, record_of}
 use Rattle.record_reader.specs.declared.reader.Reader.{Reader}
@@ -45,20 +45,20 @@ pub known_domain : (domains : Domains) (entry : PathEntry) (path : Path) (empty 
     → eqb (length (domains entry.domain)) 0 ≡ false
 known_domain domains entry path empty e counted is = ap (λ p. eqb (length p.freqs) 0) (sym e) ∙ sym counted ∙ is
 
-counted : (reader : Reader) (earlier : List Link) (entry : PathEntry) (path : Path) (old : Draft) (count : ℕ) → IsDraft reader earlier old → path ≡ path_of (domains_of reader) entry
+counted : (reader : Reader) (earlier : List Pending) (entry : PathEntry) (path : Path) (old : Draft) (count : ℕ) → IsDraft reader earlier old → path ≡ path_of (domains_of reader) entry
     → count ≡ length (choices path) → sum_by (choice_count (domains_of reader)) (paths_of earlier ++ entry ∷ []) ≡ old.choices + count
 counted reader earlier entry path old count draft e c =
     let own : choice_count (domains_of reader) entry ≡ count = ap (λ p. length (choices p)) (sym e) ∙ sym c in
     omega (arith, sum_by_push (choice_count (domains_of reader)) (paths_of earlier) entry, own, draft.choices)
 
-pub too_many : (reader : Reader) (earlier : List Link) (entry : PathEntry) (path : Path) (old : Draft) (count : ℕ) → IsDraft reader earlier old → path ≡ path_of (domains_of reader) entry
+pub too_many : (reader : Reader) (earlier : List Pending) (entry : PathEntry) (path : Path) (old : Draft) (count : ℕ) → IsDraft reader earlier old → path ≡ path_of (domains_of reader) entry
     → count ≡ length (choices path) → eqb (length ((domains_of reader) entry.domain)) 0 ≡ false → MAX_CHOICES < old.choices + count → path_link_refusal (domains_of reader) (paths_of earlier) entry ≡ Some causes.TooManyChoices
 too_many reader earlier entry path old count draft e c knows many =
     let all = counted reader earlier entry path old count draft e c in
     let much : ltb MAX_CHOICES (sum_by (choice_count (domains_of reader)) (paths_of earlier ++ entry ∷ [])) ≡ true = lt-ltb MAX_CHOICES _ (rw all many) in
     rw (knows, much) refl
 
-pub path_more : (reader : Reader) (earlier : List Link) (entry : PathEntry) (path : Path) (old : Draft) (count : ℕ) (more_paths : Vec Path) → IsDraft reader earlier old
+pub path_more : (reader : Reader) (earlier : List Pending) (entry : PathEntry) (path : Path) (old : Draft) (count : ℕ) (more_paths : Vec Path) → IsDraft reader earlier old
     → path ≡ path_of (domains_of reader) entry → count ≡ length (choices path) → eqb (length ((domains_of reader) entry.domain)) 0 ≡ false → old.choices + count ≤ MAX_CHOICES → more_paths.items ≡ old.paths.items ++ path ∷ []
     → (path_link_refusal (domains_of reader) (paths_of earlier) entry ≡ None)
     × IsDraft reader (earlier ++ links.Path entry ∷ []) (record { paths = more_paths; records = old.records; choices = old.choices + count })
@@ -78,12 +78,12 @@ path_more reader earlier entry path old count more_paths draft e c knows some pu
 
 -- ---- records
 
-known_cases : (a b : Option ℕ) (rule : Rule) (r : Record) → Some r ≡ record_by a b rule → (is_some a && is_some b ≡ true) × (r ≡ record_between (unwrap_or a 0) (unwrap_or b 0) rule)
+known_cases : (a b : Option ℕ) (rule : Demand) (r : Record) → Some r ≡ record_by a b rule → (is_some a && is_some b ≡ true) × (r ≡ record_between (unwrap_or a 0) (unwrap_or b 0) rule)
 known_cases None b rule r h = absurd cc
 known_cases (Some i) None rule r h = absurd cc
 known_cases (Some i) (Some j) rule r h = (refl, cc)
 
-pub record_more : (reader : Reader) (earlier : List Link) (entry : ConstraintEntry) (r : Record) (old : Draft) (records : Vec Record) → IsDraft reader earlier old
+pub record_more : (reader : Reader) (earlier : List Pending) (entry : ConstraintEntry) (r : Record) (old : Draft) (records : Vec Record) → IsDraft reader earlier old
     → Some r ≡ record_by (place_of (paths_of reader.links) entry.first) (place_of (paths_of reader.links) entry.second) entry.rule → records.items ≡ old.records.items ++ r ∷ []
     → (constraint_link_refusal (paths_of reader.links) entry ≡ None)
     × IsDraft reader (earlier ++ links.Constraint entry ∷ []) (record { paths = old.paths; records = records; choices = old.choices })
@@ -101,13 +101,13 @@ record_more reader earlier entry r old records draft h pushed =
       },
     )
 
-pub placed : (r : Option Record) (a b p q : Option ℕ) (rule : Rule) → r ≡ record_by a b rule → a ≡ p → b ≡ q → r ≡ record_by p q rule
+pub placed : (r : Option Record) (a b p q : Option ℕ) (rule : Demand) → r ≡ record_by a b rule → a ≡ p → b ≡ q → r ≡ record_by p q rule
 placed r a b p q rule h e f = h ∙ ap (λ o. record_by o b rule) e ∙ ap (λ o. record_by p o rule) f
 
 -- ---- all links
 
 -- after one more link that is not refused
-pub draft_more : (reader : Reader) (i : ℕ) (d link : Link) (new : Draft) (all : Option (LineFault Cause)) → i < length reader.links → get_or reader.links i d ≡ link
+pub draft_more : (reader : Reader) (i : ℕ) (d link : Pending) (new : Draft) (all : Option (LineFault Cause)) → i < length reader.links → get_or reader.links i d ≡ link
     → (link_refusal (domains_of reader) (paths_of reader.links) (take i reader.links) link ≡ None) × IsDraft reader (take i reader.links ++ link ∷ []) new
     → first_link_refusal (domains_of reader) (paths_of reader.links) (take i reader.links) (drop i reader.links) ≡ all
     → IsDraft reader (take (i + 1) reader.links) new × (first_link_refusal (domains_of reader) (paths_of reader.links) (take (i + 1) reader.links) (drop (i + 1) reader.links) ≡ all)

@@ -15,8 +15,8 @@ use Rattle.record_reader.specs.declared.cause.Cause.TheVariants as causes
 use Rattle.record_reader.specs.declared.entry.DomainEntry.{DomainEntry}
 use Rattle.record_reader.specs.declared.entry.PathEntry.{PathEntry}
 use Rattle.record_reader.specs.declared.entry.ConstraintEntry.{ConstraintEntry}
-use Rattle.record_reader.specs.declared.entry.Link.{Link}
-use Rattle.record_reader.specs.declared.entry.Link.TheVariants as links
+use Rattle.record_reader.specs.declared.entry.Pending.{Pending}
+use Rattle.record_reader.specs.declared.entry.Pending.TheVariants as links
 use Rattle.record_reader.specs.declared.entry.Entry.{Entry}
 use Rattle.record_reader.specs.declared.entry.Entry.TheVariants as entries
 use Rattle.record_reader.specs.Contents.{Contents, no_contents}
@@ -24,7 +24,7 @@ use Rattle.record_reader.specs.Fields.{fields_of}
 use Rattle.record_reader.specs.Entries.{entry_of}
 use Rattle.record_reader.specs.Instances.{frequencies, paths_of, constraints_of, place_of}
 use Rattle.record_reader.specs.LineReading.{domain_refusal, path_refusal, constraint_refusal, entry_refusal, with_entry, read_entry, read_line, read_lines}
-use Rattle.record_reader.specs.Validity.{IsDomainEntry, IsPathEntry, IsConstraintEntry, IsEntry, AreLinks, IsContents}
+use Rattle.record_reader.specs.Validity.{IsDomainEntry, IsPathEntry, IsConstraintEntry, IsEntryOf, ArePendings, IsContents}
 use Rattle.record_reader.proofs.LinkLists.{paths_append, constraints_append}
 use Rattle.record_reader.proofs.Frequencies.{frequencies_push}
 use Rattle.record_reader.proofs.Ascents.{are_domains}
@@ -58,7 +58,7 @@ other_numbers paths n k d none lt same =
     let all : position_or_len (has n) paths ≡ length paths = none_found (position_or_len (has n) paths) (length paths) (prefix_len-le-length _ paths) none in
     eqb-false (get_or paths k d).number n (fails_before_first (has n) paths k d (omega (arith, all))) same
 
-with_path : (earlier : List Link) (entry : PathEntry) → AreLinks earlier → IsPathEntry entry → path_refusal (paths_of earlier) entry ≡ None → AreLinks (earlier ++ links.Path entry ∷ [])
+with_path : (earlier : List Pending) (entry : PathEntry) → ArePendings earlier → IsPathEntry entry → path_refusal (paths_of earlier) entry ≡ None → ArePendings (earlier ++ links.Path entry ∷ [])
 with_path earlier entry valid fit h =
     let one = no_fault (is_some (place_of (paths_of earlier) entry.number)) causes.DuplicatePath _ h in
     let two = no_fault (leb MAX_PATHS (length (paths_of earlier))) causes.TooManyPaths None one.1 in
@@ -72,7 +72,7 @@ with_path earlier entry valid fit h =
       few_records = omega (arith, ap length others, valid.few_records);
     }
 
-with_constraint : (earlier : List Link) (entry : ConstraintEntry) → AreLinks earlier → IsConstraintEntry LEVELS entry → constraint_refusal (constraints_of earlier) ≡ None → AreLinks (earlier ++ links.Constraint entry ∷ [])
+with_constraint : (earlier : List Pending) (entry : ConstraintEntry) → ArePendings earlier → IsConstraintEntry LEVELS entry → constraint_refusal (constraints_of earlier) ≡ None → ArePendings (earlier ++ links.Constraint entry ∷ [])
 with_constraint earlier entry valid fit h =
     let one = no_fault (leb MAX_RECORDS (length (constraints_of earlier))) causes.TooManyRecords None h in
     let more : constraints_of (earlier ++ links.Constraint entry ∷ []) ≡ constraints_of earlier ++ entry ∷ [] = constraints_append earlier (links.Constraint entry ∷ []) in
@@ -85,7 +85,7 @@ with_constraint earlier entry valid fit h =
       few_records = omega (arith, ap length more, length_push (constraints_of earlier) entry, leb-false MAX_RECORDS (length (constraints_of earlier)) one.0);
     }
 
-with_valid : (contents : Contents) (entry : Entry) → IsContents contents → IsEntry LEVELS entry → entry_refusal contents entry ≡ None → IsContents (with_entry contents entry)
+with_valid : (contents : Contents) (entry : Entry) → IsContents contents → IsEntryOf LEVELS entry → entry_refusal contents entry ≡ None → IsContents (with_entry contents entry)
 with_valid contents (entries.Domain entry) valid fit h = with_domain contents entry valid fit h
 with_valid contents (entries.Link (links.Path entry)) valid fit h = record { numbers = valid.numbers; domains = valid.domains; links = with_path contents.links entry valid.links fit h }
 with_valid contents (entries.Link (links.Constraint entry)) valid fit h = record { numbers = valid.numbers; domains = valid.domains; links = with_constraint contents.links entry valid.links fit h }

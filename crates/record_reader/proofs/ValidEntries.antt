@@ -18,12 +18,12 @@ use Rattle.fapp_text.proofs.SignLemmas.{sign_taken}
 use Rattle.record_reader.specs.declared.cause.Cause.{Cause}
 use Rattle.record_reader.specs.declared.cause.Cause.TheVariants as causes
 use Rattle.record_reader.specs.declared.entry.Entry.{Entry}
-use Rattle.record_reader.specs.declared.entry.Rule.{Rule}
+use Rattle.record_reader.specs.declared.entry.Demand.{Demand}
 use Rattle.record_reader.specs.declared.entry.Kind.{Kind}
 use Rattle.record_reader.specs.declared.entry.Kind.TheVariants as kinds
 use Rattle.record_reader.specs.Fields.{field, number, numbers, polarization, either_word}
 use Rattle.record_reader.specs.Entries.{rises, rises_after, rule_rises, constraint, domain_entry, path_entry, imperative, imperative_entry, compatible, with_zeros, distances, compatible_entry, entry_by, entry_of, kind_of, field_count}
-use Rattle.record_reader.specs.Validity.{IsRule, IsEntry}
+use Rattle.record_reader.specs.Validity.{IsDemand, IsEntryOf}
 
 number_step : (numeral : Bool) (v n : ℕ) → cond numeral (bounded v) (Err NotDigits) ≡ Ok n → n ≤ MAX_NUMBER
 number_step true v n h =
@@ -81,30 +81,30 @@ falls (n ∷ xs) h (suc i) (suc j) d lt within = falls xs (tail_falls n xs h) i 
 
 -- ---- entries
 
-constraint_valid : (levels line first second : ℕ) (rule : Rule) (entry : Entry) → (rule_rises rule ≡ false → IsRule levels rule) → constraint line first second rule ≡ Ok entry → IsEntry levels entry
+constraint_valid : (levels line first second : ℕ) (rule : Demand) (entry : Entry) → (rule_rises rule ≡ false → IsDemand levels rule) → constraint line first second rule ≡ Ok entry → IsEntryOf levels entry
 constraint_valid levels line first second rule entry valid h =
     let one = refused_ok (eqb first second) causes.SelfPair _ entry h in
     let two = refused_ok (rule_rises rule) causes.Increasing _ entry one.1 in
-    subst (IsEntry levels) (ok_is {E = Cause} _ entry two.1) (record { different = eqb-false first second one.0; rule = valid two.0 })
+    subst (IsEntryOf levels) (ok_is {E = Cause} _ entry two.1) (record { different = eqb-false first second one.0; rule = valid two.0 })
 
-domain_valid : (levels : ℕ) (fields : List (List ℕ)) (entry : Entry) → domain_entry fields ≡ Ok entry → IsEntry levels entry
+domain_valid : (levels : ℕ) (fields : List (List ℕ)) (entry : Entry) → domain_entry fields ≡ Ok entry → IsEntryOf levels entry
 domain_valid levels fields entry h =
     let one = bind_ok (number (field fields 1)) _ entry h in
     let two = bind_ok (number (field fields 2)) _ entry one.2 in
-    subst (IsEntry levels) (ok_is {E = Cause} _ entry two.2) (number_valid (field fields 2) two.0 two.1)
+    subst (IsEntryOf levels) (ok_is {E = Cause} _ entry two.2) (number_valid (field fields 2) two.0 two.1)
 
-path_valid : (levels line : ℕ) (fields : List (List ℕ)) (entry : Entry) → path_entry line fields ≡ Ok entry → IsEntry levels entry
+path_valid : (levels line : ℕ) (fields : List (List ℕ)) (entry : Entry) → path_entry line fields ≡ Ok entry → IsEntryOf levels entry
 path_valid levels line fields entry h =
     let one = bind_ok (number (field fields 1)) _ entry h in
     let two = bind_ok (number (field fields 2)) _ entry one.2 in
     let three = bind_ok (polarization (field fields 3)) _ entry two.2 in
-    subst (IsEntry levels) (ok_is {E = Cause} _ entry three.2) (record { number = number_valid (field fields 1) one.0 one.1; polarization = polarization_valid (field fields 3) three.0 three.1 })
+    subst (IsEntryOf levels) (ok_is {E = Cause} _ entry three.2) (record { number = number_valid (field fields 1) one.0 one.1; polarization = polarization_valid (field fields 3) three.0 three.1 })
 
-imperative_valid : (levels : ℕ) (of_frequencies equal : Bool) (n : ℕ) → IsNumber n → IsRule levels (imperative of_frequencies equal n)
+imperative_valid : (levels : ℕ) (of_frequencies equal : Bool) (n : ℕ) → IsNumber n → IsDemand levels (imperative of_frequencies equal n)
 imperative_valid levels true equal n h = h
 imperative_valid levels false equal n h = tt
 
-imperative_entry_valid : (levels line : ℕ) (fields : List (List ℕ)) (entry : Entry) → imperative_entry line fields ≡ Ok entry → IsEntry levels entry
+imperative_entry_valid : (levels line : ℕ) (fields : List (List ℕ)) (entry : Entry) → imperative_entry line fields ≡ Ok entry → IsEntryOf levels entry
 imperative_entry_valid levels line fields entry h =
     let one = bind_ok (number (field fields 1)) _ entry h in
     let two = bind_ok (number (field fields 2)) _ entry one.2 in
@@ -113,7 +113,7 @@ imperative_entry_valid levels line fields entry h =
     let five = bind_ok (number (field fields 5)) _ entry four.2 in
     constraint_valid levels line one.0 two.0 (imperative three.0 four.0 five.0) entry (λ e. imperative_valid levels three.0 four.0 five.0 (number_valid (field fields 5) five.0 five.1)) five.2
 
-compatible_valid : (levels : ℕ) (of_equal : Bool) (dist : List ℕ) → (rises dist ≡ false → AreDistances levels dist) → rule_rises (compatible of_equal dist) ≡ false → IsRule levels (compatible of_equal dist)
+compatible_valid : (levels : ℕ) (of_equal : Bool) (dist : List ℕ) → (rises dist ≡ false → AreDistances levels dist) → rule_rises (compatible of_equal dist) ≡ false → IsDemand levels (compatible of_equal dist)
 compatible_valid levels true dist valid h = valid h
 compatible_valid levels false dist valid h = valid h
 
@@ -142,7 +142,7 @@ distances_valid levels texts dist few count h =
     let read = numbers_valid texts one.0 one.1 in
     subst (λ xs. rises xs ≡ false → AreDistances levels xs) (ok_is {E = Cause} (with_zeros one.0) dist one.2) (padded_valid levels one.0 few (read.1 ∙ count) read.0)
 
-compatible_entry_valid : (levels : ℕ) (of_equal : Bool) (line : ℕ) (fields : List (List ℕ)) (entry : Entry) → levels ≤ MAX_LEVELS → length fields ≡ 3 + levels → compatible_entry of_equal line fields ≡ Ok entry → IsEntry levels entry
+compatible_entry_valid : (levels : ℕ) (of_equal : Bool) (line : ℕ) (fields : List (List ℕ)) (entry : Entry) → levels ≤ MAX_LEVELS → length fields ≡ 3 + levels → compatible_entry of_equal line fields ≡ Ok entry → IsEntryOf levels entry
 compatible_entry_valid levels of_equal line fields entry few count h =
     let one = bind_ok (number (field fields 1)) _ entry h in
     let two = bind_ok (number (field fields 2)) _ entry one.2 in
@@ -150,14 +150,14 @@ compatible_entry_valid levels of_equal line fields entry few count h =
     let valid = distances_valid levels (drop 3 fields) three.0 few (omega (arith, count, length-drop 3 fields)) three.1 in
     constraint_valid levels line one.0 two.0 (compatible of_equal three.0) entry (compatible_valid levels of_equal three.0 valid) three.2
 
-entry_by_valid : (levels : ℕ) (kind : Kind) (line : ℕ) (fields : List (List ℕ)) (entry : Entry) → levels ≤ MAX_LEVELS → length fields ≡ field_count levels kind → entry_by kind line fields ≡ Ok entry → IsEntry levels entry
+entry_by_valid : (levels : ℕ) (kind : Kind) (line : ℕ) (fields : List (List ℕ)) (entry : Entry) → levels ≤ MAX_LEVELS → length fields ≡ field_count levels kind → entry_by kind line fields ≡ Ok entry → IsEntryOf levels entry
 entry_by_valid levels kinds.Domain line fields entry few count h = domain_valid levels fields entry h
 entry_by_valid levels kinds.Path line fields entry few count h = path_valid levels line fields entry h
 entry_by_valid levels kinds.Imperative line fields entry few count h = imperative_entry_valid levels line fields entry h
 entry_by_valid levels kinds.Same line fields entry few count h = compatible_entry_valid levels true line fields entry few count h
 entry_by_valid levels kinds.Other line fields entry few count h = compatible_entry_valid levels false line fields entry few count h
 
-pub entry_valid : (levels line : ℕ) (fields : List (List ℕ)) (entry : Entry) → levels ≤ MAX_LEVELS → entry_of levels line fields ≡ Ok entry → IsEntry levels entry
+pub entry_valid : (levels line : ℕ) (fields : List (List ℕ)) (entry : Entry) → levels ≤ MAX_LEVELS → entry_of levels line fields ≡ Ok entry → IsEntryOf levels entry
 entry_valid levels line fields entry few h =
     let kind = bind_ok (kind_of (field fields 0)) _ entry h in
     let count = required_ok (eqb (length fields) (field_count levels kind.0)) causes.FieldCount _ entry kind.2 in

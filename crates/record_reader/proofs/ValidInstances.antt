@@ -19,14 +19,14 @@ use Rattle.record_reader.specs.declared.cause.Cause.{Cause}
 use Rattle.record_reader.specs.declared.cause.Cause.TheVariants as causes
 use Rattle.record_reader.specs.declared.entry.PathEntry.{PathEntry}
 use Rattle.record_reader.specs.declared.entry.ConstraintEntry.{ConstraintEntry}
-use Rattle.record_reader.specs.declared.entry.Link.{Link}
-use Rattle.record_reader.specs.declared.entry.Link.TheVariants as links
-use Rattle.record_reader.specs.declared.entry.Rule.{Rule}
-use Rattle.record_reader.specs.declared.entry.Rule.TheVariants.{Freq, Pol, Same, Other}
+use Rattle.record_reader.specs.declared.entry.Pending.{Pending}
+use Rattle.record_reader.specs.declared.entry.Pending.TheVariants as links
+use Rattle.record_reader.specs.declared.entry.Demand.{Demand}
+use Rattle.record_reader.specs.declared.entry.Demand.TheVariants.{Freq, Pol, Same, Other}
 use Rattle.record_reader.specs.Contents.{Domains}
 use Rattle.record_reader.specs.Instances.{paths_of, constraints_of, place_of, path_of, record_between, record_of, instance_of}
 use Rattle.record_reader.specs.Links.{choice_count, path_link_refusal, constraint_link_refusal, fault_at, or_later, first_link_refusal}
-use Rattle.record_reader.specs.Validity.{IsPathEntry, IsRule, IsConstraintEntry, AreDomains, AreLinks}
+use Rattle.record_reader.specs.Validity.{IsPathEntry, IsDemand, IsConstraintEntry, AreDomains, ArePendings}
 use Rattle.record_reader.proofs.LinkLists.{paths_append}
 
 -- the path of an entry whose domain is known
@@ -56,12 +56,12 @@ Knows domains entry = eqb (length (domains entry.domain)) 0 ≡ false
 abbrev Names : List PathEntry → ConstraintEntry → Type 0
 Names paths entry = (is_some (place_of paths entry.first) && is_some (place_of paths entry.second)) ≡ true
 
-record AreAllowed (domains : Domains) (paths : List PathEntry) (earlier rest : List Link) : Type 0 where
+record AreAllowed (domains : Domains) (paths : List PathEntry) (earlier rest : List Pending) : Type 0 where
   known : All (Knows domains) (paths_of rest)
   named : All (Names paths) (constraints_of rest)
   few : sum_by (choice_count domains) (paths_of earlier) ≤ MAX_CHOICES → sum_by (choice_count domains) (paths_of (earlier ++ rest)) ≤ MAX_CHOICES
 
-allows : (domains : Domains) (paths : List PathEntry) (earlier rest : List Link) → first_link_refusal domains paths earlier rest ≡ None → AreAllowed domains paths earlier rest
+allows : (domains : Domains) (paths : List PathEntry) (earlier rest : List Pending) → first_link_refusal domains paths earlier rest ≡ None → AreAllowed domains paths earlier rest
 allows domains paths earlier [] h = record { known = All-nil (Knows domains); named = All-nil (Names paths); few = λ less. rw (append-nil earlier) less }
 allows domains paths earlier (links.Path entry ∷ rest) h =
     let both = both_none entry.line (path_link_refusal domains (paths_of earlier) entry) (first_link_refusal domains paths (earlier ++ links.Path entry ∷ []) rest) h in
@@ -102,25 +102,25 @@ place_found paths number h =
     let here = found place (length paths) h in
     rw here.0 (record { within = here.1; at = λ d. eqb-true (get_or paths place d).number number (passes_at_first (has number) paths d here.1) })
 
-first_is : (i j : ℕ) (rule : Rule) → first_path (record_between i j rule) ≡ i
+first_is : (i j : ℕ) (rule : Demand) → first_path (record_between i j rule) ≡ i
 first_is i j (Freq equal n) = refl
 first_is i j (Pol equal) = refl
 first_is i j (Same dist) = refl
 first_is i j (Other dist) = refl
 
-second_is : (i j : ℕ) (rule : Rule) → second_path (record_between i j rule) ≡ j
+second_is : (i j : ℕ) (rule : Demand) → second_path (record_between i j rule) ≡ j
 second_is i j (Freq equal n) = refl
 second_is i j (Pol equal) = refl
 second_is i j (Same dist) = refl
 second_is i j (Other dist) = refl
 
-numbers_of : (levels i j : ℕ) (rule : Rule) → IsRule levels rule → HasNumbers levels (record_between i j rule)
+numbers_of : (levels i j : ℕ) (rule : Demand) → IsDemand levels rule → HasNumbers levels (record_between i j rule)
 numbers_of levels i j (Freq equal n) h = h
 numbers_of levels i j (Pol equal) h = h
 numbers_of levels i j (Same dist) h = h
 numbers_of levels i j (Other dist) h = h
 
-between_valid : (levels : ℕ) (paths : List PathEntry) (i j first second : ℕ) (rule : Rule) → IsPlace paths first i → IsPlace paths second j → first ≢ second → IsRule levels rule
+between_valid : (levels : ℕ) (paths : List PathEntry) (i j first second : ℕ) (rule : Demand) → IsPlace paths first i → IsPlace paths second j → first ≢ second → IsDemand levels rule
     → IsRecord levels (length paths) (record_between i j rule)
 between_valid levels paths i j first second rule p q apart fit = record {
   first = rw (first_is i j rule) p.within;
@@ -158,7 +158,7 @@ choices_map domains (entry ∷ paths) =
     ∙ ap (λ n. choice_count domains entry + n) (choices_map domains paths)
     ∙ sym (sum_by-cons (choice_count domains) entry paths)
 
-pub instance_valid : (domains : Domains) (all : List Link) → AreDomains domains → AreLinks all → first_link_refusal domains (paths_of all) [] all ≡ None → IsInstance (instance_of domains all)
+pub instance_valid : (domains : Domains) (all : List Pending) → AreDomains domains → ArePendings all → first_link_refusal domains (paths_of all) [] all ≡ None → IsInstance (instance_of domains all)
 instance_valid domains all are valid h =
     let paths : List PathEntry = paths_of all in
     let fit = allows domains paths [] all h in

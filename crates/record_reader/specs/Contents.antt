@@ -1,12 +1,12 @@
 -- What the lines of a text say.
 use Rattle.std.specs.Prelude.{ℕ, List, []}
 use Rattle.record_reader.specs.declared.entry.DomainEntry.{DomainEntry}
-use Rattle.record_reader.specs.declared.entry.Link.{Link}
+use Rattle.record_reader.specs.declared.entry.Pending.{Pending}
 
 -- frequencies of domains, and paths and constraints, in the order of their lines
 pub record Contents : Type 0 where
   pub domains : List DomainEntry
-  pub links : List Link
+  pub links : List Pending
 
 abbrev pub no_contents : Contents
 no_contents = record { domains = []; links = [] }

@@ -6,9 +6,9 @@ use Rattle.record_reader.specs.declared.cause.Cause.{Cause}
 use Rattle.record_reader.specs.declared.cause.Cause.TheVariants.{UnknownRecord, FieldCount, SelfPair, Increasing}
 use Rattle.record_reader.specs.declared.entry.Entry.{Entry}
 use Rattle.record_reader.specs.declared.entry.Entry.TheVariants as entries
-use Rattle.record_reader.specs.declared.entry.Link.TheVariants as links
-use Rattle.record_reader.specs.declared.entry.Rule.{Rule}
-use Rattle.record_reader.specs.declared.entry.Rule.TheVariants.{Freq, Pol, Same, Other}
+use Rattle.record_reader.specs.declared.entry.Pending.TheVariants as links
+use Rattle.record_reader.specs.declared.entry.Demand.{Demand}
+use Rattle.record_reader.specs.declared.entry.Demand.TheVariants.{Freq, Pol, Same, Other}
 use Rattle.record_reader.specs.declared.entry.Kind.{Kind}
 use Rattle.record_reader.specs.declared.entry.Kind.TheVariants as kinds
 use Rattle.fapp_text.specs.Reading.{◌>>=◌}
@@ -40,13 +40,13 @@ abbrev pub rises : List ℕ → Bool
 rises [] = false
 rises (n ∷ rest) = rises_after n rest
 
-abbrev pub rule_rises : Rule → Bool
+abbrev pub rule_rises : Demand → Bool
 rule_rises (Freq equal n) = false
 rule_rises (Pol equal) = false
 rule_rises (Same dist) = rises dist
 rule_rises (Other dist) = rises dist
 
-abbrev pub constraint : ℕ → ℕ → ℕ → Rule → Result Entry Cause
+abbrev pub constraint : ℕ → ℕ → ℕ → Demand → Result Entry Cause
 constraint line first second rule =
     if first == second then Err SelfPair
     else (if rule_rises rule then Err Increasing
@@ -66,7 +66,7 @@ path_entry line fields = do
   Ok (entries.Link (links.Path (record { line = line; number = path; domain = domain; pol = pol })))
 
 -- the rule of frequencies or that of polarizations, whose number is ignored
-abbrev pub imperative : Bool → Bool → ℕ → Rule
+abbrev pub imperative : Bool → Bool → ℕ → Demand
 imperative true equal n = Freq equal n
 imperative false equal n = Pol equal
 
@@ -80,7 +80,7 @@ imperative_entry line fields = do
   constraint line first second (imperative of_frequencies equal n)
 
 -- the rule of equal polarizations or that of different ones
-abbrev pub compatible : Bool → List ℕ → Rule
+abbrev pub compatible : Bool → List ℕ → Demand
 compatible true dist = Same dist
 compatible false dist = Other dist
 

@@ -9,10 +9,10 @@ use Rattle.fapp_model.specs.declared.record.Record.TheVariants as records
 use Rattle.record_reader.specs.declared.entry.DomainEntry.{DomainEntry}
 use Rattle.record_reader.specs.declared.entry.PathEntry.{PathEntry}
 use Rattle.record_reader.specs.declared.entry.ConstraintEntry.{ConstraintEntry}
-use Rattle.record_reader.specs.declared.entry.Link.{Link}
-use Rattle.record_reader.specs.declared.entry.Link.TheVariants as links
-use Rattle.record_reader.specs.declared.entry.Rule.{Rule}
-use Rattle.record_reader.specs.declared.entry.Rule.TheVariants.{Freq, Pol, Same, Other}
+use Rattle.record_reader.specs.declared.entry.Pending.{Pending}
+use Rattle.record_reader.specs.declared.entry.Pending.TheVariants as links
+use Rattle.record_reader.specs.declared.entry.Demand.{Demand}
+use Rattle.record_reader.specs.declared.entry.Demand.TheVariants.{Freq, Pol, Same, Other}
 use Rattle.record_reader.specs.Contents.{Domains}
 
 -- a number at its place among ascending ones, where it stands once
@@ -27,12 +27,12 @@ put_entry domain so_far entry = if entry.domain == domain then put entry.frequen
 abbrev pub frequencies : List DomainEntry → ℕ → List ℕ
 frequencies entries domain = fold (put_entry domain) [] entries
 
-abbrev pub paths_of : List Link → List PathEntry
+abbrev pub paths_of : List Pending → List PathEntry
 paths_of [] = []
 paths_of (links.Path entry ∷ rest) = entry ∷ paths_of rest
 paths_of (links.Constraint entry ∷ rest) = paths_of rest
 
-abbrev pub constraints_of : List Link → List ConstraintEntry
+abbrev pub constraints_of : List Pending → List ConstraintEntry
 constraints_of [] = []
 constraints_of (links.Path entry ∷ rest) = constraints_of rest
 constraints_of (links.Constraint entry ∷ rest) = entry ∷ constraints_of rest
@@ -45,7 +45,7 @@ abbrev pub path_of : Domains → PathEntry → Path
 path_of domains entry = record { number = entry.number; freqs = domains entry.domain; pol = entry.pol }
 
 -- a rule between the paths at two positions
-abbrev pub record_between : ℕ → ℕ → Rule → Record
+abbrev pub record_between : ℕ → ℕ → Demand → Record
 record_between i j (Freq equal n) = records.Freq i j equal n
 record_between i j (Pol equal) = records.Pol i j equal
 record_between i j (Same dist) = records.Same i j dist
@@ -56,7 +56,7 @@ record_of paths entry =
     record_between (unwrap_or (place_of paths entry.first) 0) (unwrap_or (place_of paths entry.second) 0) entry.rule
 
 -- paths and constraint records in the order of their lines
-abbrev pub instance_of : Domains → List Link → Instance
+abbrev pub instance_of : Domains → List Pending → Instance
 instance_of domains links = record {
   paths = map (path_of domains) (paths_of links);
   records = map (record_of (paths_of links)) (constraints_of links);

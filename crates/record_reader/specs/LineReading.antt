@@ -8,7 +8,7 @@ use Rattle.record_reader.specs.declared.cause.Cause.TheVariants.{DuplicatePath, 
 use Rattle.record_reader.specs.declared.entry.DomainEntry.{DomainEntry}
 use Rattle.record_reader.specs.declared.entry.PathEntry.{PathEntry}
 use Rattle.record_reader.specs.declared.entry.ConstraintEntry.{ConstraintEntry}
-use Rattle.record_reader.specs.declared.entry.Link.TheVariants as links
+use Rattle.record_reader.specs.declared.entry.Pending.TheVariants as links
 use Rattle.record_reader.specs.declared.entry.Entry.{Entry}
 use Rattle.record_reader.specs.declared.entry.Entry.TheVariants as entries
 use Rattle.record_reader.specs.Contents.{Contents}

@@ -8,8 +8,8 @@ use Rattle.record_reader.specs.declared.cause.Cause.{Cause}
 use Rattle.record_reader.specs.declared.cause.Cause.TheVariants.{UnknownDomain, UnknownPath, TooManyChoices}
 use Rattle.record_reader.specs.declared.entry.PathEntry.{PathEntry}
 use Rattle.record_reader.specs.declared.entry.ConstraintEntry.{ConstraintEntry}
-use Rattle.record_reader.specs.declared.entry.Link.{Link}
-use Rattle.record_reader.specs.declared.entry.Link.TheVariants as links
+use Rattle.record_reader.specs.declared.entry.Pending.{Pending}
+use Rattle.record_reader.specs.declared.entry.Pending.TheVariants as links
 use Rattle.record_reader.specs.Contents.{Domains}
 use Rattle.record_reader.specs.Instances.{paths_of, place_of, path_of}
 
@@ -29,11 +29,11 @@ constraint_link_refusal paths entry =
     if is_some (place_of paths entry.first) && is_some (place_of paths entry.second) then None else Some UnknownPath
 
 -- what a link is refused for, after earlier ones, among all paths
-abbrev pub link_refusal : Domains → List PathEntry → List Link → Link → Option Cause
+abbrev pub link_refusal : Domains → List PathEntry → List Pending → Pending → Option Cause
 link_refusal domains paths earlier (links.Path entry) = path_link_refusal domains (paths_of earlier) entry
 link_refusal domains paths earlier (links.Constraint entry) = constraint_link_refusal paths entry
 
-abbrev pub line_of : Link → ℕ
+abbrev pub line_of : Pending → ℕ
 line_of (links.Path entry) = entry.line
 line_of (links.Constraint entry) = entry.line
 
@@ -46,7 +46,7 @@ or_later None later = later
 or_later (Some first) later = Some first
 
 -- the first link that is refused
-abbrev pub first_link_refusal : Domains → List PathEntry → List Link → List Link → Option (LineFault Cause)
+abbrev pub first_link_refusal : Domains → List PathEntry → List Pending → List Pending → Option (LineFault Cause)
 first_link_refusal domains paths earlier [] = None
 first_link_refusal domains paths earlier (link ∷ rest) =
     or_later (fault_at (line_of link) (link_refusal domains paths earlier link))

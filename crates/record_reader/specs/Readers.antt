@@ -36,7 +36,7 @@ HasPositions positions paths = (number : ℕ) → get nat_cmp positions number �
 
 -- the links, the positions of their paths, each domain's frequencies, and how many domain records and constraints
 -- there are
-pub record Holds (reader : Reader) (contents : Contents) : Type 0 where
+pub record ReaderHolds (reader : Reader) (contents : Contents) : Type 0 where
   pub links : reader.links ≡ contents.links
   pub positions : HasPositions reader.positions (paths_of contents.links)
   pub paths : btree_map_len reader.positions ≡ length (paths_of contents.links)
@@ -47,14 +47,14 @@ pub record Holds (reader : Reader) (contents : Contents) : Type 0 where
 -- the reader holds what reading gives, or reading fails so
 abbrev pub HoldsRead : Result Contents (LineFault Cause)
     → Result (Unit {0}) (Failure (LineFault Cause)) → Reader → Type 0
-HoldsRead read (Ok done) reader = (contents : Contents) × (read ≡ Ok contents) × Holds reader contents
+HoldsRead read (Ok done) reader = (contents : Contents) × (read ≡ Ok contents) × ReaderHolds reader contents
 HoldsRead read (Err failure) reader = Fails failure read
 
 -- what a line makes of each contents that the reader may hold
-abbrev pub Takes : (Contents → Result Contents (LineFault Cause))
+abbrev pub TakesLine : (Contents → Result Contents (LineFault Cause))
     → Reader → Result (Unit {0}) (Failure (LineFault Cause)) → Reader → Type 0
-Takes read old result new = (contents : Contents) → Holds old contents → HoldsRead (read contents) result new
+TakesLine read old result new = (contents : Contents) → ReaderHolds old contents → HoldsRead (read contents) result new
 
 abbrev pub GivesReader : Result Contents (LineFault Cause) → Result Reader (Failure (LineFault Cause)) → Type 0
-GivesReader read (Ok reader) = (contents : Contents) × (read ≡ Ok contents) × Holds reader contents
+GivesReader read (Ok reader) = (contents : Contents) × (read ≡ Ok contents) × ReaderHolds reader contents
 GivesReader read (Err failure) = Fails failure read

@@ -5,14 +5,14 @@ use Rattle.fapp_text.specs.declared.failure.LineFault.{LineFault}
 use Rattle.fapp_text.specs.Lines.{lines}
 use Rattle.fapp_text.specs.Reading.{◌>>=◌, unless}
 use Rattle.record_reader.specs.declared.cause.Cause.{Cause}
-use Rattle.record_reader.specs.declared.entry.Link.{Link}
+use Rattle.record_reader.specs.declared.entry.Pending.{Pending}
 use Rattle.record_reader.specs.Contents.{Contents, Domains, no_contents}
 use Rattle.record_reader.specs.Instances.{frequencies, paths_of, instance_of}
 use Rattle.record_reader.specs.Links.{first_link_refusal}
 use Rattle.record_reader.specs.LineReading.{read_lines}
 
 -- the instance of links over domains, where none of them is refused
-abbrev pub instance_of_links : Domains → List Link → Result Instance (LineFault Cause)
+abbrev pub instance_of_links : Domains → List Pending → Result Instance (LineFault Cause)
 instance_of_links domains links = unless (first_link_refusal domains (paths_of links) [] links) (instance_of domains links)
 
 abbrev pub instance_of_contents : Contents → Result Instance (LineFault Cause)

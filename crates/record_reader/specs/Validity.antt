@@ -7,10 +7,10 @@ use Rattle.fapp_model.specs.Instances.{IsNumber, IsPolarization, AreDistances}
 use Rattle.record_reader.specs.declared.entry.DomainEntry.{DomainEntry}
 use Rattle.record_reader.specs.declared.entry.PathEntry.{PathEntry}
 use Rattle.record_reader.specs.declared.entry.ConstraintEntry.{ConstraintEntry}
-use Rattle.record_reader.specs.declared.entry.Rule.{Rule}
-use Rattle.record_reader.specs.declared.entry.Rule.TheVariants.{Freq, Pol, Same, Other}
-use Rattle.record_reader.specs.declared.entry.Link.{Link}
-use Rattle.record_reader.specs.declared.entry.Link.TheVariants as links
+use Rattle.record_reader.specs.declared.entry.Demand.{Demand}
+use Rattle.record_reader.specs.declared.entry.Demand.TheVariants.{Freq, Pol, Same, Other}
+use Rattle.record_reader.specs.declared.entry.Pending.{Pending}
+use Rattle.record_reader.specs.declared.entry.Pending.TheVariants as links
 use Rattle.record_reader.specs.declared.entry.Entry.{Entry}
 use Rattle.record_reader.specs.declared.entry.Entry.TheVariants as entries
 use Rattle.record_reader.specs.Contents.{Contents, Domains}
@@ -24,23 +24,23 @@ pub record IsPathEntry (entry : PathEntry) : Type 0 where
   pub polarization : IsPolarization entry.pol
 
 -- what a constraint says where there are so many levels
-abbrev pub IsRule : ℕ → Rule → Type 0
-IsRule levels (Freq equal n) = IsNumber n
-IsRule levels (Pol equal) = Unit {0}
-IsRule levels (Same dist) = AreDistances levels dist
-IsRule levels (Other dist) = AreDistances levels dist
+abbrev pub IsDemand : ℕ → Demand → Type 0
+IsDemand levels (Freq equal n) = IsNumber n
+IsDemand levels (Pol equal) = Unit {0}
+IsDemand levels (Same dist) = AreDistances levels dist
+IsDemand levels (Other dist) = AreDistances levels dist
 
 pub record IsConstraintEntry (levels : ℕ) (entry : ConstraintEntry) : Type 0 where
   pub different : entry.first ≢ entry.second
-  pub rule : IsRule levels entry.rule
+  pub rule : IsDemand levels entry.rule
 
 -- what a line says where there are so many levels
-abbrev pub IsEntry : ℕ → Entry → Type 0
-IsEntry levels (entries.Domain entry) = IsDomainEntry entry
-IsEntry levels (entries.Link (links.Path entry)) = IsPathEntry entry
-IsEntry levels (entries.Link (links.Constraint entry)) = IsConstraintEntry levels entry
+abbrev pub IsEntryOf : ℕ → Entry → Type 0
+IsEntryOf levels (entries.Domain entry) = IsDomainEntry entry
+IsEntryOf levels (entries.Link (links.Path entry)) = IsPathEntry entry
+IsEntryOf levels (entries.Link (links.Constraint entry)) = IsConstraintEntry levels entry
 
-pub record AreLinks (links : List Link) : Type 0 where
+pub record ArePendings (links : List Pending) : Type 0 where
   pub paths : All IsPathEntry (paths_of links)
   pub apart : AllPairs (λ p q. p.number ≢ q.number) (paths_of links)
   pub constraints : All (IsConstraintEntry LEVELS) (constraints_of links)
@@ -55,4 +55,4 @@ pub record AreDomains (domains : Domains) : Type 0 where
 pub record IsContents (contents : Contents) : Type 0 where
   pub numbers : All IsDomainEntry contents.domains
   pub domains : AreDomains (frequencies contents.domains)
-  pub links : AreLinks contents.links
+  pub links : ArePendings contents.links

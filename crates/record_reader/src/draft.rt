@@ -2,15 +2,15 @@ ghost use Rattle.std.specs.Prelude.{◌≡◌, ◌≤◌, List, IfOk};
 ghost use Rattle.std.specs.Ordering.{nat_cmp};
 ghost use Rattle.std.specs.BTreeMap.{get};
 ghost use Rattle.fapp_text.specs.Reading.{Gives};
-ghost use Rattle.record_reader.specs.declared.entry.Link.{Link};
-ghost use Rattle.record_reader.specs.declared.entry.Link.TheVariants as links;
+ghost use Rattle.record_reader.specs.declared.entry.Pending.{Pending};
+ghost use Rattle.record_reader.specs.declared.entry.Pending.TheVariants as links;
 ghost use Rattle.record_reader.specs.Instances.{paths_of, path_of, record_between};
 ghost use Rattle.record_reader.specs.Texts.{instance_of_links};
 ghost use Rattle.record_reader.specs.Readers.{HasPositions, frequencies_in, domains_of};
-ghost use Rattle.record_reader.specs.Drafts.{IsDraft, Grows, record_by};
-ghost use Rattle.record_reader.specs.Validity.{AreDomains, AreLinks, IsPathEntry};
+ghost use Rattle.record_reader.specs.Drafts.{IsDraft, DraftGrows, record_by};
+ghost use Rattle.record_reader.specs.Validity.{AreDomains, ArePendings, IsPathEntry};
 
-use crate::entry::{ConstraintEntry, Link, PathEntry, Rule};
+use crate::entry::{ConstraintEntry, Pending, PathEntry, Demand};
 use crate::reader::Reader;
 use crate::{Cause, ReadError};
 use fapp_model::{Instance, Items, MAX_CHOICES, Path, Record, choice_count};
@@ -37,8 +37,8 @@ impl Draft {
         requires domains { AreDomains (domains_of reader.now) }
         requires entry { IsPathEntry entry }
         requires few { self.old.choices ≤ MAX_CHOICES }
-        ensures { (earlier : List Link) → IsDraft reader.now earlier self.old
-            → Grows reader.now earlier (links.Path entry) result self.new }
+        ensures { (earlier : List Pending) → IsDraft reader.now earlier self.old
+            → DraftGrows reader.now earlier (links.Path entry) result self.new }
     {
         let path = path_of(alloc, &reader.domains, entry)?;
         if path.freqs.is_empty() {
@@ -56,8 +56,8 @@ impl Draft {
     /// Adds the record of an entry, if it names paths that are there.
     fn add_record(&mut self, reader: &Reader, entry: ConstraintEntry) -> Result<(), ReadError>
         requires { HasPositions reader.now.positions (paths_of reader.now.links) }
-        ensures { (earlier : List Link) → IsDraft reader.now earlier self.old
-            → Grows reader.now earlier (links.Constraint entry) result self.new }
+        ensures { (earlier : List Pending) → IsDraft reader.now earlier self.old
+            → DraftGrows reader.now earlier (links.Constraint entry) result self.new }
     {
         match record_of(&reader.positions, &entry) {
             Some(record) => {
@@ -116,21 +116,21 @@ fn record_of(positions: &BTreeMap<u32, u16>, entry: &ConstraintEntry) -> Option<
 }
 
 /// The record of a rule between the paths at two positions.
-fn record_between(i: u16, j: u16, rule: Rule) -> Record
+fn record_between(i: u16, j: u16, rule: Demand) -> Record
     ensures { result ≡ record_between i j rule }
 {
     match rule {
-        Rule::Freq { equal, n } => Record::Freq { i, j, equal, n },
-        Rule::Pol { equal } => Record::Pol { i, j, equal },
-        Rule::Same { dist } => Record::Same { i, j, dist },
-        Rule::Other { dist } => Record::Other { i, j, dist },
+        Demand::Freq { equal, n } => Record::Freq { i, j, equal, n },
+        Demand::Pol { equal } => Record::Pol { i, j, equal },
+        Demand::Same { dist } => Record::Same { i, j, dist },
+        Demand::Other { dist } => Record::Other { i, j, dist },
     }
 }
 
 /// The instance of all links, if the whole text refuses none.
 pub(crate) fn instance_of(alloc: Global, reader: &Reader) -> Result<Instance, ReadError>
     requires domains { AreDomains (domains_of reader.now) }
-    requires links { AreLinks reader.now.links }
+    requires links { ArePendings reader.now.links }
     requires positions { HasPositions reader.now.positions (paths_of reader.now.links) }
     ensures { Gives (λ instance. instance) result (instance_of_links (domains_of reader.now) reader.now.links) }
 {
@@ -141,8 +141,8 @@ pub(crate) fn instance_of(alloc: Global, reader: &Reader) -> Result<Instance, Re
     };
     for link in reader.links.as_slice() {
         match *link {
-            Link::Path(entry) => draft.add_path(alloc, reader, entry)?,
-            Link::Constraint(entry) => draft.add_record(reader, entry)?,
+            Pending::Path(entry) => draft.add_path(alloc, reader, entry)?,
+            Pending::Constraint(entry) => draft.add_record(reader, entry)?,
         }
     }
     Ok(Instance {

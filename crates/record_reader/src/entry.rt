@@ -18,7 +18,7 @@ pub struct PathEntry {
 
 /// What a constraint says of its two paths.
 #[derive(Clone, Copy, Debug)]
-pub enum Rule {
+pub enum Demand {
     /// `F E n` or `F I n`: the distance of the frequencies is `n`, or is not `n`.
     Freq { equal: bool, n: u32 },
     /// `P E x` or `P I x`: the polarizations are equal, or are not.
@@ -36,12 +36,12 @@ pub struct ConstraintEntry {
     pub line: u32,
     pub first: u32,
     pub second: u32,
-    pub rule: Rule,
+    pub rule: Demand,
 }
 
 /// What a line links: a path to its domain, or two paths to each other.
 #[derive(Clone, Copy, Debug)]
-pub enum Link {
+pub enum Pending {
     Path(PathEntry),
     Constraint(ConstraintEntry),
 }
@@ -50,7 +50,7 @@ pub enum Link {
 #[derive(Clone, Copy, Debug)]
 pub enum Entry {
     Domain(DomainEntry),
-    Link(Link),
+    Pending(Pending),
 }
 
 /// What the first field of a line names.

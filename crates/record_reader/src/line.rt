@@ -2,10 +2,10 @@ ghost use Rattle.std.specs.Prelude.{◌≡◌, ◌+◌, ◌<◌, ◌≤◌, ◌�
 ghost use Rattle.record_reader.specs.Entries.{kind_of, field_count, entry_of, constraint, domain_entry, path_entry, imperative, imperative_entry, compatible, compatible_entry, distances, rises, rule_rises};
 ghost use Rattle.record_reader.specs.Fields.{field};
 ghost use Rattle.record_reader.specs.declared.entry.Entry.TheVariants as entries;
-ghost use Rattle.record_reader.specs.declared.entry.Link.TheVariants as links;
+ghost use Rattle.record_reader.specs.declared.entry.Pending.TheVariants as links;
 
 use crate::Cause;
-use crate::entry::{ConstraintEntry, DomainEntry, Entry, Kind, Link, PathEntry, Rule};
+use crate::entry::{ConstraintEntry, DomainEntry, Entry, Kind, Pending, PathEntry, Demand};
 use crate::field::{field_at, number_at, polarization_at, word_at};
 use fapp_model::MAX_LEVELS;
 use fapp_text::is;
@@ -66,9 +66,9 @@ fn path_entry(line: u32, fields: &[&[u8]]) -> Result<Entry, Cause>
 }
 
 fn path(line: u32, number: u32, domain: u32, pol: i8) -> Entry
-    ensures { result ≡ entries.Link (links.Path (record { line = line; number = number; domain = domain; pol = pol })) }
+    ensures { result ≡ entries.Pending (links.Path (record { line = line; number = number; domain = domain; pol = pol })) }
 {
-    Entry::Link(Link::Path(PathEntry {
+    Entry::Pending(Pending::Path(PathEntry {
         line,
         number,
         domain,
@@ -89,13 +89,13 @@ fn imperative_entry(line: u32, fields: &[&[u8]]) -> Result<Entry, Cause>
 }
 
 /// The rule of frequencies or that of polarizations, whose number is ignored.
-fn imperative(of_frequencies: bool, equal: bool, n: u32) -> Rule
+fn imperative(of_frequencies: bool, equal: bool, n: u32) -> Demand
     ensures { result ≡ imperative of_frequencies equal n }
 {
     if of_frequencies {
-        Rule::Freq { equal, n }
+        Demand::Freq { equal, n }
     } else {
-        Rule::Pol { equal }
+        Demand::Pol { equal }
     }
 }
 
@@ -116,13 +116,13 @@ fn compatible_entry(
 }
 
 /// The rule of equal polarizations or that of different ones.
-fn compatible(of_equal: bool, dist: [u32; MAX_LEVELS as usize]) -> Rule
+fn compatible(of_equal: bool, dist: [u32; MAX_LEVELS as usize]) -> Demand
     ensures { result ≡ compatible of_equal dist }
 {
     if of_equal {
-        Rule::Same { dist }
+        Demand::Same { dist }
     } else {
-        Rule::Other { dist }
+        Demand::Other { dist }
     }
 }
 
@@ -140,7 +140,7 @@ fn distances(levels: u32, fields: &[&[u8]]) -> Result<[u32; MAX_LEVELS as usize]
 }
 
 /// The entry of a constraint between two different paths, whose distances do not rise.
-fn constraint(line: u32, first: u32, second: u32, rule: Rule) -> Result<Entry, Cause>
+fn constraint(line: u32, first: u32, second: u32, rule: Demand) -> Result<Entry, Cause>
     ensures { result ≡ constraint line first second rule }
 {
     if first == second {
@@ -149,7 +149,7 @@ fn constraint(line: u32, first: u32, second: u32, rule: Rule) -> Result<Entry, C
     if rule_rises(&rule) {
         return Err(Cause::Increasing);
     }
-    Ok(Entry::Link(Link::Constraint(ConstraintEntry {
+    Ok(Entry::Pending(Pending::Constraint(ConstraintEntry {
         line,
         first,
         second,
@@ -157,12 +157,12 @@ fn constraint(line: u32, first: u32, second: u32, rule: Rule) -> Result<Entry, C
     })))
 }
 
-fn rule_rises(rule: &Rule) -> bool
+fn rule_rises(rule: &Demand) -> bool
     ensures { result ≡ rule_rises rule.now }
 {
     match rule {
-        Rule::Freq { .. } | Rule::Pol { .. } => false,
-        Rule::Same { dist } | Rule::Other { dist } => rises(dist),
+        Demand::Freq { .. } | Demand::Pol { .. } => false,
+        Demand::Same { dist } | Demand::Other { dist } => rises(dist),
     }
 }
 

@@ -2,13 +2,13 @@ ghost use Rattle.std.specs.Prelude.{◌≡◌, ℕ, ◌≤◌, nat_le, length, m
 ghost use Rattle.fapp_text.specs.Lines.{lines};
 ghost use Rattle.fapp_text.specs.Reading.{at_line};
 ghost use Rattle.record_reader.specs.declared.entry.Entry.TheVariants as entries;
-ghost use Rattle.record_reader.specs.declared.entry.Link.TheVariants as links;
+ghost use Rattle.record_reader.specs.declared.entry.Pending.TheVariants as links;
 ghost use Rattle.record_reader.specs.Contents.{no_contents};
 ghost use Rattle.record_reader.specs.Fields.{fields_of};
 ghost use Rattle.record_reader.specs.LineReading.{read_entry, read_line, read_lines};
-ghost use Rattle.record_reader.specs.Readers.{AddsFrequency, Holds, Takes, GivesReader};
+ghost use Rattle.record_reader.specs.Readers.{AddsFrequency, ReaderHolds, TakesLine, GivesReader};
 
-use crate::entry::{ConstraintEntry, DomainEntry, Entry, Link, PathEntry};
+use crate::entry::{ConstraintEntry, DomainEntry, Entry, Pending, PathEntry};
 use crate::field::first_fields;
 use crate::line::entry_of;
 use crate::{Cause, ReadError};
@@ -23,7 +23,7 @@ use std::collections::{BTreeMap, BTreeSet};
 #[derive(Drop)]
 pub struct Reader {
     /// The paths and constraints, in the order of their lines.
-    pub links: Items<Link>,
+    pub links: Items<Pending>,
     /// The position of each path by its number.
     pub positions: BTreeMap<u32, u16>,
     /// The frequencies of each domain.
@@ -37,7 +37,7 @@ pub struct Reader {
 impl Reader {
     /// No line.
     fn new(alloc: Global) -> Reader
-        ensures { Holds result no_contents }
+        ensures { ReaderHolds result no_contents }
     {
         Reader {
             links: Items::new(alloc),
@@ -50,17 +50,17 @@ impl Reader {
 
     /// Takes what a line says, if the lines before it allow it.
     fn add(&mut self, alloc: Global, line: u32, entry: Entry) -> Result<(), ReadError>
-        ensures { Takes (λ contents. at_line line (read_entry contents entry)) self.old result self.new }
+        ensures { TakesLine (λ contents. at_line line (read_entry contents entry)) self.old result self.new }
     {
         match entry {
             Entry::Domain(entry) => self.add_domain(alloc, line, entry),
-            Entry::Link(Link::Path(entry)) => self.add_path(line, entry),
-            Entry::Link(Link::Constraint(entry)) => self.add_constraint(line, entry),
+            Entry::Pending(Pending::Path(entry)) => self.add_path(line, entry),
+            Entry::Pending(Pending::Constraint(entry)) => self.add_constraint(line, entry),
         }
     }
 
     fn add_domain(&mut self, alloc: Global, line: u32, entry: DomainEntry) -> Result<(), ReadError>
-        ensures { Takes (λ contents. at_line line (read_entry contents (entries.Domain entry)))
+        ensures { TakesLine (λ contents. at_line line (read_entry contents (entries.Domain entry)))
             self.old result self.new }
     {
         if is_full(self.domain_records, MAX_DOMAIN_RECORDS) {
@@ -75,7 +75,7 @@ impl Reader {
     }
 
     fn add_path(&mut self, line: u32, entry: PathEntry) -> Result<(), ReadError>
-        ensures { Takes (λ contents. at_line line (read_entry contents (entries.Link (links.Path entry))))
+        ensures { TakesLine (λ contents. at_line line (read_entry contents (entries.Pending (links.Path entry))))
             self.old result self.new }
     {
         if self.positions.contains_key(&entry.number) {
@@ -86,25 +86,25 @@ impl Reader {
             return Err(fault_at(line, Cause::TooManyPaths));
         }
         self.positions.insert(entry.number, place as u16)?;
-        self.links.push(Link::Path(entry))?;
+        self.links.push(Pending::Path(entry))?;
         Ok(())
     }
 
     fn add_constraint(&mut self, line: u32, entry: ConstraintEntry) -> Result<(), ReadError>
-        ensures { Takes (λ contents. at_line line (read_entry contents (entries.Link (links.Constraint entry))))
+        ensures { TakesLine (λ contents. at_line line (read_entry contents (entries.Pending (links.Constraint entry))))
             self.old result self.new }
     {
         if is_full(self.constraints, MAX_RECORDS) {
             return Err(fault_at(line, Cause::TooManyRecords));
         }
-        self.links.push(Link::Constraint(entry))?;
+        self.links.push(Pending::Constraint(entry))?;
         self.constraints += 1;
         Ok(())
     }
 
     /// Takes a line, if the lines before it allow it. One without fields says nothing.
     fn add_line(&mut self, alloc: Global, line: u32, text: &[u8]) -> Result<(), ReadError>
-        ensures { Takes (λ contents. at_line line (read_line contents line (fields_of text.now)))
+        ensures { TakesLine (λ contents. at_line line (read_line contents line (fields_of text.now)))
             self.old result self.new }
     {
         let fields = first_fields(alloc, text)?;
@@ -112,7 +112,7 @@ impl Reader {
     }
 
     fn add_fields(&mut self, alloc: Global, line: u32, fields: &[&[u8]]) -> Result<(), ReadError>
-        ensures { Takes (λ contents. at_line line (read_line contents line (map (λ x. x.now) fields.now)))
+        ensures { TakesLine (λ contents. at_line line (read_line contents line (map (λ x. x.now) fields.now)))
             self.old result self.new }
     {
         if fields.is_empty() {

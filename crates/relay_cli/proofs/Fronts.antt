@@ -4,7 +4,7 @@ use Rattle.std.specs.Int.{div_ceil}
 use Rattle.std.proofs.lemmas.List.{take_all, append-nil, take-append-le}
 use Rattle.std.proofs.lemmas.Bool.{cases_lt}
 use Rattle.std.proofs.lemmas.Bool.Decides.{nat_tests}
-use Rattle.fapp_io.specs.Known.{Grows}
+use Rattle.fapp_io.specs.Known.{BytesGrow}
 use Rattle.fapp_io.specs.Whole.{GrowsByFront}
 use Rattle.fapp_model.specs.declared.instance.Instance.{Instance}
 use Rattle.cert_lines.specs.declared.answer.Answer.{Answer}
@@ -36,7 +36,7 @@ module _ (instance : Instance) (answer : Answer) where
       omega (arith, ap length is)
 
   -- the text of the pieces before one is a front of the whole, short of it
-  pub cut_text : (n : ℕ) (old new : Option (List ℕ)) → n < piece_count answer → Grows old new (text_before instance answer n) → GrowsByFront old new (answer_text instance answer)
+  pub cut_text : (n : ℕ) (old new : Option (List ℕ)) → n < piece_count answer → BytesGrow old new (text_before instance answer n) → GrowsByFront old new (answer_text instance answer)
   cut_text n old new lt h =
       let q : ℕ = 1 + div_ceil (length answer.lines) 4096 in
       let count : suc q ≡ piece_count answer = omega arith in
@@ -50,4 +50,4 @@ module _ (instance : Instance) (answer : Answer) where
       let some : 1 ≤ length piece = last_piece q count in
       let front : take (length head) (answer_text instance answer) ≡ head =
       ap (take (length head)) whole ∙ take-append-le (length head) head rest (omega arith) ∙ take_all (length head) head (omega arith) in
-      (length head, omega (arith, some, ap length whole, length-append head rest, length-append longer_by.0 piece), subst (Grows old new) (sym front) h)
+      (length head, omega (arith, some, ap length whole, length-append head rest, length-append longer_by.0 piece), subst (BytesGrow old new) (sym front) h)

@@ -4,7 +4,7 @@ use Rattle.std.specs.Prelude.{String, map, string_bytes}
 use Rattle.std.specs.Global.{Global}
 use Rattle.std.proofs.lemmas.List.{drop_all}
 use Rattle.fapp_io.specs.Counts.{Rose}
-use Rattle.fapp_io.specs.Known.{Grows}
+use Rattle.fapp_io.specs.Known.{BytesGrow}
 use Rattle.fapp_io.specs.Moments.{SourceMoment, SinkMoment}
 use Rattle.fapp_io.specs.Whole.{DropsUpTo, GrowsByFront, IsAllOf}
 use Rattle.fapp_model.specs.declared.instance.Instance.{Instance}
@@ -99,7 +99,7 @@ module _ (words : List (String Global)) (source source' : SourceMoment) (sink si
   no_want text None h = let e = h.1 in cc
   no_want text (Some options) h = no_verdict_want h.2.3.answer.verdict h.2.3.status_is
 
-  whole_run : (text : List ℕ) (status : Status) → IsRelayOutcome words source source' status text → Grows sink.taken sink'.taken text → IsRelayRun words source source' sink sink' status
+  whole_run : (text : List ℕ) (status : Status) → IsRelayOutcome words source source' status text → BytesGrow sink.taken sink'.taken text → IsRelayRun words source source' sink sink' status
   whole_run text Best out takes = (text, out, takes)
   whole_run text NoneFeasible out takes = (text, out, takes)
   whole_run text Open out takes = (text, out, takes)

@@ -2,7 +2,7 @@
 use Rattle.std.specs.Prelude.{◌≡◌, ◌≢◌, ◌⊎◌, ◌+◌, ℕ, ◌≤◌, List, length, map, String, string_bytes, Option, Some, None, Ok}
 use Rattle.std.specs.Global.{Global}
 use Rattle.fapp_io.specs.Counts.{Rose}
-use Rattle.fapp_io.specs.Known.{Grows}
+use Rattle.fapp_io.specs.Known.{BytesGrow}
 use Rattle.fapp_io.specs.Moments.{SourceMoment, SinkMoment}
 use Rattle.fapp_io.specs.Whole.{DropsUpTo, GrowsByFront}
 use Rattle.fapp_model.specs.declared.instance.Instance.{Instance}
@@ -62,7 +62,7 @@ IsRelayRun words source source' sink sink' NoMemory =
 IsRelayRun words source source' sink sink' WriteFault =
     Rose sink.faults sink'.faults × IsCutOutcome words source source' sink sink'
 IsRelayRun words source source' sink sink' status =
-    (text : List ℕ) × IsRelayOutcome words source source' status text × Grows sink.taken sink'.taken text
+    (text : List ℕ) × IsRelayOutcome words source source' status text × BytesGrow sink.taken sink'.taken text
 
 -- each job of one level that decides has tries within the fuel that the words name
 abbrev pub IsEnoughForRelay : List (String Global) → Instance → Type 0

@@ -1,7 +1,7 @@
 -- What the steps of a run do.
 use Rattle.std.specs.Prelude.{◌≡◌, ◌⊎◌, ◌+◌, ℕ, List}
 use Rattle.fapp_io.specs.Counts.{Rose}
-use Rattle.fapp_io.specs.Known.{Drops, Grows}
+use Rattle.fapp_io.specs.Known.{Drops, BytesGrow}
 use Rattle.fapp_io.specs.Moments.{SourceMoment, SinkMoment}
 use Rattle.fapp_io.specs.Whole.{DropsUpTo, GrowsByFront, IsAllOf}
 use Rattle.cert_lines.specs.declared.answer.Verdict.{Verdict}
@@ -27,7 +27,7 @@ IsSolutionOf options source source' solution =
 -- was taken; or there was no memory, and nothing was taken, or a front of what tells a verdict
 abbrev pub IsWriting : Status → List ℕ → SinkMoment → SinkMoment → Status → Type 0
 IsWriting status text sink sink' end =
-    ((end ≡ status) × Grows sink.taken sink'.taken text)
+    ((end ≡ status) × BytesGrow sink.taken sink'.taken text)
     ⊎ (((end ≡ WriteFault) × Rose sink.faults sink'.faults × GrowsByFront sink.taken sink'.taken text)
     ⊎ ((end ≡ NoMemory) × ((sink' ≡ sink)
     ⊎ ((verdict : Verdict) × (status ≡ status_of verdict) × GrowsByFront sink.taken sink'.taken text))))

@@ -8,9 +8,9 @@ use Rattle.std.proofs.lemmas.List.{length-map}
 use Rattle.std.proofs.lemmas.List.Elements.{All-contains}
 use Rattle.fapp_model.specs.declared.literal.Literal.{Literal}
 use Rattle.fapp_model.proofs.Members.{any-some}
-use Rattle.nogood.specs.Partials.{Gives, choice_given}
+use Rattle.nogood.specs.Partials.{GivesChoice, choice_given}
 use Rattle.search_log.specs.declared.shared.Cite.{Cite}
-use Rattle.search_log.specs.Shares.{Fits, row_content}
+use Rattle.search_log.specs.Shares.{FitsPart, row_content}
 use Rattle.search_log.specs.Contents.{KnownRow}
 use Rattle.row_copies.specs.Filed.{AreFiled, IsFoundIn, bucket, is_empty, known_cite, known_cites, literals_of}
 
@@ -20,7 +20,7 @@ and-right false b e = absurd (true≢false (sym e))
 
 module _ (width : ℕ) (cites : List Cite) (filed before last : List ℕ) (paths : ℕ) (h : AreFiled width cites filed before last paths) (part : List (Option ℕ)) (target : ℕ) where
   abbrev pub FitsNot : ℕ → ℕ → Type 0
-  FitsNot b left = (i : ℕ) (cite : Cite) → left ≤ i → slice_get cites i ≡ Some cite → slice_index filed i ≡ b → Fits part target (row_content cite.content) → ⊥
+  FitsNot b left = (i : ℕ) (cite : Cite) → left ≤ i → slice_get cites i ≡ Some cite → slice_index filed i ≡ b → FitsPart part target (row_content cite.content) → ⊥
 
   -- the first step
   pub begins : (b : ℕ) → FitsNot b (slice_index last b)
@@ -34,7 +34,7 @@ module _ (width : ℕ) (cites : List Cite) (filed before last : List ℕ) (paths
 
   -- one row of a bucket doesn't fit
   pub goes-on : (b left : ℕ) → 0 < left → left ≤ length cites → (0 < left → slice_index filed (left - 1) ≡ b) → FitsNot b left →
-      ((cite : Cite) → slice_get cites (left - 1) ≡ Some cite → Fits part target (row_content cite.content) → ⊥) →
+      ((cite : Cite) → slice_get cites (left - 1) ≡ Some cite → FitsPart part target (row_content cite.content) → ⊥) →
       (slice_index before (left - 1) ≤ length cites) × (0 < slice_index before (left - 1) → slice_index filed (slice_index before (left - 1) - 1) ≡ b) × FitsNot b (slice_index before (left - 1))
   goes-on b left some small of_b nots here =
       let low = h.before_low (left - 1) in (
@@ -55,18 +55,18 @@ module _ (width : ℕ) (cites : List Cite) (filed before last : List ℕ) (paths
 
   -- no row fits
   pub none-fits : IsFoundIn cites filed width part target None → ((p choice : ℕ) → p < paths → choice_given part p ≡ Some choice → IsFoundIn cites filed (bucket width p choice) part target None) →
-      All (λ (row : KnownRow). Fits part target row.content → ⊥) (known_cites cites)
+      All (λ (row : KnownRow). FitsPart part target row.content → ⊥) (known_cites cites)
   none-fits empty each k d inside fit =
       let r = at-index cites k (omega (arith, inside, length-map cites known_cite)) in
       let cite = r.0 in
-      let fits : Fits part target (row_content cite.content) = subst (λ (row : KnownRow). Fits part target row.content) (r.3 d) fit in
+      let fits : FitsPart part target (row_content cite.content) = subst (λ (row : KnownRow). FitsPart part target row.content) (r.3 d) fit in
       let its = h.its k cite r.1 in
       let named = All-contains (λ (one : Cite). All (λ (a : Literal). a.path < paths) (literals_of one)) cites cite h.named r.2 in
       elim (or_cases (list_any (λ (a : Literal). bucket width a.path a.choice == slice_index filed k) (literals_of cite)) (is_empty (literals_of cite) && (slice_index filed k == width)) its.its) [
         | inl some ↦ (
             let a = any-some (λ (a : Literal). bucket width a.path a.choice == slice_index filed k) (literals_of cite) some in
             let small = All-contains (λ (a : Literal). a.path < paths) (literals_of cite) a.0 named a.1 in
-            let given = All-contains (Gives part) (literals_of cite) a.0 fits.within a.1 in
+            let given = All-contains (GivesChoice part) (literals_of cite) a.0 fits.within a.1 in
             each a.0.path a.0.choice small given k cite r.1 (sym (eqb-true (bucket width a.0.path a.0.choice) (slice_index filed k) a.2)) fits)
         | inr none ↦ empty k cite r.1 (eqb-true (slice_index filed k) width (and-right (is_empty (literals_of cite)) (slice_index filed k == width) none)) fits
       ]
@@ -75,9 +75,9 @@ module _ (width : ℕ) (cites : List Cite) (filed before last : List ℕ) (paths
 pub none-seen : (width : ℕ) (cites : List Cite) (filed before last : List ℕ) (paths : ℕ) (h : AreFiled width cites filed before last paths) (part : List (Option ℕ)) (target : ℕ) (seen lent : List Cite) (lent_filed : List ℕ) (past : ℕ) →
     seen ≡ cites → lent ≡ cites → lent_filed ≡ filed → paths ≤ past → IsFoundIn lent lent_filed width part target None →
     ((p choice : ℕ) → p < past → choice_given part p ≡ Some choice → IsFoundIn lent lent_filed (bucket width p choice) part target None) →
-    All (λ (row : KnownRow). Fits part target row.content → ⊥) (known_cites seen)
+    All (λ (row : KnownRow). FitsPart part target row.content → ⊥) (known_cites seen)
 none-seen width cites filed before last paths h part target seen lent lent_filed past is_seen is_lent is_filed all empty each =
     let to : (b : ℕ) → IsFoundIn lent lent_filed b part target None → IsFoundIn cites filed b part target None =
     λ b f. subst (λ (c : List Cite). IsFoundIn c filed b part target None) is_lent (subst (λ (l : List ℕ). IsFoundIn lent l b part target None) is_filed f) in
-    subst (λ (c : List Cite). All (λ (row : KnownRow). Fits part target row.content → ⊥) (known_cites c)) (sym is_seen)
+    subst (λ (c : List Cite). All (λ (row : KnownRow). FitsPart part target row.content → ⊥) (known_cites c)) (sym is_seen)
     (none-fits width cites filed before last paths h part target (to width empty) (λ p choice low given. to (bucket width p choice) (each p choice (omega (arith, low, all)) given)))

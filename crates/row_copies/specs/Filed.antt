@@ -4,7 +4,7 @@ use Rattle.std.specs.List.{list_any}
 use Rattle.fapp_model.specs.declared.literal.Literal.{Literal}
 use Rattle.search_log.specs.Contents.{KnownRow, known_row}
 use Rattle.search_log.specs.declared.shared.Cite.{Cite}
-use Rattle.search_log.specs.Shares.{Fits, row_content}
+use Rattle.search_log.specs.Shares.{FitsPart, row_content}
 
 pub record CopiesState : Type 0 where
   pub cites : List Cite
@@ -54,6 +54,6 @@ pub record AreFiled (width : ℕ) (cites : List Cite) (filed before last : List 
 -- the place of a row that fits, or no row of the bucket does
 abbrev pub IsFoundIn : List Cite → List ℕ → ℕ → List (Option ℕ) → ℕ → Option ℕ → Type 0
 IsFoundIn cites filed b part target (Some place) =
-    (place < length cites) × ((cite : Cite) → slice_get cites place ≡ Some cite → Fits part target (row_content cite.content))
+    (place < length cites) × ((cite : Cite) → slice_get cites place ≡ Some cite → FitsPart part target (row_content cite.content))
 IsFoundIn cites filed b part target None =
-    (i : ℕ) (cite : Cite) → slice_get cites i ≡ Some cite → slice_index filed i ≡ b → Fits part target (row_content cite.content) → ⊥
+    (i : ℕ) (cite : Cite) → slice_get cites i ≡ Some cite → slice_index filed i ≡ b → FitsPart part target (row_content cite.content) → ⊥

@@ -18,7 +18,7 @@ use Rattle.search_log.specs.declared.line.ChoiceRef.{ChoiceRef}
 use Rattle.search_log.specs.declared.line.LogLine.{LogLine}
 use Rattle.search_log.specs.declared.line.Ref.TheVariants.{Own, Row}
 use Rattle.search_log.specs.Contents.{Cites, Content, KnownRow, content_of, known_row}
-use Rattle.search_log.specs.ExampleLog.{ExampleLog, IsWrongLine, alike, bad_at_ten, both_choices, branch_line, by, count_line, first_choice, known_rows, least, least_line, log_with, none_left, published, says, segment}
+use Rattle.search_log.specs.ExampleLog.{ExampleLog, IsWrongLine, alike, bad_at_ten, both_choices, example_branch, by, example_count, first_choice, known_rows, least, least_line, log_with, none_left, published, says, segment}
 use Rattle.cert_lines.specs.acceptance.Contained.{has_all, has_all_but_one}
 use Rattle.search_log.specs.GoodLines.{AreGoodLines, IsChildOf, IsGoodLine, IsOutside, IsSettled}
 use Rattle.search_log.specs.Segments.{CitesLowerRows, EndsAsRow, IsGoodLog}
@@ -296,45 +296,45 @@ wrong-third line wrong h = wrong (h.good_lines 2 line refl)
 named : (line : LogLine) (good : Third line) (ref : ChoiceRef) → Contains line.refs ref → (content : Content) × Contains good.contents content × Cites known_rows (alike ∷ first_choice ∷ []) ref.line content
 named line good ref m = zip-left (λ (u : ChoiceRef) content. Cites known_rows (alike ∷ first_choice ∷ []) u.line content) line.refs good.contents good.cites ref m
 
-no-such-choice : Third (count_line (literal 0 2 ∷ []) []) → ⊥
+no-such-choice : Third (example_count (literal 0 2 ∷ []) []) → ⊥
 no-such-choice h = let own = h.lits.in_range 0 (literal 0 2) (omega arith) in omega (arith, own.choice, two-choices 0 (omega arith))
 
-literals-out-of-order : Third (count_line (literal 1 0 ∷ literal 0 0 ∷ []) []) → ⊥
+literals-out-of-order : Third (example_count (literal 1 0 ∷ literal 0 0 ∷ []) []) → ⊥
 literals-out-of-order h = let up = h.lits.ascending 0 1 (literal 0 0) (omega arith) (omega arith) in omega arith
 
-no-such-child : Third (branch_line (literal 0 0 ∷ []) 1 (by 0 (Own 0) ∷ by 2 (Row 7) ∷ [])) → ⊥
+no-such-child : Third (example_branch (literal 0 0 ∷ []) 1 (by 0 (Own 0) ∷ by 2 (Row 7) ∷ [])) → ⊥
 no-such-child h = let small = h.refs.in_range 1 (by 2 (Row 7)) (omega arith) in omega (arith, two-choices 1 (omega arith))
 
-no-such-path : Third (branch_line [] 3 []) → ⊥
+no-such-path : Third (example_branch [] 3 []) → ⊥
 no-such-path h = omega (arith, h.refs.path_in_range, three-paths)
 
-children-out-of-order : Third (branch_line [] 0 (by 1 (Row 4) ∷ by 0 (Own 1) ∷ [])) → ⊥
+children-out-of-order : Third (example_branch [] 0 (by 1 (Row 4) ∷ by 0 (Own 1) ∷ [])) → ⊥
 children-out-of-order h = let up = h.refs.ascending 0 1 (by 0 (Own 1)) (omega arith) (omega arith) in omega arith
 
-cites-itself : Third (count_line (literal 1 0 ∷ []) (by 0 (Own 2) ∷ [])) → ⊥
-cites-itself h = let n = named (count_line (literal 1 0 ∷ []) (by 0 (Own 2) ∷ [])) h (by 0 (Own 2)) (0, omega arith, refl) in let none = n.2.1 in cc
+cites-itself : Third (example_count (literal 1 0 ∷ []) (by 0 (Own 2) ∷ [])) → ⊥
+cites-itself h = let n = named (example_count (literal 1 0 ∷ []) (by 0 (Own 2) ∷ [])) h (by 0 (Own 2)) (0, omega arith, refl) in let none = n.2.1 in cc
 
-cites-unknown : Third (count_line (literal 1 0 ∷ []) (by 0 (Row 5) ∷ [])) → ⊥
-cites-unknown h = let n = named (count_line (literal 1 0 ∷ []) (by 0 (Row 5) ∷ [])) h (by 0 (Row 5)) (0, omega arith, refl) in (is-known 5 n.0 n.2).0 refl
+cites-unknown : Third (example_count (literal 1 0 ∷ []) (by 0 (Row 5) ∷ [])) → ⊥
+cites-unknown h = let n = named (example_count (literal 1 0 ∷ []) (by 0 (Row 5) ∷ [])) h (by 0 (Row 5)) (0, omega arith, refl) in (is-known 5 n.0 n.2).0 refl
 
 same-lits : (ls ms : List Literal) (test : List Literal → Bool) → ls ≡ ms → test ms ≡ false → test ls ≡ true → ⊥
 same-lits ls ms test e fails passes = true≢false (sym passes ∙ (ap test e ∙ fails))
 
-two-outside : Third (count_line (literal 2 0 ∷ []) (by 0 (Own 0) ∷ by 0 (Row 7) ∷ by 0 (Row 4) ∷ [])) → ⊥
+two-outside : Third (example_count (literal 2 0 ∷ []) (by 0 (Own 0) ∷ by 0 (Row 7) ∷ by 0 (Row 4) ∷ [])) → ⊥
 two-outside h =
-    let n = named (count_line (literal 2 0 ∷ []) (by 0 (Own 0) ∷ by 0 (Row 7) ∷ by 0 (Row 4) ∷ [])) h (by 0 (Own 0)) (0, omega arith, refl) in
+    let n = named (example_count (literal 2 0 ∷ []) (by 0 (Own 0) ∷ by 0 (Row 7) ∷ by 0 (Row 4) ∷ [])) h (by 0 (Own 0)) (0, omega arith, refl) in
     let is : n.2.0 ≡ alike = sym (some-same alike n.2.0 n.2.1) in
     let lits : n.0.lits ≡ alike.lits = ap (λ (c : Content). c.lits) n.2.2 ∙ ap (λ (l : LogLine). l.lits) is in
     let test = All-contains (λ (c : Content). IsTrue (has_all_but_one (literal 2 0 ∷ []) c.lits)) h.contents n.0 (h.passes (omega arith)).contained n.1 in
     same-lits n.0.lits alike.lits (has_all_but_one (literal 2 0 ∷ [])) lits refl test
 
-outside-named : Third (count_line (literal 0 1 ∷ literal 1 1 ∷ []) (by 0 (Row 7) ∷ [])) → ⊥
+outside-named : Third (example_count (literal 0 1 ∷ literal 1 1 ∷ []) (by 0 (Row 7) ∷ [])) → ⊥
 outside-named h =
-    let n = named (count_line (literal 0 1 ∷ literal 1 1 ∷ []) (by 0 (Row 7) ∷ [])) h (by 0 (Row 7)) (0, omega arith, refl) in
+    let n = named (example_count (literal 0 1 ∷ literal 1 1 ∷ []) (by 0 (Row 7) ∷ [])) h (by 0 (Row 7)) (0, omega arith, refl) in
     let test = All-contains (λ (c : Content). IsTrue (has_all_but_one (literal 0 1 ∷ literal 1 1 ∷ []) c.lits)) h.contents n.0 (h.passes (omega arith)).contained n.1 in
     same-lits n.0.lits (literal 0 0 ∷ []) (has_all_but_one (literal 0 1 ∷ literal 1 1 ∷ [])) ((is-known 7 n.0 n.2).3 refl) refl test
 
-another-choice : Third (branch_line [] 0 (by 0 (Row 4) ∷ by 1 (Row 4) ∷ [])) → ⊥
+another-choice : Third (example_branch [] 0 (by 0 (Row 4) ∷ by 1 (Row 4) ∷ [])) → ⊥
 another-choice h = by-contents h.contents h.cites (h.passes (omega arith)).contained
   where
     by-contents : (contents : List Content) → AllZip (λ (u : ChoiceRef) content. Cites known_rows (alike ∷ first_choice ∷ []) u.line content) (by 0 (Row 4) ∷ by 1 (Row 4) ∷ []) contents →
@@ -342,13 +342,13 @@ another-choice h = by-contents h.contents h.cites (h.passes (omega arith)).conta
     by-contents [] cites kept = cites
     by-contents (c ∷ more) cites kept = same-lits c.lits (literal 0 1 ∷ []) (has_all (literal 0 0 ∷ [])) ((is-known 4 c cites.0).2 refl) refl kept.0
 
-tag-too-low : Third (count_line (literal 1 0 ∷ []) (by 0 (Own 1) ∷ by 0 (Row 2) ∷ [])) → ⊥
+tag-too-low : Third (example_count (literal 1 0 ∷ []) (by 0 (Own 1) ∷ by 0 (Row 2) ∷ [])) → ⊥
 tag-too-low h =
-    let n = named (count_line (literal 1 0 ∷ []) (by 0 (Own 1) ∷ by 0 (Row 2) ∷ [])) h (by 0 (Row 2)) (1, omega arith, refl) in
+    let n = named (example_count (literal 1 0 ∷ []) (by 0 (Own 1) ∷ by 0 (Row 2) ∷ [])) h (by 0 (Row 2)) (1, omega arith, refl) in
     let high = All-contains Reaches h.contents n.0 (h.passes (omega arith)).reaches n.1 in
     omega (arith, high, (is-known 2 n.0 n.2).1 refl)
 
-path-named : Third (branch_line (literal 0 0 ∷ []) 0 (by 0 (Own 1) ∷ by 1 (Row 4) ∷ [])) → ⊥
+path-named : Third (example_branch (literal 0 0 ∷ []) 0 (by 0 (Own 1) ∷ by 1 (Row 4) ∷ [])) → ⊥
 path-named h = true≢false (h.passes (omega arith)).apart
 
 abbrev Nothing : Literal → Type 0
@@ -363,10 +363,10 @@ not-dead [] cites dead = one-lives (dead_by-along three_alike Nothing (OutsideAr
     (λ a own. ((λ out. ⊎_elim (λ gone. gone) (λ ruled. absurd (false≢true ruled)) out), (λ gone. inl gone)))
     (triple_from 49539595901075456) (literal 0 0 ∷ []) one-partial dead)
 
-count-not-dead : Third (count_line (literal 0 0 ∷ []) []) → ⊥
+count-not-dead : Third (example_count (literal 0 0 ∷ []) []) → ⊥
 count-not-dead h = not-dead h.contents h.cites (h.passes (omega arith)).dead
 
-not-settled : Third (branch_line [] 0 (by 1 (Row 4) ∷ [])) → ⊥
+not-settled : Third (example_branch [] 0 (by 1 (Row 4) ∷ [])) → ⊥
 not-settled h = ⊎_elim (λ listed. false≢true listed) (λ dead. one-lives dead) ((h.passes (omega arith)).settled 0 (omega (arith, two-choices 0 (omega arith))))
 
 -- segments
@@ -389,20 +389,20 @@ out-of-order h = let up = h.in_order.ascending 0 1 (segment 1 7) (omega arith) (
 pub example-log : ExampleLog
 example-log = record {
   good = log-good;
-  no_such_choice = wrong-third (count_line (literal 0 2 ∷ []) []) no-such-choice;
-  literals_out_of_order = wrong-third (count_line (literal 1 0 ∷ literal 0 0 ∷ []) []) literals-out-of-order;
-  no_such_child = wrong-third (branch_line (literal 0 0 ∷ []) 1 (by 0 (Own 0) ∷ by 2 (Row 7) ∷ [])) no-such-child;
-  no_such_path = wrong-third (branch_line [] 3 []) no-such-path;
-  children_out_of_order = wrong-third (branch_line [] 0 (by 1 (Row 4) ∷ by 0 (Own 1) ∷ [])) children-out-of-order;
-  cites_itself = wrong-third (count_line (literal 1 0 ∷ []) (by 0 (Own 2) ∷ [])) cites-itself;
-  cites_an_unknown_row = wrong-third (count_line (literal 1 0 ∷ []) (by 0 (Row 5) ∷ [])) cites-unknown;
-  two_literals_outside = wrong-third (count_line (literal 2 0 ∷ []) (by 0 (Own 0) ∷ by 0 (Row 7) ∷ by 0 (Row 4) ∷ [])) two-outside;
-  outside_of_a_named_path = wrong-third (count_line (literal 0 1 ∷ literal 1 1 ∷ []) (by 0 (Row 7) ∷ [])) outside-named;
-  child_of_another_choice = wrong-third (branch_line [] 0 (by 0 (Row 4) ∷ by 1 (Row 4) ∷ [])) another-choice;
-  cited_tag_too_low = wrong-third (count_line (literal 1 0 ∷ []) (by 0 (Own 1) ∷ by 0 (Row 2) ∷ [])) tag-too-low;
-  path_is_named = wrong-third (branch_line (literal 0 0 ∷ []) 0 (by 0 (Own 1) ∷ by 1 (Row 4) ∷ [])) path-named;
-  count_not_dead = wrong-third (count_line (literal 0 0 ∷ []) []) count-not-dead;
-  choice_not_settled = wrong-third (branch_line [] 0 (by 1 (Row 4) ∷ [])) not-settled;
+  no_such_choice = wrong-third (example_count (literal 0 2 ∷ []) []) no-such-choice;
+  literals_out_of_order = wrong-third (example_count (literal 1 0 ∷ literal 0 0 ∷ []) []) literals-out-of-order;
+  no_such_child = wrong-third (example_branch (literal 0 0 ∷ []) 1 (by 0 (Own 0) ∷ by 2 (Row 7) ∷ [])) no-such-child;
+  no_such_path = wrong-third (example_branch [] 3 []) no-such-path;
+  children_out_of_order = wrong-third (example_branch [] 0 (by 1 (Row 4) ∷ by 0 (Own 1) ∷ [])) children-out-of-order;
+  cites_itself = wrong-third (example_count (literal 1 0 ∷ []) (by 0 (Own 2) ∷ [])) cites-itself;
+  cites_an_unknown_row = wrong-third (example_count (literal 1 0 ∷ []) (by 0 (Row 5) ∷ [])) cites-unknown;
+  two_literals_outside = wrong-third (example_count (literal 2 0 ∷ []) (by 0 (Own 0) ∷ by 0 (Row 7) ∷ by 0 (Row 4) ∷ [])) two-outside;
+  outside_of_a_named_path = wrong-third (example_count (literal 0 1 ∷ literal 1 1 ∷ []) (by 0 (Row 7) ∷ [])) outside-named;
+  child_of_another_choice = wrong-third (example_branch [] 0 (by 0 (Row 4) ∷ by 1 (Row 4) ∷ [])) another-choice;
+  cited_tag_too_low = wrong-third (example_count (literal 1 0 ∷ []) (by 0 (Own 1) ∷ by 0 (Row 2) ∷ [])) tag-too-low;
+  path_is_named = wrong-third (example_branch (literal 0 0 ∷ []) 0 (by 0 (Own 1) ∷ by 1 (Row 4) ∷ [])) path-named;
+  count_not_dead = wrong-third (example_count (literal 0 0 ∷ []) []) count-not-dead;
+  choice_not_settled = wrong-third (example_branch [] 0 (by 1 (Row 4) ∷ [])) not-settled;
   last_line_is_not_the_row = last-not-row;
   row_below_what_it_cites = row-too-low;
   segments_out_of_order = out-of-order;

@@ -6,7 +6,7 @@ use Rattle.fapp_model.specs.declared.instance.Instance.{Instance}
 use Rattle.fapp_model.proofs.Members.{All-from_members, at_front, behind, front_or_behind, no_member}
 use Rattle.nogood.specs.declared.row.Row.{Row}
 use Rattle.search_log.specs.Contents.{KnownRow, known_row}
-use Rattle.search_log.specs.Shares.{Finds, Fits, IsServed, Looks, SharedState, row_content}
+use Rattle.search_log.specs.Shares.{Finds, FitsPart, IsServedContent, LooksUp, SharedState, row_content}
 use Rattle.search_log.specs.declared.shared.Cite.{Cite}
 use Rattle.search_log.specs.NumberedRows.{IsFitting, numbered_from, numbered_rows}
 
@@ -34,16 +34,16 @@ from-numbered n (row ∷ rows) a m = ⊎_elim
     (λ later. let r = from-numbered (n + 1) rows a later in (r.0, behind row rows r.0 r.1, r.2))
     (front_or_behind (known_row n (row_content row)) (numbered_from (n + 1) rows) a m)
 
-pub none-finds : (rows : List Row) (part : List (Option ℕ)) (target : ℕ) → All (λ row. Fits part target (row_content row) → ⊥) rows → All (λ row. Fits part target row.content → ⊥) (numbered_rows rows)
-none-finds rows part target h = All-from_members (λ (row : KnownRow). Fits part target row.content → ⊥) (numbered_rows rows) (λ a m fits.
+pub none-finds : (rows : List Row) (part : List (Option ℕ)) (target : ℕ) → All (λ row. FitsPart part target (row_content row) → ⊥) rows → All (λ row. FitsPart part target row.content → ⊥) (numbered_rows rows)
+none-finds rows part target h = All-from_members (λ (row : KnownRow). FitsPart part target row.content → ⊥) (numbered_rows rows) (λ a m fits.
     let r = from-numbered 0 rows a m in
-    All-contains (λ (row : Row). Fits part target (row_content row) → ⊥) rows r.0 h r.1 (subst (Fits part target) r.2 fits))
+    All-contains (λ (row : Row). FitsPart part target (row_content row) → ⊥) rows r.0 h r.1 (subst (FitsPart part target) r.2 fits))
 
 abbrev pub stated : List Row → SharedState
 stated rows = record { copied = numbered_rows rows; published = []; takes = false; refusals = 0 }
 
 -- a look-up changes nothing
-pub stated-looks : (rows : List Row) (part : List (Option ℕ)) (target : ℕ) (answer : Option Cite) → Finds (numbered_rows rows) part target answer → Looks (stated rows) (stated rows) part target answer
+pub stated-looks : (rows : List Row) (part : List (Option ℕ)) (target : ℕ) (answer : Option Cite) → Finds (numbered_rows rows) part target answer → LooksUp (stated rows) (stated rows) part target answer
 stated-looks rows part target answer h = record {
   kept = All-contains_itself (numbered_rows rows);
   brought = All-nil (Contains (numbered_rows rows));
@@ -59,5 +59,5 @@ some-finds rows part target place r e h = (
   h.1 r (slice_get-get_or rows place r h.0 ∙ ap (λ (x : Row). Some x) (sym e)),
 )
 
-pub some-served : (instance : Instance) (rows : List Row) (place : ℕ) (r : Row) → place < length rows → r ≡ get_or rows place r → All (λ row. IsServed instance (row_content row)) rows → IsServed instance (row_content r)
-some-served instance rows place r l e h = subst (λ (x : Row). IsServed instance (row_content x)) (sym e) (h place r l)
+pub some-served : (instance : Instance) (rows : List Row) (place : ℕ) (r : Row) → place < length rows → r ≡ get_or rows place r → All (λ row. IsServedContent instance (row_content row)) rows → IsServedContent instance (row_content r)
+some-served instance rows place r l e h = subst (λ (x : Row). IsServedContent instance (row_content x)) (sym e) (h place r l)

@@ -11,7 +11,7 @@ use Rattle.search_log.specs.declared.line.LogLine.{LogLine}
 use Rattle.search_log.specs.declared.line.Segment.{Segment}
 use Rattle.search_log.specs.Contents.{Cites, KnownRow, content_of, known_row}
 use Rattle.search_log.specs.GoodLines.{IsGoodLine}
-use Rattle.search_log.specs.LogLaws.{IsPublished}
+use Rattle.search_log.specs.LogLaws.{IsPublishedEnd}
 use Rattle.search_log.specs.Segments.{CitesLowerRows, EndsAsRow, IsGoodLog, ended}
 use Rattle.search_log.proofs.Growing.{lines-cut, lines-more, lines-push}
 use Rattle.search_log.proofs.Places.{get-append, get-front, get-take, take-get, zip-left}
@@ -75,7 +75,7 @@ log-cut instance rows lines segments n far h = record {
   };
 }
 
-module _ (instance : Instance) (rows more : List KnownRow) (lines : List LogLine) (segments : List Segment) (s : Segment) (h : IsGoodLog instance rows lines segments) (published : IsPublished rows more lines segments s) where
+module _ (instance : Instance) (rows more : List KnownRow) (lines : List LogLine) (segments : List Segment) (s : Segment) (h : IsGoodLog instance rows lines segments) (published : IsPublishedEnd rows more lines segments s) where
   -- the row of an earlier segment is below the new one
   row-below : (t : Segment) → Contains segments t → t.row < s.row
   row-below t m =

@@ -26,11 +26,11 @@ least = record { code = 0; of_tag = refl }
 abbrev pub by : ℕ → Ref → ChoiceRef
 by choice line = record { choice = choice; line = line }
 
-abbrev pub count_line : List Literal → List ChoiceRef → LogLine
-count_line lits refs = record { tag = bad_at_ten; lits = lits; path = None; refs = refs }
+abbrev pub example_count : List Literal → List ChoiceRef → LogLine
+example_count lits refs = record { tag = bad_at_ten; lits = lits; path = None; refs = refs }
 
-abbrev pub branch_line : List Literal → ℕ → List ChoiceRef → LogLine
-branch_line lits path refs = record { tag = bad_at_ten; lits = lits; path = Some path; refs = refs }
+abbrev pub example_branch : List Literal → ℕ → List ChoiceRef → LogLine
+example_branch lits path refs = record { tag = bad_at_ten; lits = lits; path = Some path; refs = refs }
 
 abbrev pub says : Tag → List Literal → Content
 says t lits = record { tag = t.code; lits = lits }
@@ -47,18 +47,18 @@ known_rows =
 
 -- two paths have one frequency
 abbrev pub alike : LogLine
-alike = count_line (literal 0 0 ∷ literal 1 0 ∷ []) []
+alike = example_count (literal 0 0 ∷ literal 1 0 ∷ []) []
 
 -- the first path's choice: the second path's first choice is alike, and its second one leaves the third path none
 abbrev pub first_choice : LogLine
-first_choice = branch_line (literal 0 0 ∷ []) 1 (by 0 (Own 0) ∷ [])
+first_choice = example_branch (literal 0 0 ∷ []) 1 (by 0 (Own 0) ∷ [])
 
 -- each choice of the first path is ruled out by what is cited
 abbrev pub none_left : LogLine
-none_left = count_line (literal 1 0 ∷ []) (by 0 (Own 1) ∷ by 0 (Row 4) ∷ [])
+none_left = example_count (literal 1 0 ∷ []) (by 0 (Own 1) ∷ by 0 (Row 4) ∷ [])
 
 abbrev pub both_choices : LogLine
-both_choices = branch_line [] 0 (by 0 (Row 7) ∷ by 1 (Row 4) ∷ [])
+both_choices = example_branch [] 0 (by 0 (Row 7) ∷ by 1 (Row 4) ∷ [])
 
 -- nothing is tested of it
 abbrev pub least_line : LogLine
@@ -85,20 +85,20 @@ AreWrongSegments segments = IsGoodLog three_alike known_rows (log_with none_left
 -- The log is good, and it isn't with any of these changes.
 pub record ExampleLog : Type 0 where
   pub good : IsGoodLog three_alike known_rows (log_with none_left) published
-  pub no_such_choice : IsWrongLine (count_line (literal 0 2 ∷ []) [])
-  pub literals_out_of_order : IsWrongLine (count_line (literal 1 0 ∷ literal 0 0 ∷ []) [])
-  pub no_such_child : IsWrongLine (branch_line (literal 0 0 ∷ []) 1 (by 0 (Own 0) ∷ by 2 (Row 7) ∷ []))
-  pub no_such_path : IsWrongLine (branch_line [] 3 [])
-  pub children_out_of_order : IsWrongLine (branch_line [] 0 (by 1 (Row 4) ∷ by 0 (Own 1) ∷ []))
-  pub cites_itself : IsWrongLine (count_line (literal 1 0 ∷ []) (by 0 (Own 2) ∷ []))
-  pub cites_an_unknown_row : IsWrongLine (count_line (literal 1 0 ∷ []) (by 0 (Row 5) ∷ []))
-  pub two_literals_outside : IsWrongLine (count_line (literal 2 0 ∷ []) (by 0 (Own 0) ∷ by 0 (Row 7) ∷ by 0 (Row 4) ∷ []))
-  pub outside_of_a_named_path : IsWrongLine (count_line (literal 0 1 ∷ literal 1 1 ∷ []) (by 0 (Row 7) ∷ []))
-  pub child_of_another_choice : IsWrongLine (branch_line [] 0 (by 0 (Row 4) ∷ by 1 (Row 4) ∷ []))
-  pub cited_tag_too_low : IsWrongLine (count_line (literal 1 0 ∷ []) (by 0 (Own 1) ∷ by 0 (Row 2) ∷ []))
-  pub path_is_named : IsWrongLine (branch_line (literal 0 0 ∷ []) 0 (by 0 (Own 1) ∷ by 1 (Row 4) ∷ []))
-  pub count_not_dead : IsWrongLine (count_line (literal 0 0 ∷ []) [])
-  pub choice_not_settled : IsWrongLine (branch_line [] 0 (by 1 (Row 4) ∷ []))
+  pub no_such_choice : IsWrongLine (example_count (literal 0 2 ∷ []) [])
+  pub literals_out_of_order : IsWrongLine (example_count (literal 1 0 ∷ literal 0 0 ∷ []) [])
+  pub no_such_child : IsWrongLine (example_branch (literal 0 0 ∷ []) 1 (by 0 (Own 0) ∷ by 2 (Row 7) ∷ []))
+  pub no_such_path : IsWrongLine (example_branch [] 3 [])
+  pub children_out_of_order : IsWrongLine (example_branch [] 0 (by 1 (Row 4) ∷ by 0 (Own 1) ∷ []))
+  pub cites_itself : IsWrongLine (example_count (literal 1 0 ∷ []) (by 0 (Own 2) ∷ []))
+  pub cites_an_unknown_row : IsWrongLine (example_count (literal 1 0 ∷ []) (by 0 (Row 5) ∷ []))
+  pub two_literals_outside : IsWrongLine (example_count (literal 2 0 ∷ []) (by 0 (Own 0) ∷ by 0 (Row 7) ∷ by 0 (Row 4) ∷ []))
+  pub outside_of_a_named_path : IsWrongLine (example_count (literal 0 1 ∷ literal 1 1 ∷ []) (by 0 (Row 7) ∷ []))
+  pub child_of_another_choice : IsWrongLine (example_branch [] 0 (by 0 (Row 4) ∷ by 1 (Row 4) ∷ []))
+  pub cited_tag_too_low : IsWrongLine (example_count (literal 1 0 ∷ []) (by 0 (Own 1) ∷ by 0 (Row 2) ∷ []))
+  pub path_is_named : IsWrongLine (example_branch (literal 0 0 ∷ []) 0 (by 0 (Own 1) ∷ by 1 (Row 4) ∷ []))
+  pub count_not_dead : IsWrongLine (example_count (literal 0 0 ∷ []) [])
+  pub choice_not_settled : IsWrongLine (example_branch [] 0 (by 1 (Row 4) ∷ []))
   pub last_line_is_not_the_row : AreWrongSegments (segment 0 7 ∷ [])
   pub row_below_what_it_cites : AreWrongSegments (segment 3 3 ∷ [])
   pub segments_out_of_order : AreWrongSegments (segment 3 9 ∷ segment 1 7 ∷ [])

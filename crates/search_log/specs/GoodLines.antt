@@ -15,14 +15,14 @@ use Rattle.search_log.specs.declared.line.LogLine.{LogLine}
 use Rattle.search_log.specs.Contents.{Cites, Content, KnownRow}
 
 -- choices of a path of the instance, strictly ascending
-pub record AreChildren (instance : Instance) (path : ℕ) (refs : List ChoiceRef) : Type 0 where
+pub record AreBranchRefs (instance : Instance) (path : ℕ) (refs : List ChoiceRef) : Type 0 where
   pub path_in_range : path < length instance.paths
   pub in_range : All (λ r. r.choice < count_at instance path) refs
   pub ascending : AllPairs (λ a b. a.choice < b.choice) refs
 
 -- the references of a Branch line are its children; nothing is asked of the choices of a Count line
 abbrev pub AreRefs : Instance → Option ℕ → List ChoiceRef → Type 0
-AreRefs instance (Some path) refs = AreChildren instance path refs
+AreRefs instance (Some path) refs = AreBranchRefs instance path refs
 AreRefs instance None refs = Unit {0}
 
 -- some cited literals are all among the literals and this one

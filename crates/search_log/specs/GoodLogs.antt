@@ -29,7 +29,7 @@ abbrev pub pieces_of : List LogState → List Piece
 pieces_of logs = pieces_from 0 logs
 
 -- a row says what the last line of some segment says
-pub record IsHome (logs : List LogState) (row : KnownRow) : Type 0 where
+pub record IsHomeRow (logs : List LogState) (row : KnownRow) : Type 0 where
   pub piece : Piece
   pub member : Contains (pieces_of logs) piece
   pub line : LogLine
@@ -43,6 +43,6 @@ IsBare line = line.path ≡ None → line.refs ≡ []
 -- The logs are good over rows, each of which is home in one segment of them. No Count line cites.
 pub record AreGoodLogs (instance : Instance) (rows : List KnownRow) (logs : List LogState) : Type 0 where
   pub good : All (λ log. IsGoodLog instance rows log.lines log.segments) logs
-  pub home : All (IsHome logs) rows
+  pub home : All (IsHomeRow logs) rows
   pub once : AllPairs (λ p q. p.row ≢ q.row) (pieces_of logs)
   pub bare : All (λ log. All IsBare log.lines) logs

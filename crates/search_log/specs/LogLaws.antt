@@ -22,7 +22,7 @@ GoodWithOneMoreLine = (instance : Instance) (rows : List KnownRow) (lines : List
     IsGoodLog instance rows (lines ++ line ∷ []) segments
 
 -- the last line is published, as a row above all that were known
-pub record IsPublished (rows more : List KnownRow) (lines : List LogLine) (segments : List Segment) (s : Segment) : Type 0 where
+pub record IsPublishedEnd (rows more : List KnownRow) (lines : List LogLine) (segments : List Segment) (s : Segment) : Type 0 where
   pub line : LogLine
   pub whole : s.last + 1 ≡ length lines
   pub last : slice_get lines s.last ≡ Some line
@@ -34,7 +34,7 @@ pub record IsPublished (rows more : List KnownRow) (lines : List LogLine) (segme
 -- A good log stays good where its last line is published.
 abbrev pub GoodWithOneMoreSegment : Type 0
 GoodWithOneMoreSegment = (instance : Instance) (rows more : List KnownRow) (lines : List LogLine) (segments : List Segment) (s : Segment) →
-    IsGoodLog instance rows lines segments → IsPublished rows more lines segments s →
+    IsGoodLog instance rows lines segments → IsPublishedEnd rows more lines segments s →
     IsGoodLog instance more lines (segments ++ s ∷ [])
 
 -- A good log stays good without lines that stand behind the end of its last segment.
@@ -43,11 +43,11 @@ GoodLogIsCut = (instance : Instance) (rows : List KnownRow) (lines : List LogLin
     ended segments ≤ n → IsGoodLog instance rows lines segments → IsGoodLog instance rows (take n lines) segments
 
 -- what a row or a line says
-abbrev pub IsImplied : Instance → Content → Type 0
-IsImplied instance content = Implied instance (triple_from content.tag) content.lits
+abbrev pub IsContentImplied : Instance → Content → Type 0
+IsContentImplied instance content = Implied instance (triple_from content.tag) content.lits
 
 -- Where the rows are implied, each line of a good log is implied at its tag.
-abbrev pub GoodLinesAreImplied : Type 0
-GoodLinesAreImplied = (instance : Instance) (rows : List KnownRow) (lines : List LogLine) (segments : List Segment) →
-    IsInstance instance → All (λ row. IsImplied instance row.content) rows → IsGoodLog instance rows lines segments →
-    All (λ line. IsImplied instance (content_of line)) lines
+abbrev pub LoggedLinesAreImplied : Type 0
+LoggedLinesAreImplied = (instance : Instance) (rows : List KnownRow) (lines : List LogLine) (segments : List Segment) →
+    IsInstance instance → All (λ row. IsContentImplied instance row.content) rows → IsGoodLog instance rows lines segments →
+    All (λ line. IsContentImplied instance (content_of line)) lines

@@ -10,8 +10,8 @@ use Rattle.search_log.specs.LogStates.{LogState}
 abbrev pub empty_log : LogState
 empty_log = record { lines = []; segments = []; best = None }
 
-abbrev pub with_line : LogState → LogLine → LogState
-with_line log line = record { lines = log.lines ++ line ∷ []; segments = log.segments; best = log.best }
+abbrev pub log_with_line : LogState → LogLine → LogState
+log_with_line log line = record { lines = log.lines ++ line ∷ []; segments = log.segments; best = log.best }
 
 -- a segment more, which ends with the last line
 abbrev pub with_segment : LogState → ℕ → LogState

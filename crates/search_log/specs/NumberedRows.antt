@@ -4,7 +4,7 @@ use Rattle.std.proofs.Common.{⊎_elim, subst, sym, ap, ◌∙◌, arith}
 use Rattle.fapp_model.proofs.Members.{front_or_behind, no_member}
 use Rattle.nogood.specs.declared.row.Row.{Row}
 use Rattle.search_log.specs.Contents.{KnownRow, known_row}
-use Rattle.search_log.specs.Shares.{Fits, HaveOneContent, row_content}
+use Rattle.search_log.specs.Shares.{FitsPart, HaveOneContent, row_content}
 
 -- rows with numbers from n on
 abbrev pub numbered_from : ℕ → List Row → List KnownRow
@@ -17,8 +17,8 @@ numbered_rows rows = numbered_from 0 rows
 -- the place of a row that fits, or no row does
 abbrev pub IsFitting : List Row → List (Option ℕ) → ℕ → Option ℕ → Type 0
 IsFitting rows part target (Some place) =
-    (place < length rows) × ((row : Row) → slice_get rows place ≡ Some row → Fits part target (row_content row))
-IsFitting rows part target None = All (λ row. Fits part target (row_content row) → ⊥) rows
+    (place < length rows) × ((row : Row) → slice_get rows place ≡ Some row → FitsPart part target (row_content row))
+IsFitting rows part target None = All (λ row. FitsPart part target (row_content row) → ⊥) rows
 
 pub none-one : HaveOneContent []
 none-one a b m n e = absurd (no_member a m)

@@ -1,5 +1,5 @@
 ghost use Rattle.std.specs.Prelude.{◌≡◌};
-ghost use Rattle.search_log.specs.Fuels.{Takes};
+ghost use Rattle.search_log.specs.Fuels.{TakesTick};
 
 /// How many ticks are left to a job.
 #[derive(Clone, Copy, Debug, PartialEq, Eq)]
@@ -17,7 +17,7 @@ impl Fuel {
 
     /// Takes one tick. It answers false exactly where none is left.
     pub fn take(&mut self) -> bool
-        ensures { Takes self.old.amount self.new.amount result }
+        ensures { TakesTick self.old.amount self.new.amount result }
     {
         if self.amount == 0 {
             return false;

@@ -1,5 +1,5 @@
 ghost use Rattle.search_log.specs.ExampleLog.{ExampleLog};
-ghost use Rattle.search_log.specs.LogLaws.{GoodLinesAreImplied, GoodLogIsCut, GoodWithMoreRows, GoodWithOneMoreLine, GoodWithOneMoreSegment};
+ghost use Rattle.search_log.specs.LogLaws.{LoggedLinesAreImplied, GoodLogIsCut, GoodWithMoreRows, GoodWithOneMoreLine, GoodWithOneMoreSegment};
 
 /// A good log stays good where more rows are known.
 pub fn good_with_more_rows()
@@ -24,7 +24,7 @@ pub fn good_log_is_cut()
 /// Where the rows are implied, no assignment that meets the imperative records and has the literals of a good log's
 /// line costs less than the line's tag.
 pub fn good_lines_are_implied()
-    ensures { GoodLinesAreImplied }
+    ensures { LoggedLinesAreImplied }
 {}
 
 /// A log of five lines is good, and with a change of each kind it isn't.

@@ -1,7 +1,7 @@
 // The lines that the jobs of one holder found, in order.
 ghost use Rattle.std.specs.Prelude.{◌≡◌, ◌<◌, ◌≤◌, ◌^◌, length, None, Some, OnErr, OnOk, IfOk, MatchOption};
 ghost use Rattle.search_log.specs.Segments.{ended};
-ghost use Rattle.search_log.specs.Logs.{KeepsBest, cut_behind, empty_log, with_line, with_segment};
+ghost use Rattle.search_log.specs.Logs.{KeepsBest, cut_behind, empty_log, log_with_line, with_segment};
 
 use fapp_model::{Items, NoMemory, Triple};
 use crate::{LogLine, Segment};
@@ -54,7 +54,7 @@ impl Log {
     /// Adds a line, and answers its place, from 0. NoMemory leaves the log as it was; it also comes where there are
     /// 2^32 - 1 lines.
     pub fn push(&mut self, line: LogLine) -> Result<u32, NoMemory>
-        ensures ok { IfOk result (λ place. (place ≡ length self.old.lines) × (self.new ≡ with_line self.old line)) }
+        ensures ok { IfOk result (λ place. (place ≡ length self.old.lines) × (self.new ≡ log_with_line self.old line)) }
         ensures err { OnErr result (self.new ≡ self.old) }
     {
         let place = self.lines.len();

@@ -1,6 +1,6 @@
 ghost use Rattle.std.specs.Prelude.{◌≡◌, ◌↔◌, ◌≤◌, ◌^◌, All, IsTrue, false, [], length};
 ghost use Rattle.fapp_model.specs.declared.instance.Instance.{Instance};
-ghost use Rattle.search_log.specs.Shares.{Fits, IsCiteOf, IsOffer, IsServed, Looks, Offered, row_content};
+ghost use Rattle.search_log.specs.Shares.{FitsPart, IsCiteOf, IsOffer, IsServedContent, LooksUp, OffersRow, row_content};
 ghost use Rattle.search_log.specs.NumberedRows.{IsFitting, numbered_rows};
 
 use crate::shared::{Cite, Shared};
@@ -31,12 +31,12 @@ impl Shared for MemRows {
 
     ghost state = { λ shared. record { copied = numbered_rows shared.rows; published = []; takes = false; refusals = 0 } };
 
-    ghost serves = { λ shared instance. All (λ row. IsServed instance (row_content row)) shared.rows };
+    ghost serves = { λ shared instance. All (λ row. IsServedContent instance (row_content row)) shared.rows };
 
     ghost since = { λ _ _. Unit {0} };
 
     fn lookup(&mut self, part: &Partial, target: Tag) -> Option<Cite>
-        ensures looks { Looks (⟦<MemRows as Shared>⟧.state self.old) (⟦<MemRows as Shared>⟧.state self.new) part.now target.code result }
+        ensures looks { LooksUp (⟦<MemRows as Shared>⟧.state self.old) (⟦<MemRows as Shared>⟧.state self.new) part.now target.code result }
         ensures serves { (instance : Instance) → ⟦<MemRows as Shared>⟧.serves self.old instance ↔ ⟦<MemRows as Shared>⟧.serves self.new instance }
         ensures implied { (instance : Instance) → ⟦<MemRows as Shared>⟧.serves self.old instance → IsCiteOf instance result }
         ensures since { (was : MemRows) → ⟦<MemRows as Shared>⟧.since was self.old → ⟦<MemRows as Shared>⟧.since was self.new }
@@ -54,7 +54,7 @@ impl Shared for MemRows {
 
     fn offer(&mut self, lits: &[Literal], tag: Tag) -> Published
         requires { (instance : Instance) × ⟦<MemRows as Shared>⟧.serves self.old instance × IsOffer instance lits.now tag.code }
-        ensures offered { Offered (⟦<MemRows as Shared>⟧.state self.old) (⟦<MemRows as Shared>⟧.state self.new) lits.now tag.code result }
+        ensures offered { OffersRow (⟦<MemRows as Shared>⟧.state self.old) (⟦<MemRows as Shared>⟧.state self.new) lits.now tag.code result }
         ensures serves { (instance : Instance) → ⟦<MemRows as Shared>⟧.serves self.old instance ↔ ⟦<MemRows as Shared>⟧.serves self.new instance }
         ensures since { (was : MemRows) → ⟦<MemRows as Shared>⟧.since was self.old → ⟦<MemRows as Shared>⟧.since was self.new }
         ensures held { self.new.rows ≡ self.old.rows }
@@ -83,7 +83,7 @@ fn first_fitting(rows: &[Row], part: &Partial, target: Tag) -> Option<usize>
 
 /// Whether the part has the row's literals, and the row's tag is at least the target.
 pub fn fits(row: &Row, part: &Partial, target: Tag) -> bool
-    ensures { IsTrue result ↔ Fits part.now target.code (row_content row.now) }
+    ensures { IsTrue result ↔ FitsPart part.now target.code (row_content row.now) }
 {
     row.tag >= target
         && row

@@ -1,5 +1,5 @@
 ghost use Rattle.std.specs.Prelude.{◌↔◌, false, []};
-ghost use Rattle.search_log.specs.Shares.{IsCiteOf, IsOffer, Looks, Offered};
+ghost use Rattle.search_log.specs.Shares.{IsCiteOf, IsOffer, LooksUp, OffersRow};
 
 use fapp_model::{Literal, Tag};
 use nogood::{Partial, Published, Row};
@@ -28,7 +28,7 @@ pub trait Shared {
     /// A copied row whose literals the part has, at a tag of at least the target. None comes only where no copied row
     /// is one.
     fn lookup(&mut self, part: &Partial, target: Tag) -> Option<Cite>
-        ensures looks { Looks (state self.old) (state self.new) part.now target.code result }
+        ensures looks { LooksUp (state self.old) (state self.new) part.now target.code result }
         ensures serves { (instance : Instance) → serves self.old instance ↔ serves self.new instance }
         ensures implied { (instance : Instance) → serves self.old instance → IsCiteOf instance result }
         ensures since { (was : Self) → since was self.old → since was self.new };
@@ -36,7 +36,7 @@ pub trait Shared {
     /// Offers literals that are implied at a tag above (0, 0, 0).
     fn offer(&mut self, lits: &[Literal], tag: Tag) -> Published
         requires { (instance : Instance) × serves self.old instance × IsOffer instance lits.now tag.code }
-        ensures offered { Offered (state self.old) (state self.new) lits.now tag.code result }
+        ensures offered { OffersRow (state self.old) (state self.new) lits.now tag.code result }
         ensures serves { (instance : Instance) → serves self.old instance ↔ serves self.new instance }
         ensures since { (was : Self) → since was self.old → since was self.new };
 

@@ -11,7 +11,7 @@ use Rattle.fapp_model.specs.declared.instance.Instance.{Instance}
 use Rattle.fapp_model.specs.InstanceTags.{IsTagFor}
 use Rattle.search_log.specs.Contents.{content_of}
 use Rattle.search_log.proofs.Places.{front-or-last, get-front, last-is}
-use Rattle.search_log.specs.Shares.{IsServed}
+use Rattle.search_log.specs.Shares.{IsServedContent}
 use Rattle.settle_laws.specs.Worlds.{AreServed, Gains, IsPlain}
 
 module _ {X : Type 0} where
@@ -60,10 +60,10 @@ served-trans instance a b c gains h k n line low at = ⊎_elim
     (λ late. k n line late at)
     (cases_lt n (length b))
 
-pub served-one : (instance : Instance) (lines longer : List LogLine) (line : LogLine) → longer ≡ lines ++ line ∷ [] → IsServed instance (content_of line) → IsTagFor instance line.tag → AreServed instance (length lines) longer
+pub served-one : (instance : Instance) (lines longer : List LogLine) (line : LogLine) → longer ≡ lines ++ line ∷ [] → IsServedContent instance (content_of line) → IsTagFor instance line.tag → AreServed instance (length lines) longer
 served-one instance lines longer line e served own n other low at =
     let there : slice_get (lines ++ line ∷ []) n ≡ Some other = subst (λ ls. slice_get ls n ≡ Some other) e at in
     ⊎_elim
     (λ early. absurd (omega (arith, low, early)))
-    (λ last. subst (λ (l : LogLine). IsServed instance (content_of l) × IsTagFor instance l.tag) (last-is lines line other n last there) (served, own))
+    (λ last. subst (λ (l : LogLine). IsServedContent instance (content_of l) × IsTagFor instance l.tag) (last-is lines line other n last there) (served, own))
     (front-or-last lines line n other there)

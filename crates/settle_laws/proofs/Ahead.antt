@@ -31,7 +31,7 @@ use Rattle.settle_laws.specs.Lines.{IsLined}
 use Rattle.settle_laws.specs.Stops.{stop_at}
 use Rattle.settle_laws.specs.Ticked.{IsTicked}
 use Rattle.settle_laws.specs.Ticks.{IsEarlier, TicksBelow}
-use Rattle.settle_laws.specs.Trying.{AreTriedChoices, IsChild}
+use Rattle.settle_laws.specs.Trying.{AreTriedChoices, IsTriedChild}
 use Rattle.settle_laws.specs.Worlds.{World, world}
 use Rattle.settle_laws.proofs.Ends.{TryingAny, any-branch-searched, ticked-open}
 use Rattle.settle_laws.proofs.LineParts.{with-literal}
@@ -60,7 +60,7 @@ module _ (instance : Instance) (valid : IsInstance instance) (level : ℕ) (with
   all-dead = record {
     ascending = subst (λ (refs : List ChoiceRef). AllPairs (λ (a b : ChoiceRef). a.choice < b.choice) refs) (sym bare) (λ i j d less small. absurd (omega arith));
     below = subst (λ (refs : List ChoiceRef). All (λ (ref : ChoiceRef). ref.choice < node.choice) refs) (sym bare) (All-nil (λ (ref : ChoiceRef). ref.choice < node.choice));
-    children = subst (λ (refs : List ChoiceRef). All (IsChild instance now.shared.copied now.log.lines literals node.tag.code node.path) refs) (sym bare) (All-nil (IsChild instance now.shared.copied now.log.lines literals node.tag.code node.path));
+    children = subst (λ (refs : List ChoiceRef). All (IsTriedChild instance now.shared.copied now.log.lines literals node.tag.code node.path) refs) (sym bare) (All-nil (IsTriedChild instance now.shared.copied now.log.lines literals node.tag.code node.path));
     settled = λ i l. closed i (omega (arith, l, done));
     implied = λ i l. dead-implied instance (triple_from node.tag.code) (literal node.path i ∷ literals) valid node-own
         (with-literal instance literals node.path i partial small (omega (arith, l, done, counted)) free) (dead-choice i (closed i (omega (arith, l, done))));

@@ -31,19 +31,19 @@ use Rattle.search_log.specs.Segments.{IsGoodLog}
 use Rattle.search_log.proofs.Segmenting.{log-push}
 use Rattle.search_log.specs.Bounds.{BoundState, floor}
 use Rattle.search_log.specs.LogStates.{LogState}
-use Rattle.search_log.specs.Logs.{with_line}
-use Rattle.search_log.specs.Shares.{IsServed, SharedState, known}
+use Rattle.search_log.specs.Logs.{log_with_line}
+use Rattle.search_log.specs.Shares.{IsServedContent, SharedState, known}
 use Rattle.settle_laws.specs.declared.found.Found.{Found}
 use Rattle.settle_laws.specs.declared.found.Found.TheVariants.{Settled}
 use Rattle.settle_laws.specs.declared.node.Node.{Node}
 use Rattle.search_log.specs.declared.shared.Cite.{Cite}
 use Rattle.settle_laws.specs.Explained.{AreContents, Explains}
-use Rattle.settle_laws.specs.Founds.{IsOpen, IsRefuted, IsTarget, Searched}
-use Rattle.settle_laws.specs.Lines.{AddsLine, AreSorted, Concludes, IsConcluded, IsLined, Offered}
-use Rattle.settle_laws.specs.Stops.{IsWhole, stop_at}
+use Rattle.settle_laws.specs.Founds.{IsWanted, IsRefuted, IsTarget, Searched}
+use Rattle.settle_laws.specs.Lines.{AddsLine, AreSorted, Concludes, IsConcluded, IsLined, OffersPlan}
+use Rattle.settle_laws.specs.Stops.{IsWholePrefix, stop_at}
 use Rattle.settle_laws.specs.Ticked.{IsTicked}
 use Rattle.settle_laws.specs.Ticks.{OffersCost, Ticks, TicksBelow}
-use Rattle.settle_laws.specs.Trying.{AreTriedChoices, IsChild, Trying}
+use Rattle.settle_laws.specs.Trying.{AreTriedChoices, IsTriedChild, Trying}
 use Rattle.settle_laws.specs.Worlds.{IsKeptRight, IsLeastOffered, IsPlain, Keeps, KeepsAtMost, World, world}
 use Rattle.settle_laws.proofs.Adding.{gains-none, gains-one, gains-trans, has-same, has-trans, served-one, served-trans}
 use Rattle.settle_laws.proofs.FullPrefixes.{cost-low, cost-own, same-plan}
@@ -67,7 +67,7 @@ copied-known shared = All-from_members (Contains (known shared)) shared.copied (
 -- ---- the world after a line
 
 -- all that is kept but the number of lines, which a tick pays for
-module _ (instance : Instance) (literals : List Literal) (old now : World) (keeps : Keeps instance old now) (line : LogLine) (log : LogState) (added : log ≡ with_line now.log line) where
+module _ (instance : Instance) (literals : List Literal) (old now : World) (keeps : Keeps instance old now) (line : LogLine) (log : LogState) (added : log ≡ log_with_line now.log line) where
   pub line-adds : length log.lines ≡ length now.log.lines + 1
   line-adds = ap (λ (l : LogState). length l.lines) added ∙ length-append now.log.lines (line ∷ [])
 
@@ -78,7 +78,7 @@ module _ (instance : Instance) (literals : List Literal) (old now : World) (keep
   line-good good_line good = subst (λ (l : LogState). IsGoodLog instance (known now.shared) l.lines l.segments) (sym added)
       (log-push instance (known now.shared) now.log.lines now.log.segments line good good_line)
 
-  pub line-keeps : IsPlain line → IsGoodLine instance (known now.shared) now.log.lines line → IsServed instance (content_of line) → IsTagFor instance line.tag → Keeps instance old (world now.fuel now.bound now.shared log)
+  pub line-keeps : IsPlain line → IsGoodLine instance (known now.shared) now.log.lines line → IsServedContent instance (content_of line) → IsTagFor instance line.tag → Keeps instance old (world now.fuel now.bound now.shared log)
   line-keeps plain good_line served own = record {
     fuel = keeps.fuel;
     copied = keeps.copied;
@@ -132,7 +132,7 @@ pub record TryingAny (instance : Instance) (level : ℕ) (literals : List Litera
   pub read : now.bound.told ≤ floor old.bound
   pub keeps : Keeps instance old now
   pub fewer : length now.log.lines + now.fuel + 1 ≤ length old.log.lines + old.fuel
-  pub is_open : IsOpen level now.bound
+  pub is_open : IsWanted level now.bound
   pub target : IsTarget level now.bound node.tag.code
   pub choices : AreTriedChoices instance now.shared.copied now.log.lines literals node.tag.code node.path node.choice node.refs
   pub ticks : TicksBelow instance level literals node.path node.choice old now
@@ -280,7 +280,7 @@ module _ (instance : Instance) (valid : IsInstance instance) (level : ℕ) (with
         (subst (λ refs. AreTriedChoices instance now.shared.copied now.log.lines literals node.tag.code node.path 0 refs) (sym none) (record {
           ascending = λ i j d less small. absurd (omega arith);
           below = All-nil (λ (ref : ChoiceRef). ref.choice < 0);
-          children = All-nil (IsChild instance now.shared.copied now.log.lines literals node.tag.code node.path);
+          children = All-nil (IsTriedChild instance now.shared.copied now.log.lines literals node.tag.code node.path);
           settled = λ i l. absurd (omega arith);
           implied = λ i l. absurd (omega arith);
         }));
@@ -293,7 +293,7 @@ module _ (instance : Instance) (valid : IsInstance instance) (level : ℕ) (with
   -- a full prefix
   module _ (partial : IsPartial instance literals) (full : length (work_order instance) ≤ length literals) (after : BoundState) (log : LogState) where
     -- what was offered is the cost of the assignment that the literals are
-    offers-since : (after : BoundState) (kept : LogState) → Offered instance literals now.bound after now.log kept → (after.least ≡ old.bound.least) ⊎ OffersCost instance (literals ∷ []) (world now.fuel after now.shared kept)
+    offers-since : (after : BoundState) (kept : LogState) → OffersPlan instance literals now.bound after now.log kept → (after.least ≡ old.bound.least) ⊎ OffersCost instance (literals ∷ []) (world now.fuel after now.shared kept)
     offers-since after kept o = ⊎_elim
         (λ same. inl (same ∙ ticked.least))
         (λ cost. inr cost)
@@ -323,7 +323,7 @@ module _ (instance : Instance) (valid : IsInstance instance) (level : ℕ) (with
       full-implied = Implied-more instance (triple_from c.adds.line.tag.code) c.fewer c.adds.line.lits c.adds.sorted.has
           (dead-implied instance (triple_from c.adds.line.tag.code) c.fewer valid full-own c.part.partial full-dead)
 
-      same-cost : (plan : List ℕ) → IsWhole instance literals plan → code_of (cost instance c.offered.plan) ≡ code_of (cost instance plan)
+      same-cost : (plan : List ℕ) → IsWholePrefix instance literals plan → code_of (cost instance c.offered.plan) ≡ code_of (cost instance plan)
       same-cost plan whole = ap (λ p. code_of (cost instance p)) (same-plan instance valid literals prefix full c.offered.plan plan c.offered.feasible.assignment whole.feasible.assignment c.offered.extends whole.extends)
 
       full-by : {E : Type 0} → Searched {E = E} instance level literals old (world now.fuel after now.shared log) (Ok (Settled (Own (length c.kept.lines)) c.tag))

@@ -11,7 +11,7 @@ use Rattle.fapp_model.specs.search.Dead.{Dead}
 use Rattle.fapp_model.specs.search.Partials.{HasAll}
 use Rattle.fapp_model.specs.search.Prefixes.{IsPrefix}
 use Rattle.fapp_model.proofs.Members.{All-from_members}
-use Rattle.nogood.specs.Partials.{Gives}
+use Rattle.nogood.specs.Partials.{GivesChoice}
 use Rattle.search_log.specs.declared.line.Ref.TheVariants.{Row}
 use Rattle.search_log.specs.Contents.{KnownRow}
 use Rattle.search_log.proofs.Segmenting.{log-more}
@@ -19,9 +19,9 @@ use Rattle.search_log.specs.declared.log.KeptPlan.{KeptPlan}
 use Rattle.search_log.specs.declared.shared.Cite.{Cite}
 use Rattle.search_log.specs.Bounds.{BoundState, Tells, floor, lowest}
 use Rattle.search_log.specs.LogStates.{LogState}
-use Rattle.search_log.specs.Shares.{Fits, IsCiteOf, Looks, SharedState, known, row_content}
+use Rattle.search_log.specs.Shares.{FitsPart, IsCiteOf, LooksUp, SharedState, known, row_content}
 use Rattle.settle_laws.specs.declared.found.Found.TheVariants.{Dead as FoundDead, Settled, Moot, Spent}
-use Rattle.settle_laws.specs.Founds.{IsOpen, IsTarget, Searched}
+use Rattle.settle_laws.specs.Founds.{IsWanted, IsTarget, Searched}
 use Rattle.settle_laws.specs.Levels.{level_code, target_code}
 use Rattle.settle_laws.specs.Stops.{ComesAfter, IsUndecided, NoneFits, stop_at}
 use Rattle.settle_laws.specs.Ticked.{IsTicked}
@@ -55,21 +55,21 @@ offers-same b c tag h n = subst (λ o. lowest n o ≤ lowest n b.least) (sym h.l
 -- ---- rows
 
 -- the rows that a holder has known were copied
-looked-over : (s t : SharedState) (part : List (Option ℕ)) (tag : ℕ) (answer : Option Cite) → Looks s t part tag answer → All (Contains t.copied) (known s)
+looked-over : (s t : SharedState) (part : List (Option ℕ)) (tag : ℕ) (answer : Option Cite) → LooksUp s t part tag answer → All (Contains t.copied) (known s)
 looked-over s t part tag answer h = All-from_members (Contains t.copied) (known s) (λ row m. ⊎_elim
     (λ l. All-contains (Contains t.copied) s.copied row h.kept l)
     (λ r. All-contains (Contains t.copied) s.published row h.brought r)
     (Contains-append_cases s.copied s.published row m))
 
 module _ (part : List (Option ℕ)) (literals : List Literal) where
-  pub given-within : ((a : Literal) → Gives part a → Contains literals a) → (some : List Literal) → All (Gives part) some → HasAll literals some
-  given-within given some h = All-from_members (Contains literals) some (λ a m. given a (All-contains (Gives part) some a h m))
+  pub given-within : ((a : Literal) → GivesChoice part a → Contains literals a) → (some : List Literal) → All (GivesChoice part) some → HasAll literals some
+  given-within given some h = All-from_members (Contains literals) some (λ a m. given a (All-contains (GivesChoice part) some a h m))
 
   -- no copied row fits
-  pub none-fits : (tag : ℕ) (s t : SharedState) → ((a : Literal) → Contains literals a → Gives part a) → Looks s t part tag None → NoneFits tag t.copied literals
+  pub none-fits : (tag : ℕ) (s t : SharedState) → ((a : Literal) → Contains literals a → GivesChoice part a) → LooksUp s t part tag None → NoneFits tag t.copied literals
   none-fits tag s t gives looks = All-from_members (λ (row : KnownRow). HasAll literals row.content.lits → tag ≤ row.content.tag → ⊥) t.copied (λ row m has reaches.
-      All-contains (λ (row : KnownRow). Fits part tag row.content → ⊥) t.copied row looks.finds m (record {
-        within = All-from_members (Gives part) row.content.lits (λ a n. gives a (All-contains (Contains literals) row.content.lits a has n));
+      All-contains (λ (row : KnownRow). FitsPart part tag row.content → ⊥) t.copied row looks.finds m (record {
+        within = All-from_members (GivesChoice part) row.content.lits (λ a n. gives a (All-contains (Contains literals) row.content.lits a has n));
         reaches = reaches;
       }))
 
@@ -113,7 +113,7 @@ module _ (instance : Instance) (level : ℕ) (literals : List Literal) (fuel : �
   }
 
   module _ (low : level_code level < seen.code) (at : Tag) (at_is : at.code ≡ min seen.code (level_code (level + 1))) (part : List (Option ℕ)) (t : SharedState) where
-    is-open : IsOpen level c
+    is-open : IsWanted level c
     is-open = omega (arith, tells.told)
 
     is-exact : at.code ≡ target_code level c.told
@@ -122,7 +122,7 @@ module _ (instance : Instance) (level : ℕ) (literals : List Literal) (fuel : �
     is-target : IsTarget level c at.code
     is-target = omega (arith, tells-floor b c seen.code tells, is-exact)
 
-    looked-keeps : (answer : Option Cite) → Looks s t part at.code answer → (left : ℕ) → left ≤ fuel → Keeps instance (world fuel b s log) (world left c t log)
+    looked-keeps : (answer : Option Cite) → LooksUp s t part at.code answer → (left : ℕ) → left ≤ fuel → Keeps instance (world fuel b s log) (world left c t log)
     looked-keeps answer looks left less = record {
       fuel = less;
       copied = looks.kept;
@@ -142,7 +142,7 @@ module _ (instance : Instance) (level : ℕ) (literals : List Literal) (fuel : �
       better = λ tag h. h;
     }
 
-    pub row-found : {E : Type 0} → ((a : Literal) → Gives part a → Contains literals a) → (cite : Cite) → Looks s t part at.code (Some cite) → IsCiteOf instance (Some cite) → Searched {E = E} instance level literals (world fuel b s log) (world fuel c t log) (Ok (Settled (Row cite.row) at))
+    pub row-found : {E : Type 0} → ((a : Literal) → GivesChoice part a → Contains literals a) → (cite : Cite) → LooksUp s t part at.code (Some cite) → IsCiteOf instance (Some cite) → Searched {E = E} instance level literals (world fuel b s log) (world fuel c t log) (Ok (Settled (Row cite.row) at))
     row-found given cite looks served = record {
       keeps = looked-keeps (Some cite) looks fuel (omega arith);
       few = omega arith;
@@ -168,7 +168,7 @@ module _ (instance : Instance) (level : ℕ) (literals : List Literal) (fuel : �
       counted = none-counted instance log.lines log.lines;
     }
 
-    module _ (looks : Looks s t part at.code None) (gives : (a : Literal) → Contains literals a → Gives part a) where
+    module _ (looks : LooksUp s t part at.code None) (gives : (a : Literal) → Contains literals a → GivesChoice part a) where
       rowless-here : NoneFits at.code t.copied literals
       rowless-here = none-fits part literals at.code s t gives looks
 

@@ -22,27 +22,27 @@ use Rattle.search_log.specs.Contents.{Cites, Content, KnownRow, content_of, know
 use Rattle.search_log.specs.GoodLines.{IsSettled}
 use Rattle.search_log.specs.declared.shared.Cite.{Cite}
 use Rattle.search_log.specs.Shares.{HaveOneContent, SharedState, known, row_content}
-use Rattle.settle_laws.specs.Explained.{AreContents, AreCopied, StaysFor}
-use Rattle.settle_laws.specs.Trying.{AreTriedChoices, IsChild}
+use Rattle.settle_laws.specs.Explained.{AreContents, AreCitesCopied, StaysFor}
+use Rattle.settle_laws.specs.Trying.{AreTriedChoices, IsTriedChild}
 use Rattle.settle_laws.proofs.LineParts.{with-literal}
 use Rattle.settle_laws.proofs.TagCodes.{implied-lower}
 
 -- copied rows are what look-ups gave under their numbers
-pub copied-contents : (shared : SharedState) (cites : List Cite) → HaveOneContent (known shared) → AreCopied shared.copied cites → AreContents shared.copied cites
+pub copied-contents : (shared : SharedState) (cites : List Cite) → HaveOneContent (known shared) → AreCitesCopied shared.copied cites → AreContents shared.copied cites
 copied-contents shared cites one copied = All-from_members (λ (cite : Cite). (content : Content) → Contains shared.copied (known_row cite.row content) → content ≡ row_content cite.content) cites
     (λ cite m content n. ap (λ (row : KnownRow). row.content) (one (known_row cite.row content) (known_row cite.row (row_content cite.content))
     (Contains-append_left shared.copied shared.published (known_row cite.row content) n)
     (Contains-append_left shared.copied shared.published (known_row cite.row (row_content cite.content)) (All-contains (λ (c : Cite). Contains shared.copied (known_row c.row (row_content c.content))) cites cite copied m)) refl))
 
 -- more rows have been copied
-pub copied-more : (rows more : List KnownRow) (cites : List Cite) → All (Contains more) rows → AreCopied rows cites → AreCopied more cites
+pub copied-more : (rows more : List KnownRow) (cites : List Cite) → All (Contains more) rows → AreCitesCopied rows cites → AreCitesCopied more cites
 copied-more rows more cites has copied = All-from_members (λ (cite : Cite). Contains more (known_row cite.row (row_content cite.content))) cites
     (λ cite m. All-contains (Contains more) rows (known_row cite.row (row_content cite.content)) has (All-contains (λ (c : Cite). Contains rows (known_row c.row (row_content c.content))) cites cite copied m))
 
 -- and one more look-up's
-pub copied-noted : (rows : List KnownRow) (cites new : List Cite) (cite : Cite) → AreCopied rows cites → Contains rows (known_row cite.row (row_content cite.content)) → (new ≡ cites) ⊎ (new ≡ cites ++ cite ∷ []) → AreCopied rows new
-copied-noted rows cites new cite copied there (inl same) = subst (AreCopied rows) (sym same) copied
-copied-noted rows cites new cite copied there (inr more) = subst (AreCopied rows) (sym more)
+pub copied-noted : (rows : List KnownRow) (cites new : List Cite) (cite : Cite) → AreCitesCopied rows cites → Contains rows (known_row cite.row (row_content cite.content)) → (new ≡ cites) ⊎ (new ≡ cites ++ cite ∷ []) → AreCitesCopied rows new
+copied-noted rows cites new cite copied there (inl same) = subst (AreCitesCopied rows) (sym same) copied
+copied-noted rows cites new cite copied there (inr more) = subst (AreCitesCopied rows) (sym more)
     (All-append (λ (c : Cite). Contains rows (known_row c.row (row_content c.content))) cites (cite ∷ []) copied
     (All-cons (λ (c : Cite). Contains rows (known_row c.row (row_content c.content))) cite [] there (All-nil (λ (c : Cite). Contains rows (known_row c.row (row_content c.content))))))
 
@@ -53,7 +53,7 @@ stays rows cites contents lines literals fewer (Row r) content cited stay a m l 
     (λ cite held same. subst (λ (c : Content). Contains c.lits a)
     (All-contains (λ (c : Cite). (x : Content) → Contains rows (known_row c.row x) → x ≡ row_content c.content) cites cite contents held content (subst (λ n. Contains rows (known_row n content)) (sym same) cited)) m) l
 
-pub child-fewer : (instance : Instance) (rows : List KnownRow) (cites : List Cite) → AreContents rows cites → (lines : List LogLine) (literals fewer : List Literal) (tag path : ℕ) (ref : ChoiceRef) → StaysFor cites lines literals fewer ref.line → IsChild instance rows lines literals tag path ref → IsChild instance rows lines fewer tag path ref
+pub child-fewer : (instance : Instance) (rows : List KnownRow) (cites : List Cite) → AreContents rows cites → (lines : List LogLine) (literals fewer : List Literal) (tag path : ℕ) (ref : ChoiceRef) → StaysFor cites lines literals fewer ref.line → IsTriedChild instance rows lines literals tag path ref → IsTriedChild instance rows lines fewer tag path ref
 child-fewer instance rows cites contents lines literals fewer tag path ref stay h = record {
   content = h.content;
   cited = h.cited;
@@ -68,15 +68,15 @@ child-fewer instance rows cites contents lines literals fewer tag path ref stay 
 module _ (instance : Instance) (valid : IsInstance instance) (literals fewer : List Literal) (partial : IsPartial instance fewer) (path choice : ℕ) (small : path < length instance.paths) (within : choice ≤ count_at instance path) (apart : names fewer path ≡ false)
     (rows : List KnownRow) (cites : List Cite) (contents : AreContents rows cites) (lines : List LogLine) (tag : ℕ) (is_tag : IsTagOf instance (triple_from tag)) (refs : List ChoiceRef) (h : AreTriedChoices instance rows lines literals tag path choice refs)
     (stay : All (λ (ref : ChoiceRef). StaysFor cites lines literals fewer ref.line) refs) (settled : (i : ℕ) → i < choice → IsSettled instance tag fewer path refs i) where
-  children : All (IsChild instance rows lines fewer tag path) refs
-  children = All-from_members (IsChild instance rows lines fewer tag path) refs (λ ref m.
+  children : All (IsTriedChild instance rows lines fewer tag path) refs
+  children = All-from_members (IsTriedChild instance rows lines fewer tag path) refs (λ ref m.
       child-fewer instance rows cites contents lines literals fewer tag path ref (All-contains (λ (r : ChoiceRef). StaysFor cites lines literals fewer r.line) refs ref stay m)
-      (All-contains (IsChild instance rows lines literals tag path) refs ref h.children m))
+      (All-contains (IsTriedChild instance rows lines literals tag path) refs ref h.children m))
 
   implied-by : (i : ℕ) → i < choice → IsSettled instance tag fewer path refs i → Implied instance (triple_from tag) (literal path i ∷ fewer)
   implied-by i l (inl listed) =
       let found = passing (λ (r : ChoiceRef). eqb r.choice i) refs listed in
-      let child = All-contains (IsChild instance rows lines fewer tag path) refs found.item children found.member in
+      let child = All-contains (IsTriedChild instance rows lines fewer tag path) refs found.item children found.member in
       subst (λ n. Implied instance (triple_from tag) (literal path n ∷ fewer)) (eqb-true found.item.choice i found.passes)
       (Implied-more instance (triple_from tag) child.content.lits (literal path found.item.choice ∷ fewer) child.contained
       (implied-lower instance child.content.tag tag child.content.lits (omega (arith, child.reaches)) child.served.implied))

@@ -25,7 +25,7 @@ use Rattle.search_log.specs.Contents.{Cites, Content, KnownRow}
 use Rattle.search_log.specs.GoodLines.{AreRefs, IsBranch, IsChildOf, IsCount, IsGoodLine, IsOutside, PassesBy}
 use Rattle.search_log.proofs.Implying.{lits-partial}
 use Rattle.settle_laws.specs.Lines.{AreSorted}
-use Rattle.settle_laws.specs.Trying.{AreTriedChoices, IsChild}
+use Rattle.settle_laws.specs.Trying.{AreTriedChoices, IsTriedChild}
 use Rattle.settle_laws.proofs.Adding.{has-cons, has-trans}
 
 -- ---- lists that have literals
@@ -53,11 +53,11 @@ record Beside (rows : List KnownRow) (lines : List LogLine) (literals : List Lit
   contained : AllZip (IsChildOf path literals) refs contents
   reaches : All (λ content. tag ≤ content.tag) contents
 
-beside : (instance : Instance) (rows : List KnownRow) (lines : List LogLine) (pushed literals : List Literal) (tag path : ℕ) → HasAll literals pushed → (refs : List ChoiceRef) → All (IsChild instance rows lines pushed tag path) refs → Beside rows lines literals tag path refs
+beside : (instance : Instance) (rows : List KnownRow) (lines : List LogLine) (pushed literals : List Literal) (tag path : ℕ) → HasAll literals pushed → (refs : List ChoiceRef) → All (IsTriedChild instance rows lines pushed tag path) refs → Beside rows lines literals tag path refs
 beside instance rows lines pushed literals tag path has [] h = record { contents = []; cites = tt; contained = tt; reaches = All-nil (λ (content : Content). tag ≤ content.tag) }
 beside instance rows lines pushed literals tag path has (ref ∷ refs) h =
-    let first = All-head (IsChild instance rows lines pushed tag path) ref refs h in
-    let rest = beside instance rows lines pushed literals tag path has refs (All-tail (IsChild instance rows lines pushed tag path) ref refs h) in
+    let first = All-head (IsTriedChild instance rows lines pushed tag path) ref refs h in
+    let rest = beside instance rows lines pushed literals tag path has refs (All-tail (IsTriedChild instance rows lines pushed tag path) ref refs h) in
     record {
       contents = first.content ∷ rest.contents;
       cites = (first.cited, rest.cites);

@@ -26,7 +26,7 @@ use Rattle.search_log.specs.Logs.{IsBetter, KeepsBest}
 use Rattle.search_log.specs.Shares.{SharedState, known}
 use Rattle.settle_laws.specs.declared.found.Found.{Found}
 use Rattle.settle_laws.specs.Explained.{IsDeadPart}
-use Rattle.settle_laws.specs.Lines.{IsConcluded, IsLined, Offered}
+use Rattle.settle_laws.specs.Lines.{IsConcluded, IsLined, OffersPlan}
 use Rattle.settle_laws.specs.Ticks.{OfferedAtMost, OffersCost}
 use Rattle.settle_laws.specs.Worlds.{IsKeptRight, IsLeastOffered, Keeps, KeepsAtMost, world}
 use Rattle.settle_laws.proofs.Adding.{has-same, served-same}
@@ -149,7 +149,7 @@ lower-or-same (Some n) after tag e = ⊎_elim
     (λ g. let m : min n tag ≡ tag = omega arith in inr (e ∙ ap (λ (k : ℕ). Some k) m))
     (cases_lt n tag)
 
-module _ (instance : Instance) (valid : IsInstance instance) (literals : List Literal) (fuel : ℕ) (bound after : BoundState) (shared : SharedState) (old new : LogState) (o : Offered instance literals bound after old new) where
+module _ (instance : Instance) (valid : IsInstance instance) (literals : List Literal) (fuel : ℕ) (bound after : BoundState) (shared : SharedState) (old new : LogState) (o : OffersPlan instance literals bound after old new) where
   own-triple : cost instance o.plan ≡ triple_from (code_of (cost instance o.plan))
   own-triple = sym (cost-back instance o.plan valid)
 
@@ -193,9 +193,9 @@ module _ (instance : Instance) (valid : IsInstance instance) (literals : List Li
       (lower-or-same bound.least after.least (code_of (cost instance o.plan)) o.offers.least)
 
 -- the line at the cost comes last
-pub concluded : {E : Type 0} → (instance : Instance) (literals : List Literal) (bound after : BoundState) (old kept new : LogState) (tag : Tag) (o : Offered instance literals bound after old kept) → tag.code ≡ code_of (cost instance o.plan) → (fewer : List Literal) → IsDeadPart instance tag.code literals fewer → (result : Result Found E) → IsLined instance fewer tag None [] kept new result → IsConcluded instance literals bound after old new result
+pub concluded : {E : Type 0} → (instance : Instance) (literals : List Literal) (bound after : BoundState) (old kept new : LogState) (tag : Tag) (o : OffersPlan instance literals bound after old kept) → tag.code ≡ code_of (cost instance o.plan) → (fewer : List Literal) → IsDeadPart instance tag.code literals fewer → (result : Result Found E) → IsLined instance fewer tag None [] kept new result → IsConcluded instance literals bound after old new result
 concluded instance literals bound after old kept new tag o tag_is fewer part (Ok found) adds = record { kept = kept; tag = tag; offered = o; tag_is = tag_is; fewer = fewer; part = part; adds = adds }
-concluded instance literals bound after old kept new tag o tag_is fewer part (Err e) same = inr (subst (λ l. Offered instance literals bound after old l) (sym same) o)
+concluded instance literals bound after old kept new tag o tag_is fewer part (Err e) same = inr (subst (λ l. OffersPlan instance literals bound after old l) (sym same) o)
 
 pub cost-tag-code : (instance : Instance) (plan : List ℕ) (triple : Triple) → IsInstance instance → triple ≡ cost instance plan → IsTrue (is_tag MAX_LEVELS triple)
 cost-tag-code instance plan triple valid e = subst (λ t. IsTrue (is_tag MAX_LEVELS t)) (sym e) (tag_within (levels_of instance) MAX_LEVELS (cost instance plan) (levels-few instance).1 (cost-tag instance plan valid))

@@ -24,7 +24,7 @@ use Rattle.search_log.proofs.Implying.{lits-partial}
 use Rattle.nogood.specs.Rows.{row_literals}
 use Rattle.search_log.specs.declared.shared.Cite.{Cite}
 use Rattle.search_log.specs.LogStates.{LogState}
-use Rattle.search_log.specs.Shares.{IsServed, row_content}
+use Rattle.search_log.specs.Shares.{IsServedContent, row_content}
 use Rattle.settle_laws.specs.declared.found.Found.{Found}
 use Rattle.settle_laws.specs.declared.found.Found.TheVariants.{Settled}
 use Rattle.settle_laws.specs.declared.node.Node.{Node}
@@ -34,7 +34,7 @@ use Rattle.settle_laws.specs.Lines.{IsLined}
 use Rattle.settle_laws.specs.Noted.{by_choice}
 use Rattle.settle_laws.specs.RowLines.{AreAll, IsLinedByRow}
 use Rattle.settle_laws.specs.Ticks.{TicksBelow}
-use Rattle.settle_laws.specs.Trying.{AreTriedChoices, IsChild, Trying}
+use Rattle.settle_laws.specs.Trying.{AreTriedChoices, IsTriedChild, Trying}
 use Rattle.settle_laws.specs.Worlds.{World, world}
 use Rattle.settle_laws.proofs.Adding.{has-same, has-trans}
 use Rattle.settle_laws.proofs.Ends.{TryingAny, any-branch-searched}
@@ -54,7 +54,7 @@ module _ (count : ℕ) (line : Ref) (refs : List ChoiceRef) (all : AreAll count 
 -- what the row says holds without the choice, and of all choices
 module _ (instance : Instance) (valid : IsInstance instance) (level : ℕ) (limit : level ≤ levels_of instance) (literals : List Literal) (prefix : IsPrefix instance literals) (old now : World) (node : Node) (trying : Trying instance level literals old now node)
     (cites : List Cite) (contents : AreContents now.shared.copied cites) (cite : Cite) (held : Contains cites cite) (known : Contains now.shared.copied (known_row cite.row (row_content cite.content)))
-    (within : HasAll literals (row_literals cite.content)) (served : IsServed instance (row_content cite.content)) (reaches : node.tag.code ≤ cite.content.tag.code)
+    (within : HasAll literals (row_literals cite.content)) (served : IsServedContent instance (row_content cite.content)) (reaches : node.tag.code ≤ cite.content.tag.code)
     (refs : List ChoiceRef) (all : AreAll node.count (Row cite.row) refs) where
   abbrev closed : Node
   closed = record { tag = node.tag; path = node.path; choice = node.count; count = node.count; refs = refs }
@@ -63,7 +63,7 @@ module _ (instance : Instance) (valid : IsInstance instance) (level : ℕ) (limi
   has-within i = All-from_members (Contains (literal node.path i ∷ literals)) (row_literals cite.content)
       (λ a m. behind (literal node.path i) literals a (All-contains (Contains literals) (row_literals cite.content) a within m))
 
-  child : (ref : ChoiceRef) → ref.line ≡ Row cite.row → IsChild instance now.shared.copied now.log.lines literals node.tag.code node.path ref
+  child : (ref : ChoiceRef) → ref.line ≡ Row cite.row → IsTriedChild instance now.shared.copied now.log.lines literals node.tag.code node.path ref
   child ref same = record {
     content = row_content cite.content;
     cited = rw (same) known;
@@ -88,7 +88,7 @@ module _ (instance : Instance) (valid : IsInstance instance) (level : ℕ) (limi
         let second = all-choice node.count (Row cite.row) refs all j d small in
         omega (arith, first, second, less);
     below = λ i d l. let is = all-choice node.count (Row cite.row) refs all i d l in omega (arith, is, l, all.as_many);
-    children = All-from_members (IsChild instance now.shared.copied now.log.lines literals node.tag.code node.path) refs (λ ref m. child ref (row-line ref m));
+    children = All-from_members (IsTriedChild instance now.shared.copied now.log.lines literals node.tag.code node.path) refs (λ ref m. child ref (row-line ref m));
     settled = λ i l. listed i l literals;
     implied = λ i l. Implied-more instance (triple_from node.tag.code) (row_literals cite.content) (literal node.path i ∷ literals) (has-within i)
         (implied-lower instance cite.content.tag.code node.tag.code (row_literals cite.content) reaches served.implied);
@@ -128,8 +128,8 @@ module _ (instance : Instance) (valid : IsInstance instance) (level : ℕ) (limi
     content-is : s.is.refuted.content ≡ row_content cite.content
     content-is = All-contains (λ (c : Cite). (x : Content) → Contains now.shared.copied (known_row c.row x) → x ≡ row_content c.content) cites cite contents held s.is.refuted.content s.is.refuted.cited
 
-    pub row-served : IsServed instance (row_content cite.content)
-    row-served = subst (IsServed instance) content-is s.is.refuted.served
+    pub row-served : IsServedContent instance (row_content cite.content)
+    row-served = subst (IsServedContent instance) content-is s.is.refuted.served
 
     row-known : Contains now.shared.copied (known_row cite.row (row_content cite.content))
     row-known = subst (λ c. Contains now.shared.copied (known_row cite.row c)) content-is s.is.refuted.cited

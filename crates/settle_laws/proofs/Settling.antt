@@ -28,17 +28,17 @@ use Rattle.search_log.specs.declared.job.Outcome.TheVariants.{Refuted, Moot as O
 use Rattle.search_log.specs.Bounds.{floor}
 use Rattle.search_log.specs.LogStates.{LogState}
 use Rattle.search_log.specs.Logs.{cut_behind, with_segment}
-use Rattle.search_log.specs.Shares.{IsServed, SharedState, known}
+use Rattle.search_log.specs.Shares.{IsServedContent, SharedState, known}
 use Rattle.settle_laws.specs.declared.found.Found.{Found}
 use Rattle.settle_laws.specs.declared.found.Found.TheVariants.{Settled, Moot, Spent}
 use Rattle.settle_laws.specs.Founds.{IsRefuted, refused}
 use Rattle.settle_laws.specs.Levels.{level_code, target_code}
 use Rattle.settle_laws.specs.Lined.{IsAtMostCount, IsOneCount, Lined}
 use Rattle.settle_laws.specs.Published.{GotNone, GotRow, IsOfferable}
-use Rattle.settle_laws.specs.Settling.{AreHomeBy, IsOffered, IsOutcome, OnRefuted, Publishes, PublishesNone, PublishesOne, Settles, not_taken}
+use Rattle.settle_laws.specs.Settling.{AreHomeBy, IsOfferedAsRow, IsOutcome, OnRefuted, Publishes, PublishesNone, PublishesOne, Settles, not_taken}
 use Rattle.settle_laws.specs.Stops.{ComesAfter, IsUndecided, NoneFits, Stop, prefixes_of}
-use Rattle.settle_laws.specs.Ticks.{AreCounted, AreOffered, NoneWithin, Ticks}
-use Rattle.settle_laws.specs.Worlds.{Gains, IsGood, IsKeptRight, IsLeastOffered, KeepsAtMost, World, world}
+use Rattle.settle_laws.specs.Ticks.{HaveCountLines, AreOffered, NoneWithin, Ticks}
+use Rattle.settle_laws.specs.Worlds.{Gains, IsGoodWorld, IsKeptRight, IsLeastOffered, KeepsAtMost, World, world}
 use Rattle.settle_laws.proofs.Adding.{gains-none, has-same, has-trans}
 use Rattle.settle_laws.proofs.TickJoin.{no-ticks, ticks-later}
 use Rattle.tries_laws.proofs.JobParts.{target-is_tag}
@@ -119,11 +119,11 @@ module _ (instance : Instance) (level : ℕ) (literals : List Literal) (old mid 
   -- where a job comes to an outcome, something was found, and where it is refuted its lines are there
   pub record Went {F : Type 0} (result : Result Outcome F) : Type 0 where
     pub offered : OnOk found (AreOffered instance l.ticks.tried mid.bound.least) → OnOk result (AreOffered instance l.ticks.tried mid.bound.least)
-    pub counted : OnOk found (AreCounted instance l.ticks.tried old.log.lines mid.log.lines) → OnRefuted result (AreCounted instance l.ticks.tried old.log.lines log.lines)
+    pub counted : OnOk found (HaveCountLines instance l.ticks.tried old.log.lines mid.log.lines) → OnRefuted result (HaveCountLines instance l.ticks.tried old.log.lines log.lines)
 
   pub settles-with : {F : Type 0} (result : Result Outcome F) → Went result → shared.copied ≡ mid.shared.copied → shared.takes ≡ mid.shared.takes → mid.shared.refusals ≤ shared.refusals → log.best ≡ mid.log.best →
       Publishes old (world mid.fuel mid.bound shared log) result → Gains old.log.lines log.lines → length log.lines ≤ length mid.log.lines →
-      (IsGood instance mid → IsGood instance (world mid.fuel mid.bound shared log)) →
+      (IsGoodWorld instance mid → IsGoodWorld instance (world mid.fuel mid.bound shared log)) →
       IsOutcome instance level literals old (world mid.fuel mid.bound shared log) result → not_taken result ≡ refused found → Settles instance level literals old (world mid.fuel mid.bound shared log) result
   settles-with result goes copied takes refusals best publishes lines few good is none = record {
     fuel = l.keeps.fuel;
@@ -164,7 +164,7 @@ module _ (instance : Instance) (level : ℕ) (literals : List Literal) (old mid 
     pub cut-segments : log.segments ≡ old.log.segments
     cut-segments = ap (λ (g : LogState). g.segments) cut ∙ l.keeps.segments
 
-    cut-good : (rows : List KnownRow) → shared.copied ≡ mid.shared.copied → shared.published ≡ mid.shared.published ++ rows → IsGood instance mid → IsGood instance (world mid.fuel mid.bound shared log)
+    cut-good : (rows : List KnownRow) → shared.copied ≡ mid.shared.copied → shared.published ≡ mid.shared.published ++ rows → IsGoodWorld instance mid → IsGoodWorld instance (world mid.fuel mid.bound shared log)
     cut-good rows copied published good = subst (λ (g : LogState). IsGoodLog instance (known shared) g.lines g.segments) (sym cut)
         (log-cut instance (known shared) mid.log.lines mid.log.segments (max from (ended mid.log.segments)) (omega arith)
         (log-more instance (known mid.shared) (known shared) mid.log.lines mid.log.segments (known-still rows copied published) good))
@@ -239,7 +239,7 @@ module _ {E : Type 0} (instance : Instance) (level : ℕ) (literals : List Liter
       }))
       h
 
-  outcome-still : (F : Type 0) (log : LogState) → log.lines ≡ mid.log.lines → IsOffered old (world mid.fuel mid.bound shared log) (Own place) → IsOutcome {E = F} instance level literals old (world mid.fuel mid.bound shared log) (Ok (Refuted (Own place) tag))
+  outcome-still : (F : Type 0) (log : LogState) → log.lines ≡ mid.log.lines → IsOfferedAsRow old (world mid.fuel mid.bound shared log) (Own place) → IsOutcome {E = F} instance level literals old (world mid.fuel mid.bound shared log) (Ok (Refuted (Own place) tag))
   outcome-still F log same offered = (
     record {
       is_open = l.is.0.is_open;
@@ -264,7 +264,7 @@ module _ {E : Type 0} (instance : Instance) (level : ℕ) (literals : List Liter
     same = ap (λ (g : LogState). g.lines) none.log_same
 
     pub none-settles : (G : Type 0) → Settles {E = G} instance level literals old (world mid.fuel mid.bound shared log) (Ok (Refuted (Own place) tag))
-    none-settles G = settles-with instance level literals old mid (Ok (Settled (Own place) tag)) l shared log (Ok (Refuted (Own place) tag)) (record { offered = λ o. o; counted = λ n. subst (λ lines. AreCounted instance l.ticks.tried old.log.lines lines) (sym same) n }) copied takes refusals (ap (λ (g : LogState). g.best) none.log_same)
+    none-settles G = settles-with instance level literals old mid (Ok (Settled (Own place) tag)) l shared log (Ok (Refuted (Own place) tag)) (record { offered = λ o. o; counted = λ n. subst (λ lines. HaveCountLines instance l.ticks.tried old.log.lines lines) (sym same) n }) copied takes refusals (ap (λ (g : LogState). g.best) none.log_same)
         (record { rows = []; published = none.published ∙ (l.keeps.published ∙ sym (append-nil old.shared.published)); gained = []; segments = ap (λ (g : LogState). g.segments) none.log_same ∙ (l.keeps.segments ∙ sym (append-nil old.log.segments)); home = refl })
         (gains-still log same) (omega (arith, ap length same))
         (λ good. subst (λ (g : LogState). IsGoodLog instance (known shared) g.lines g.segments) (sym none.log_same)
@@ -293,7 +293,7 @@ module _ {E : Type 0} (instance : Instance) (level : ℕ) (literals : List Liter
     last-is : own_segment.last ≡ place
     last-is = omega (arith, l.is.0.last.1)
 
-    pub row-good : (good : IsGood instance mid) → IsGoodLog instance (known shared) mid.log.lines (mid.log.segments ++ own_segment ∷ [])
+    pub row-good : (good : IsGoodWorld instance mid) → IsGoodLog instance (known shared) mid.log.lines (mid.log.segments ++ own_segment ∷ [])
     row-good good = log-home instance (known mid.shared) (known shared) mid.log.lines mid.log.segments own_segment good (record {
       line = got.line;
       whole = omega (arith, l.is.0.last.1);
@@ -322,7 +322,7 @@ module _ {E : Type 0} (instance : Instance) (level : ℕ) (literals : List Liter
     got-settles G home =
         let same : log.lines ≡ mid.log.lines = ap (λ (g : LogState). g.lines) home in
         let segments : log.segments ≡ old.log.segments ++ own_segment ∷ [] = ap (λ (g : LogState). g.segments) home ∙ ap (λ ss. ss ++ own_segment ∷ []) l.keeps.segments in
-        settles-with instance level literals old mid (Ok (Settled (Own place) tag)) l shared log (Ok (Refuted (Own place) tag)) (record { offered = λ o. o; counted = λ n. subst (λ lines. AreCounted instance l.ticks.tried old.log.lines lines) (sym same) n }) copied takes refusals (ap (λ (g : LogState). g.best) home)
+        settles-with instance level literals old mid (Ok (Settled (Own place) tag)) l shared log (Ok (Refuted (Own place) tag)) (record { offered = λ o. o; counted = λ n. subst (λ lines. HaveCountLines instance l.ticks.tried old.log.lines lines) (sym same) n }) copied takes refusals (ap (λ (g : LogState). g.best) home)
         (record { rows = known_row got.row (content_of got.line) ∷ []; published = got.published ∙ ap (λ rs. rs ++ known_row got.row (content_of got.line) ∷ []) l.keeps.published; gained = own_segment ∷ []; segments = segments; home = refl })
         (gains-still log same) (omega (arith, ap length same))
         (λ good. subst (λ (g : LogState). IsGoodLog instance (known shared) g.lines g.segments) (sym home) (row-good good))
@@ -349,7 +349,7 @@ module _ {E : Type 0} (instance : Instance) (level : ℕ) (literals : List Liter
             content = content_of got.line;
             row = got.row;
             contained = subst (λ (c : Content). HasAll literals c.lits) same-content l.is.0.refuted.contained;
-            served = subst (IsServed instance) same-content l.is.0.refuted.served;
+            served = subst (IsServedContent instance) same-content l.is.0.refuted.served;
             publishes = publishes-one after;
             segments = cut-segments instance level literals old mid (Ok (Settled (Own place) tag)) l shared after from from_is behind cut_mid;
           }),
@@ -392,5 +392,5 @@ offerable instance level literals old mid place tag l line at =
     let same : r.cited.0 ≡ line = (let there = r.cited.1 in cc) in
     let content : r.content ≡ content_of line = r.cited.2 ∙ ap content_of same in (
       subst (λ (c : Content). IsTagOf instance (triple_from c.tag)) content r.own,
-      subst (IsServed instance) content r.served,
+      subst (IsServedContent instance) content r.served,
     )

@@ -23,10 +23,10 @@ use Rattle.search_log.specs.Bounds.{floor}
 use Rattle.settle_laws.specs.declared.found.Found.{Found}
 use Rattle.settle_laws.specs.declared.found.Found.TheVariants.{Dead as FoundDead, Settled, Moot, Spent}
 use Rattle.settle_laws.specs.declared.node.Node.{Node}
-use Rattle.settle_laws.specs.Founds.{IsFoundBy, IsOpen, IsTarget, Searched, refused}
+use Rattle.settle_laws.specs.Founds.{IsFoundBy, IsWanted, IsTarget, Searched, refused}
 use Rattle.settle_laws.specs.Levels.{level_code}
 use Rattle.settle_laws.specs.Noted.{Goes, IsEnding, Notes, by_choice}
-use Rattle.settle_laws.specs.Ticks.{AreCounted, AreOffered, Ticks, TicksBelow}
+use Rattle.settle_laws.specs.Ticks.{HaveCountLines, AreOffered, Ticks, TicksBelow}
 use Rattle.settle_laws.specs.Trying.{AreTriedChoices, Trying}
 use Rattle.settle_laws.specs.Worlds.{Keeps, World}
 use Rattle.settle_laws.proofs.Keeping.{keeps-trans}
@@ -66,8 +66,8 @@ module _ (instance : Instance) (level : ℕ) (literals : List Literal) (old here
     both-offer = on-ok (AreOffered instance s.ticks.tried now.bound.least) (AreOffered instance both-ticks.tried now.bound.least)
         (next-offered instance level literals node.path node.choice old here now trying.keeps s.keeps s.refused_at trying.ticks s.ticks) result s.offered
 
-    both-count : OnOk result (AreCounted instance both-ticks.tried old.log.lines now.log.lines)
-    both-count = on-ok (AreCounted instance s.ticks.tried here.log.lines now.log.lines) (AreCounted instance both-ticks.tried old.log.lines now.log.lines)
+    both-count : OnOk result (HaveCountLines instance both-ticks.tried old.log.lines now.log.lines)
+    both-count = on-ok (HaveCountLines instance s.ticks.tried here.log.lines now.log.lines) (HaveCountLines instance both-ticks.tried old.log.lines now.log.lines)
         (next-counted instance level literals node.path node.choice old here now trying.keeps s.keeps s.refused_at trying.ticks s.ticks) result s.counted
 
     -- what ends the search of a choice ends that of the literals
@@ -163,11 +163,11 @@ module _ (instance : Instance) (level : ℕ) (literals : List Literal) (old here
       before = tried-grow instance valid literals node.path here.shared.copied now.shared.copied here.log.lines now.log.lines s.keeps.copied s.keeps.lines node.tag.code new.tag.code
           (tag-small instance level node.tag within (omega (arith, trying.target))) (tag-small instance level new.tag within (omega (arith, trying.target, lower))) lower node.choice node.refs trying.choices
 
-      below-next : (refused : List (List Literal)) → refused ≡ [] → (t : Ticks instance level with-choice here now refused) → AreOffered instance t.tried now.bound.least → AreCounted instance t.tried here.log.lines now.log.lines → TicksBelow instance level literals node.path (node.choice + 1) old now
+      below-next : (refused : List (List Literal)) → refused ≡ [] → (t : Ticks instance level with-choice here now refused) → AreOffered instance t.tried now.bound.least → HaveCountLines instance t.tried here.log.lines now.log.lines → TicksBelow instance level literals node.path (node.choice + 1) old now
       below-next [] e t offered counted = next-below instance level literals node.path node.choice old here now trying.keeps s.keeps trying.ticks t offered counted
       below-next (x ∷ more) e t offered counted = cc
 
-      goes-with : IsOpen level now.bound → IsTarget level now.bound tag.code → AreTriedChoices instance now.shared.copied now.log.lines literals new.tag.code node.path (node.choice + 1) refs → Trying instance level literals old now new
+      goes-with : IsWanted level now.bound → IsTarget level now.bound tag.code → AreTriedChoices instance now.shared.copied now.log.lines literals new.tag.code node.path (node.choice + 1) refs → Trying instance level literals old now new
       goes-with is_open target tried = record {
         next = trying.next ∙ ap (λ (p : ℕ). Some p) (sym goes.path_is);
         counted = goes.count_is ∙ (trying.counted ∙ ap (λ p. count_at instance p) (sym goes.path_is));

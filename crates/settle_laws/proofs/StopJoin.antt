@@ -11,8 +11,8 @@ use Rattle.search_log.specs.declared.line.LogLine.{LogLine}
 use Rattle.search_log.proofs.Places.{get-append}
 use Rattle.search_log.specs.Bounds.{BoundState, floor, lowest}
 use Rattle.search_log.specs.Shares.{SharedState, known}
-use Rattle.settle_laws.specs.Stops.{AreStops, ComesAfter, ComesBefore, IsUndecided, IsWhole, Precedes, Stop, prefixes_of}
-use Rattle.settle_laws.specs.Ticks.{AreCounted, AreOffered, GainsCount, OfferedAtMost}
+use Rattle.settle_laws.specs.Stops.{AreStops, ComesAfter, ComesBefore, IsUndecided, IsWholePrefix, Precedes, Stop, prefixes_of}
+use Rattle.settle_laws.specs.Ticks.{HaveCountLines, AreOffered, GainsCount, OfferedAtMost}
 use Rattle.settle_laws.specs.Worlds.{Gains, Keeps, World}
 use Rattle.settle_laws.proofs.Adding.{has-trans, pairs-join}
 use Rattle.settle_laws.proofs.Keeping.{rows-grow}
@@ -39,28 +39,28 @@ offered-by (Some least) None tag low h = absurd (omega (arith, low (least + 1)))
 offered-by (Some least) (Some later) tag low h = omega (arith, low (least + later + 1), h)
 
 pub offered-later : (instance : Instance) (tried : List (List Literal)) (before after : Option ℕ) → ((n : ℕ) → lowest n after ≤ lowest n before) → AreOffered instance tried before → AreOffered instance tried after
-offered-later instance tried before after low h = All-from_members (λ prefix. (plan : List ℕ) → IsWhole instance prefix plan → OfferedAtMost after (code_of (cost instance plan))) tried (λ prefix m plan whole.
-    offered-by before after (code_of (cost instance plan)) low (All-contains (λ prefix. (plan : List ℕ) → IsWhole instance prefix plan → OfferedAtMost before (code_of (cost instance plan))) tried prefix h m plan whole))
+offered-later instance tried before after low h = All-from_members (λ prefix. (plan : List ℕ) → IsWholePrefix instance prefix plan → OfferedAtMost after (code_of (cost instance plan))) tried (λ prefix m plan whole.
+    offered-by before after (code_of (cost instance plan)) low (All-contains (λ prefix. (plan : List ℕ) → IsWholePrefix instance prefix plan → OfferedAtMost before (code_of (cost instance plan))) tried prefix h m plan whole))
 
 pub none-offered : (instance : Instance) (least : Option ℕ) → AreOffered instance [] least
-none-offered instance least = All-nil (λ prefix. (plan : List ℕ) → IsWhole instance prefix plan → OfferedAtMost least (code_of (cost instance plan)))
+none-offered instance least = All-nil (λ prefix. (plan : List ℕ) → IsWholePrefix instance prefix plan → OfferedAtMost least (code_of (cost instance plan)))
 
 pub both-offered : (instance : Instance) (xs ys : List (List Literal)) (least : Option ℕ) → AreOffered instance xs least → AreOffered instance ys least → AreOffered instance (xs ++ ys) least
-both-offered instance xs ys least h k = All-append (λ prefix. (plan : List ℕ) → IsWhole instance prefix plan → OfferedAtMost least (code_of (cost instance plan))) xs ys h k
+both-offered instance xs ys least h k = All-append (λ prefix. (plan : List ℕ) → IsWholePrefix instance prefix plan → OfferedAtMost least (code_of (cost instance plan))) xs ys h k
 
-pub one-offered : (instance : Instance) (prefix : List Literal) (least : Option ℕ) → ((plan : List ℕ) → IsWhole instance prefix plan → OfferedAtMost least (code_of (cost instance plan))) → AreOffered instance (prefix ∷ []) least
-one-offered instance prefix least h = All-cons (λ prefix. (plan : List ℕ) → IsWhole instance prefix plan → OfferedAtMost least (code_of (cost instance plan))) prefix [] h
-    (All-nil (λ prefix. (plan : List ℕ) → IsWhole instance prefix plan → OfferedAtMost least (code_of (cost instance plan))))
+pub one-offered : (instance : Instance) (prefix : List Literal) (least : Option ℕ) → ((plan : List ℕ) → IsWholePrefix instance prefix plan → OfferedAtMost least (code_of (cost instance plan))) → AreOffered instance (prefix ∷ []) least
+one-offered instance prefix least h = All-cons (λ prefix. (plan : List ℕ) → IsWholePrefix instance prefix plan → OfferedAtMost least (code_of (cost instance plan))) prefix [] h
+    (All-nil (λ prefix. (plan : List ℕ) → IsWholePrefix instance prefix plan → OfferedAtMost least (code_of (cost instance plan))))
 
 -- ---- lines at costs
 
 abbrev IsCounted : Instance → List LogLine → List LogLine → List Literal → Type 0
-IsCounted instance old new prefix = (plan : List ℕ) → IsWhole instance prefix plan → GainsCount old new prefix (code_of (cost instance plan))
+IsCounted instance old new prefix = (plan : List ℕ) → IsWholePrefix instance prefix plan → GainsCount old new prefix (code_of (cost instance plan))
 
-pub none-counted : (instance : Instance) (old new : List LogLine) → AreCounted instance [] old new
+pub none-counted : (instance : Instance) (old new : List LogLine) → HaveCountLines instance [] old new
 none-counted instance old new = All-nil (IsCounted instance old new)
 
-pub one-counted : (instance : Instance) (prefix : List Literal) (old new : List LogLine) → ((plan : List ℕ) → IsWhole instance prefix plan → GainsCount old new prefix (code_of (cost instance plan))) → AreCounted instance (prefix ∷ []) old new
+pub one-counted : (instance : Instance) (prefix : List Literal) (old new : List LogLine) → ((plan : List ℕ) → IsWholePrefix instance prefix plan → GainsCount old new prefix (code_of (cost instance plan))) → HaveCountLines instance (prefix ∷ []) old new
 one-counted instance prefix old new h = All-cons (IsCounted instance old new) prefix [] h (All-nil (IsCounted instance old new))
 
 count-later : (prefix : List Literal) (code : ℕ) (old new later : List LogLine) → Gains new later → GainsCount old new prefix code → GainsCount old later prefix code
@@ -74,7 +74,7 @@ count-later prefix code old new later gains h = record {
   within = h.within;
 }
 
-pub counted-later : (instance : Instance) (tried : List (List Literal)) (old new later : List LogLine) → Gains new later → AreCounted instance tried old new → AreCounted instance tried old later
+pub counted-later : (instance : Instance) (tried : List (List Literal)) (old new later : List LogLine) → Gains new later → HaveCountLines instance tried old new → HaveCountLines instance tried old later
 counted-later instance tried old new later gains h = All-from_members (IsCounted instance old later) tried (λ prefix m plan whole.
     count-later prefix (code_of (cost instance plan)) old new later gains (All-contains (IsCounted instance old new) tried prefix h m plan whole))
 
@@ -90,7 +90,7 @@ count-since prefix code old here new gains h = record {
 }
 
 -- those of lines gained at first, and of lines gained since
-pub both-counted : (instance : Instance) (xs ys : List (List Literal)) (old here new : List LogLine) → Gains old here → Gains here new → AreCounted instance xs old here → AreCounted instance ys here new → AreCounted instance (xs ++ ys) old new
+pub both-counted : (instance : Instance) (xs ys : List (List Literal)) (old here new : List LogLine) → Gains old here → Gains here new → HaveCountLines instance xs old here → HaveCountLines instance ys here new → HaveCountLines instance (xs ++ ys) old new
 both-counted instance xs ys old here new before after h k = All-append (IsCounted instance old new) xs ys (counted-later instance xs old here new after h)
     (All-from_members (IsCounted instance old new) ys (λ prefix m plan whole.
     count-since prefix (code_of (cost instance plan)) old here new before (All-contains (IsCounted instance here new) ys prefix k m plan whole)))
@@ -164,7 +164,7 @@ module _ (instance : Instance) (level : ℕ) (old here new : World) (before : Ke
         copied = has-trans x.copied here.shared.copied y.copied up.copied (has-trans here.shared.copied (known here.shared) y.copied (copied-known here.shared) down.copied);
         cost = λ plan whole.
             let in_xs : Contains xs x.prefix = subst (λ ps. Contains ps x.prefix) a.are (prefix-in a.stops x m) in
-            let reached = All-contains (λ prefix. (plan : List ℕ) → IsWhole instance prefix plan → OfferedAtMost here.bound.least (code_of (cost instance plan))) xs x.prefix offered in_xs plan whole in
+            let reached = All-contains (λ prefix. (plan : List ℕ) → IsWholePrefix instance prefix plan → OfferedAtMost here.bound.least (code_of (cost instance plan))) xs x.prefix offered in_xs plan whole in
             omega (arith, down.told, floor-offered here.bound (code_of (cost instance plan)) reached);
       }
 

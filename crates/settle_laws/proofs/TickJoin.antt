@@ -18,7 +18,7 @@ use Rattle.search_log.specs.Contents.{KnownRow}
 use Rattle.search_log.proofs.Places.{get-front}
 use Rattle.search_log.specs.Bounds.{BoundState}
 use Rattle.settle_laws.specs.Stops.{AreStops, ComesAfter, ComesBefore, IsUndecided, stop_at}
-use Rattle.settle_laws.specs.Ticks.{AreCounted, AreOffered, IsEarlier, OffersCost, StandBehind, Ticks, TicksBelow}
+use Rattle.settle_laws.specs.Ticks.{HaveCountLines, AreOffered, IsEarlier, OffersCost, StandBehind, Ticks, TicksBelow}
 use Rattle.settle_laws.specs.Worlds.{Keeps, KeepsAtMost, World}
 use Rattle.settle_laws.proofs.Adding.{has-same, pairs-join}
 use Rattle.settle_laws.proofs.NextPaths.{get-contains}
@@ -99,7 +99,7 @@ module _ (instance : Instance) (level : ℕ) (prefix : List Literal) (old new : 
     }
 
     -- and the choices of the next path come next
-    pub first-tick : AreStops instance level old new (prefix ∷ []) → AreOffered instance (prefix ∷ []) new.bound.least → AreCounted instance (prefix ∷ []) old.log.lines new.log.lines → (path : ℕ) → old.fuel ≡ new.fuel + 1 → new.bound.least ≡ old.bound.least → TicksBelow instance level prefix path 0 old new
+    pub first-tick : AreStops instance level old new (prefix ∷ []) → AreOffered instance (prefix ∷ []) new.bound.least → HaveCountLines instance (prefix ∷ []) old.log.lines new.log.lines → (path : ℕ) → old.fuel ≡ new.fuel + 1 → new.bound.least ≡ old.bound.least → TicksBelow instance level prefix path 0 old new
     first-tick stops offered counted path took least = record {
       ticks = one-tick stops took (inl least);
       begins = at_front prefix [];
@@ -257,12 +257,12 @@ module _ (instance : Instance) (level : ℕ) (prefix : List Literal) (path index
   pub next-offered : AreOffered instance b.tried new.bound.least → AreOffered instance (a.ticks.tried ++ b.tried) new.bound.least
   next-offered h = both-offered instance a.ticks.tried b.tried new.bound.least (offered-later instance a.ticks.tried here.bound.least new.bound.least after.lowers a.offered) h
 
-  pub next-counted : AreCounted instance b.tried here.log.lines new.log.lines → AreCounted instance (a.ticks.tried ++ b.tried) old.log.lines new.log.lines
+  pub next-counted : HaveCountLines instance b.tried here.log.lines new.log.lines → HaveCountLines instance (a.ticks.tried ++ b.tried) old.log.lines new.log.lines
   next-counted h = both-counted instance a.ticks.tried b.tried old.log.lines here.log.lines new.log.lines before.lines after.lines a.counted h
 
 -- where none was refused, the next choice comes next
 pub next-below : (instance : Instance) (level : ℕ) (prefix : List Literal) (path index : ℕ) (old here new : World) → Keeps instance old here → Keeps instance here new →
-    (a : TicksBelow instance level prefix path index old here) (b : Ticks instance level (prefix ++ literal path index ∷ []) here new []) → AreOffered instance b.tried new.bound.least → AreCounted instance b.tried here.log.lines new.log.lines → TicksBelow instance level prefix path (index + 1) old new
+    (a : TicksBelow instance level prefix path index old here) (b : Ticks instance level (prefix ++ literal path index ∷ []) here new []) → AreOffered instance b.tried new.bound.least → HaveCountLines instance b.tried here.log.lines new.log.lines → TicksBelow instance level prefix path (index + 1) old new
 next-below instance level prefix path index old here new before after a b offered counted = record {
   ticks = next-ticks instance level prefix path index old here new before after [] a b;
   begins = Contains-append_left a.ticks.asked b.asked prefix a.begins;

@@ -25,7 +25,7 @@ use Rattle.search_log.specs.GoodLines.{IsSettled}
 use Rattle.search_log.proofs.Places.{get-append}
 use Rattle.settle_laws.specs.Founds.{IsRefuted}
 use Rattle.settle_laws.specs.Noted.{by_choice}
-use Rattle.settle_laws.specs.Trying.{AreTriedChoices, IsChild}
+use Rattle.settle_laws.specs.Trying.{AreTriedChoices, IsTriedChild}
 use Rattle.settle_laws.specs.Worlds.{Gains}
 use Rattle.settle_laws.proofs.Adding.{has-front, has-trans, pairs-join}
 use Rattle.settle_laws.proofs.LineParts.{with-literal}
@@ -35,7 +35,7 @@ pub cites-grow : (rows more : List KnownRow) (lines longer : List LogLine) (ref 
 cites-grow rows more lines longer (Own n) content has gains h = (h.0, (let at = get-append lines gains.more n h.0 h.1 in rw (gains.are) at), h.2)
 cites-grow rows more lines longer (Row r) content has gains h = All-contains (Contains more) rows (known_row r content) has h
 
-pub child-grows : (instance : Instance) (rows more : List KnownRow) (lines longer : List LogLine) (literals : List Literal) (tag lower path : ℕ) (ref : ChoiceRef) → All (Contains more) rows → Gains lines longer → lower ≤ tag → IsChild instance rows lines literals tag path ref → IsChild instance more longer literals lower path ref
+pub child-grows : (instance : Instance) (rows more : List KnownRow) (lines longer : List LogLine) (literals : List Literal) (tag lower path : ℕ) (ref : ChoiceRef) → All (Contains more) rows → Gains lines longer → lower ≤ tag → IsTriedChild instance rows lines literals tag path ref → IsTriedChild instance more longer literals lower path ref
 child-grows instance rows more lines longer literals tag lower path ref has gains low h = record {
   content = h.content;
   cited = cites-grow rows more lines longer ref.line h.content has gains h.cited;
@@ -59,8 +59,8 @@ module _ (instance : Instance) (valid : IsInstance instance) (literals : List Li
   tried-grow choice refs h = record {
     ascending = h.ascending;
     below = h.below;
-    children = All-from_members (IsChild instance more longer literals lower path) refs (λ ref m.
-        child-grows instance rows more lines longer literals tag lower path ref has gains low (All-contains (IsChild instance rows lines literals tag path) refs ref h.children m));
+    children = All-from_members (IsTriedChild instance more longer literals lower path) refs (λ ref m.
+        child-grows instance rows more lines longer literals tag lower path ref has gains low (All-contains (IsTriedChild instance rows lines literals tag path) refs ref h.children m));
     settled = λ i l. settled-lower refs i (h.settled i l);
     implied = λ i l. implied-lower instance tag lower (literal path i ∷ literals) low (h.implied i l);
   }
@@ -93,14 +93,14 @@ module _ (instance : Instance) (valid : IsInstance instance) (literals : List Li
   tried-settled line settled_tag low r =
       let ref = by_choice choice line in
       let contained : HasAll (literal path choice ∷ literals) r.content.lits = has-trans r.content.lits (literals ++ literal path choice ∷ []) (literal path choice ∷ literals) r.contained (has-front (literal path choice) literals) in
-      let child : IsChild instance rows lines literals tag path ref = record { content = r.content; cited = r.cited; reaches = omega (arith, r.reaches); contained = contained; served = r.served } in
+      let child : IsTriedChild instance rows lines literals tag path ref = record { content = r.content; cited = r.cited; reaches = omega (arith, r.reaches); contained = contained; served = r.served } in
       let next : All (λ (r : ChoiceRef). choice < r.choice + 1) (ref ∷ []) = All-cons (λ (r : ChoiceRef). choice < r.choice + 1) ref [] (omega arith) (All-nil (λ (r : ChoiceRef). choice < r.choice + 1)) in
       record {
         ascending = pairs-join (λ (a b : ChoiceRef). a.choice < b.choice) refs (ref ∷ []) h.ascending (λ i j d less l. absurd (omega arith)) (λ a b m n.
             let low_a = All-contains (λ (r : ChoiceRef). r.choice < choice) refs a h.below m in
             let high_b = All-contains (λ (r : ChoiceRef). choice < r.choice + 1) (ref ∷ []) b next n in omega arith);
         below = All-append (λ (r : ChoiceRef). r.choice < choice + 1) refs (ref ∷ []) all-below (All-cons (λ (r : ChoiceRef). r.choice < choice + 1) ref [] (omega arith) (All-nil (λ (r : ChoiceRef). r.choice < choice + 1)));
-        children = All-append (IsChild instance rows lines literals tag path) refs (ref ∷ []) h.children (All-cons (IsChild instance rows lines literals tag path) ref [] child (All-nil (IsChild instance rows lines literals tag path)));
+        children = All-append (IsTriedChild instance rows lines literals tag path) refs (ref ∷ []) h.children (All-cons (IsTriedChild instance rows lines literals tag path) ref [] child (All-nil (IsTriedChild instance rows lines literals tag path)));
         settled = below_more (λ i. IsSettled instance tag literals path (refs ++ ref ∷ []) i) choice
             (λ i l. ⊎_elim (λ a. inl (listed-more refs ref i a)) (λ d. inr d) (h.settled i l))
             (inl (any-member (λ (r : ChoiceRef). eqb r.choice choice) (refs ++ ref ∷ []) ref (Contains-push refs ref) (eq-eqb choice choice refl)));

@@ -17,8 +17,8 @@ use Rattle.search_log.specs.Shares.{row_content}
 use Rattle.settle_laws.specs.declared.node.Node.{Node}
 
 -- rows that look-ups gave have been copied
-abbrev pub AreCopied : List KnownRow → List Cite → Type 0
-AreCopied rows cites = All (λ cite. Contains rows (known_row cite.row (row_content cite.content))) cites
+abbrev pub AreCitesCopied : List KnownRow → List Cite → Type 0
+AreCitesCopied rows cites = All (λ cite. Contains rows (known_row cite.row (row_content cite.content))) cites
 
 -- what a row of their numbers says is what look-ups gave
 abbrev pub AreContents : List KnownRow → List Cite → Type 0

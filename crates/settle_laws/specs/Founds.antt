@@ -10,12 +10,12 @@ use Rattle.search_log.specs.declared.line.Ref.{Ref}
 use Rattle.search_log.specs.declared.line.Ref.TheVariants.{Own, Row}
 use Rattle.search_log.specs.Contents.{Cites, Content, KnownRow}
 use Rattle.search_log.specs.Bounds.{BoundState, floor}
-use Rattle.search_log.specs.Shares.{IsServed}
+use Rattle.search_log.specs.Shares.{IsServedContent}
 use Rattle.settle_laws.specs.declared.found.Found.{Found}
 use Rattle.settle_laws.specs.declared.found.Found.TheVariants.{Dead as FoundDead, Settled, Moot, Spent}
 use Rattle.settle_laws.specs.Levels.{level_code, target_code}
 use Rattle.settle_laws.specs.Stops.{NoneFits}
-use Rattle.settle_laws.specs.Ticks.{AreCounted, AreOffered, Ticks}
+use Rattle.settle_laws.specs.Ticks.{HaveCountLines, AreOffered, Ticks}
 use Rattle.settle_laws.specs.Worlds.{Keeps, World}
 
 -- a line's tag is one of the instance
@@ -29,7 +29,7 @@ pub record IsRefuted (instance : Instance) (rows : List KnownRow) (lines : List 
   pub cited : Cites rows lines line content
   pub reaches : tag ≤ content.tag
   pub contained : HasAll literals content.lits
-  pub served : IsServed instance content
+  pub served : IsServedContent instance content
   pub own : HasOwnTag instance line content
 
 -- the lesser of the level's target and of what the bound told last or was offered
@@ -37,8 +37,8 @@ abbrev pub IsTarget : ℕ → BoundState → ℕ → Type 0
 IsTarget level bound tag = tag ≡ target_code level (floor bound)
 
 -- the bound that was told last leaves something to find at the level
-abbrev pub IsOpen : ℕ → BoundState → Type 0
-IsOpen level bound = level_code level < bound.told
+abbrev pub IsWanted : ℕ → BoundState → Type 0
+IsWanted level bound = level_code level < bound.told
 
 -- a line of the log is one of those that were added, and the last; where a row is named, no tick was taken and no line was added
 abbrev pub IsLastRef : World → World → Ref → Type 0
@@ -52,7 +52,7 @@ IsExact level old new tag = new.fuel ≡ old.fuel → tag ≡ target_code level 
 -- A line or a row settles some literals. Its tag is the lesser of the level's target and of what the bound told last or was
 -- offered: where the bound is read at each part, the least of the targets that the parts were judged at.
 pub record IsSettledBy (instance : Instance) (level : ℕ) (literals : List Literal) (old new : World) (line : Ref) (tag : ℕ) : Type 0 where
-  pub is_open : IsOpen level new.bound
+  pub is_open : IsWanted level new.bound
   pub target : IsTarget level new.bound tag
   pub exact : IsExact level old new tag
   pub refuted : IsRefuted instance new.shared.copied new.log.lines literals line tag
@@ -60,7 +60,7 @@ pub record IsSettledBy (instance : Instance) (level : ℕ) (literals : List Lite
 
 -- some literals are dead at the target, where no copied row says so
 pub record IsFoundDead (instance : Instance) (level : ℕ) (literals : List Literal) (old new : World) (tag : ℕ) : Type 0 where
-  pub is_open : IsOpen level new.bound
+  pub is_open : IsWanted level new.bound
   pub target : IsTarget level new.bound tag
   pub exact : tag ≡ target_code level new.bound.told
   pub rowless : NoneFits tag new.shared.copied literals
@@ -81,7 +81,7 @@ abbrev pub IsFoundBy : {E : Type 0} → Instance → ℕ → List Literal → Wo
 IsFoundBy instance level literals old new (Ok (FoundDead tag)) = IsFoundDead instance level literals old new tag.code
 IsFoundBy instance level literals old new (Ok (Settled line tag)) = IsSettledBy instance level literals old new line tag.code
 IsFoundBy instance level literals old new (Ok (Moot seen)) = (seen.code ≡ new.bound.told) × (new.bound.told ≤ level_code level)
-IsFoundBy instance level literals old new (Ok Spent) = IsOpen level new.bound × (new.fuel ≡ 0)
+IsFoundBy instance level literals old new (Ok Spent) = IsWanted level new.bound × (new.fuel ≡ 0)
 IsFoundBy instance level literals old new (Err e) = Unit {0}
 
 -- what was found, what was kept, and at which prefixes ticks were taken or refused; with each line at least one was taken, the
@@ -95,4 +95,4 @@ pub record Searched {E : Type 0} (instance : Instance) (level : ℕ) (literals :
   pub refused_count : length refused_at ≡ refused result
   pub ticks : Ticks instance level literals old new refused_at
   pub offered : OnOk result (AreOffered instance ticks.tried new.bound.least)
-  pub counted : OnOk result (AreCounted instance ticks.tried old.log.lines new.log.lines)
+  pub counted : OnOk result (HaveCountLines instance ticks.tried old.log.lines new.log.lines)

@@ -7,11 +7,11 @@ use Rattle.search_log.specs.Contents.{KnownRow}
 use Rattle.search_log.specs.Bounds.{floor}
 use Rattle.settle_laws.specs.declared.found.Found.{Found}
 use Rattle.settle_laws.specs.declared.found.Found.TheVariants.{Dead, Settled, Moot, Spent}
-use Rattle.settle_laws.specs.Founds.{IsOpen, IsSettledBy, refused}
+use Rattle.settle_laws.specs.Founds.{IsWanted, IsSettledBy, refused}
 use Rattle.settle_laws.specs.Levels.{level_code}
 use Rattle.settle_laws.specs.Lines.{AreSorted}
 use Rattle.settle_laws.specs.Stops.{NoneFits}
-use Rattle.settle_laws.specs.Ticks.{AreCounted, AreOffered, Ticks}
+use Rattle.settle_laws.specs.Ticks.{HaveCountLines, AreOffered, Ticks}
 use Rattle.settle_laws.specs.Worlds.{Keeps, World}
 
 -- one Count line on the literals, where no copied row says as much
@@ -32,7 +32,7 @@ IsLinedBy instance level literals old new (Ok (Dead tag)) = ⊥
 IsLinedBy instance level literals old new (Ok (Settled line tag)) = IsSettledBy instance level literals old new line tag.code
     × (new.fuel ≡ old.fuel → IsAtMostCount instance literals old new)
 IsLinedBy instance level literals old new (Ok (Moot seen)) = (seen.code ≡ new.bound.told) × (new.bound.told ≤ level_code level)
-IsLinedBy instance level literals old new (Ok Spent) = IsOpen level new.bound × (new.fuel ≡ 0)
+IsLinedBy instance level literals old new (Ok Spent) = IsWanted level new.bound × (new.fuel ≡ 0)
 IsLinedBy instance level literals old new (Err e) = Unit {0}
 
 -- with each line a tick was taken, or one line was added without
@@ -45,4 +45,4 @@ pub record Lined {E : Type 0} (instance : Instance) (level : ℕ) (literals : Li
   pub refused_count : length refused_at ≡ refused result
   pub ticks : Ticks instance level literals old new refused_at
   pub offered : OnOk result (AreOffered instance ticks.tried new.bound.least)
-  pub counted : OnOk result (AreCounted instance ticks.tried old.log.lines new.log.lines)
+  pub counted : OnOk result (HaveCountLines instance ticks.tried old.log.lines new.log.lines)

@@ -12,7 +12,7 @@ use Rattle.search_log.specs.declared.line.LogLine.{LogLine}
 use Rattle.search_log.specs.declared.line.Ref.TheVariants.{Own}
 use Rattle.search_log.specs.Bounds.{BoundState, Offers}
 use Rattle.search_log.specs.LogStates.{LogState}
-use Rattle.search_log.specs.Logs.{KeepsBest, with_line}
+use Rattle.search_log.specs.Logs.{KeepsBest, log_with_line}
 use Rattle.settle_laws.specs.declared.found.Found.{Found}
 use Rattle.settle_laws.specs.declared.found.Found.TheVariants.{Settled}
 use Rattle.settle_laws.specs.Explained.{IsDeadPart}
@@ -26,7 +26,7 @@ pub record AreSorted (instance : Instance) (pushed literals : List Literal) : Ty
 -- a line on the literals was added, and it is what was found
 pub record AddsLine (instance : Instance) (literals : List Literal) (tag : Tag) (path : Option ℕ) (refs : List ChoiceRef) (old new : LogState) (found : Found) : Type 0 where
   pub line : LogLine
-  pub added : new ≡ with_line old line
+  pub added : new ≡ log_with_line old line
   pub sorted : AreSorted instance literals line.lits
   pub tag_is : line.tag ≡ tag
   pub path_is : line.path ≡ path
@@ -39,7 +39,7 @@ IsLined instance literals tag path refs old new (Ok found) = AddsLine instance l
 IsLined instance literals tag path refs old new (Err e) = new ≡ old
 
 -- an assignment that has the literals was given to the log with its cost, and then its cost was offered
-pub record Offered (instance : Instance) (literals : List Literal) (bound after : BoundState) (old new : LogState) : Type 0 where
+pub record OffersPlan (instance : Instance) (literals : List Literal) (bound after : BoundState) (old new : LogState) : Type 0 where
   pub plan : List ℕ
   pub feasible : IsFeasible instance plan
   pub extends : Extends plan literals
@@ -50,7 +50,7 @@ pub record Offered (instance : Instance) (literals : List Literal) (bound after 
 pub record Concludes (instance : Instance) (literals : List Literal) (bound after : BoundState) (old new : LogState) (found : Found) : Type 0 where
   pub kept : LogState
   pub tag : Tag
-  pub offered : Offered instance literals bound after old kept
+  pub offered : OffersPlan instance literals bound after old kept
   pub tag_is : tag.code ≡ code_of (cost instance offered.plan)
   pub fewer : List Literal
   pub part : IsDeadPart instance tag.code literals fewer
@@ -60,4 +60,4 @@ pub record Concludes (instance : Instance) (literals : List Literal) (bound afte
 abbrev pub IsConcluded : {E : Type 0} → Instance → List Literal → BoundState → BoundState → LogState → LogState → Result Found E → Type 0
 IsConcluded instance literals bound after old new (Ok found) = Concludes instance literals bound after old new found
 IsConcluded instance literals bound after old new (Err e) =
-    ((after ≡ bound) × (new ≡ old)) ⊎ Offered instance literals bound after old new
+    ((after ≡ bound) × (new ≡ old)) ⊎ OffersPlan instance literals bound after old new

@@ -7,17 +7,17 @@ use Rattle.search_log.specs.declared.line.LogLine.{LogLine}
 use Rattle.search_log.specs.Contents.{content_of, known_row}
 use Rattle.search_log.specs.LogStates.{LogState}
 use Rattle.search_log.specs.Logs.{with_segment}
-use Rattle.search_log.specs.Shares.{IsServed, SharedState, known}
+use Rattle.search_log.specs.Shares.{IsServedContent, SharedState, known}
 
 -- a line says something that can be a row
-pub record IsShort (line : LogLine) : Type 0 where
+pub record IsShortLine (line : LogLine) : Type 0 where
   pub says : 0 < line.tag.code
   pub few : length line.lits ≤ 8
 
 -- the line at a place is one of the instance, and implied at its tag
 abbrev pub IsOfferable : Instance → List LogLine → ℕ → Type 0
 IsOfferable instance lines place = (line : LogLine) → slice_get lines place ≡ Some line →
-    IsTagFor instance line.tag × IsServed instance (content_of line)
+    IsTagFor instance line.tag × IsServedContent instance (content_of line)
 
 -- a segment ends with the last line, or the log is as it was for want of memory
 abbrev pub EndsBy : {T E : Type 0} → LogState → LogState → ℕ → Result T E → Type 0
@@ -29,7 +29,7 @@ pub record GotRow {T E : Type 0} (old new : SharedState) (log after : LogState) 
   pub row : ℕ
   pub line : LogLine
   pub last : slice_get log.lines place ≡ Some line
-  pub short : IsShort line
+  pub short : IsShortLine line
   pub published : new.published ≡ old.published ++ known_row row (content_of line) ∷ []
   pub above : All (λ other. other.number < row) (known old)
   pub ends : EndsBy log after row result
@@ -39,7 +39,7 @@ pub record GotNone {T E : Type 0} (old new : SharedState) (log after : LogState)
   pub published : new.published ≡ old.published
   pub log_same : after ≡ log
   pub went : IsOk result
-  pub refused : old.takes ≡ true → (line : LogLine) → slice_get log.lines place ≡ Some line → IsShort line → old.refusals < new.refusals
+  pub refused : old.takes ≡ true → (line : LogLine) → slice_get log.lines place ≡ Some line → IsShortLine line → old.refusals < new.refusals
 
 pub record IsPublished {T E : Type 0} (old new : SharedState) (log after : LogState) (place : ℕ) (result : Result T E) : Type 0 where
   pub copied : new.copied ≡ old.copied

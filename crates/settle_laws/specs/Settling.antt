@@ -14,13 +14,13 @@ use Rattle.search_log.specs.Contents.{Content, KnownRow, content_of, known_row}
 use Rattle.search_log.specs.declared.job.Outcome.{Outcome}
 use Rattle.search_log.specs.declared.job.Outcome.TheVariants.{Refuted, Moot, Spent}
 use Rattle.search_log.specs.Bounds.{floor, lowest}
-use Rattle.search_log.specs.Shares.{IsServed, known}
-use Rattle.settle_laws.specs.Founds.{IsOpen, IsSettledBy}
+use Rattle.search_log.specs.Shares.{IsServedContent, known}
+use Rattle.settle_laws.specs.Founds.{IsWanted, IsSettledBy}
 use Rattle.settle_laws.specs.Levels.{level_code}
 use Rattle.settle_laws.specs.Lined.{IsAtMostCount}
-use Rattle.settle_laws.specs.Published.{IsShort}
-use Rattle.settle_laws.specs.Ticks.{AreCounted, AreOffered, NoneWithin, Ticks}
-use Rattle.settle_laws.specs.Worlds.{Gains, IsGood, IsKeptRight, IsLeastOffered, KeepsAtMost, World}
+use Rattle.settle_laws.specs.Published.{IsShortLine}
+use Rattle.settle_laws.specs.Ticks.{HaveCountLines, AreOffered, NoneWithin, Ticks}
+use Rattle.settle_laws.specs.Worlds.{Gains, IsGoodWorld, IsKeptRight, IsLeastOffered, KeepsAtMost, World}
 
 -- the segments are of the rows, in their order
 abbrev pub AreHome : List KnownRow → List Segment → Type 0
@@ -56,8 +56,8 @@ pub record PublishesOne (old new : World) (content : Content) (row : ℕ) : Type
   pub above : All (λ other. other.number < row) (new.shared.copied ++ old.shared.published)
 
 -- a line that can be a row was published with its content, and ends a segment that was gained
-pub record IsHome (old new : World) (place : ℕ) (line : LogLine) : Type 0 where
-  pub short : IsShort line
+pub record IsHomeLine (old new : World) (place : ℕ) (line : LogLine) : Type 0 where
+  pub short : IsShortLine line
   pub row : ℕ
   pub publishes : PublishesOne old new (content_of line) row
   pub segments : new.log.segments ≡ old.log.segments ++ record { last = place; row = row } ∷ []
@@ -65,21 +65,21 @@ pub record IsHome (old new : World) (place : ℕ) (line : LogLine) : Type 0 wher
 -- a line was not published; where it can be a row and offers are taken, a refusal was counted
 pub record IsAway (old new : World) (line : LogLine) : Type 0 where
   pub none : PublishesNone old new
-  pub refused : old.shared.takes ≡ true → IsShort line → old.shared.refusals < new.shared.refusals
+  pub refused : old.shared.takes ≡ true → IsShortLine line → old.shared.refusals < new.shared.refusals
 
 -- a row was published with a content that lies within some literals and is implied, and no segment was kept for it
 pub record IsUnkept (instance : Instance) (literals : List Literal) (old new : World) : Type 0 where
   pub content : Content
   pub row : ℕ
   pub contained : HasAll literals content.lits
-  pub served : IsServed instance content
+  pub served : IsServedContent instance content
   pub publishes : PublishesOne old new content row
   pub segments : new.log.segments ≡ old.log.segments
 
 -- the line that settles a job is offered, and no row
-abbrev pub IsOffered : World → World → Ref → Type 0
-IsOffered old new (Own n) = (line : LogLine) × (slice_get new.log.lines n ≡ Some line) × (IsHome old new n line ⊎ IsAway old new line)
-IsOffered old new (Row r) = PublishesNone old new
+abbrev pub IsOfferedAsRow : World → World → Ref → Type 0
+IsOfferedAsRow old new (Own n) = (line : LogLine) × (slice_get new.log.lines n ≡ Some line) × (IsHomeLine old new n line ⊎ IsAway old new line)
+IsOfferedAsRow old new (Row r) = PublishesNone old new
 
 -- The log's lines are as before.
 abbrev pub IsCut : World → World → Type 0
@@ -87,7 +87,7 @@ IsCut old new = new.log.lines ≡ old.log.lines
 
 -- No fuel is left, and the lines are cut. There was less fuel than tries, and so less than prefixes that go on from the literals.
 pub record RunsOut (instance : Instance) (level : ℕ) (literals : List Literal) (old new : World) : Type 0 where
-  pub is_open : IsOpen level new.bound
+  pub is_open : IsWanted level new.bound
   pub empty : new.fuel ≡ 0
   pub cut : IsCut old new
   pub none : PublishesNone old new
@@ -113,7 +113,7 @@ OnRefuted (Err e) P = Unit {0}
 -- want of memory may a row have been published then.
 abbrev pub IsOutcome : {E : Type 0} → Instance → ℕ → List Literal → World → World → Result Outcome E → Type 0
 IsOutcome instance level literals old new (Ok (Refuted line tag)) = IsSettledBy instance level literals old new line tag.code
-    × IsOffered old new line
+    × IsOfferedAsRow old new line
     × (new.fuel ≡ old.fuel → IsAtMostCount instance literals old new)
 IsOutcome instance level literals old new (Ok (Moot seen)) = (seen.code ≡ new.bound.told) × (new.bound.told ≤ level_code level) × IsCut old new × PublishesNone old new
 IsOutcome instance level literals old new (Ok Spent) = RunsOut instance level literals old new
@@ -130,7 +130,7 @@ pub record Settles {E : Type 0} (instance : Instance) (level : ℕ) (literals : 
   pub refusals : old.shared.refusals ≤ new.shared.refusals
   pub lines : Gains old.log.lines new.log.lines
   pub few : length new.log.lines ≤ length old.log.lines + max 1 (old.fuel - new.fuel)
-  pub good : IsGood instance old → IsGood instance new
+  pub good : IsGoodWorld instance old → IsGoodWorld instance new
   pub began : new.bound.began ≡ old.bound.began
   pub tells : new.bound.told ≤ old.bound.told
   pub lowers : (tag : ℕ) → lowest tag new.bound.least ≤ lowest tag old.bound.least
@@ -144,5 +144,5 @@ pub record Settles {E : Type 0} (instance : Instance) (level : ℕ) (literals : 
   pub refused_count : length refused_at ≡ not_taken result
   pub ticks : Ticks instance level literals old new refused_at
   pub offered : OnOk result (AreOffered instance ticks.tried new.bound.least)
-  pub counted : OnRefuted result (AreCounted instance ticks.tried old.log.lines new.log.lines)
+  pub counted : OnRefuted result (HaveCountLines instance ticks.tried old.log.lines new.log.lines)
   pub fresh : 0 < length ticks.asked → NoneWithin level (known old.shared) literals

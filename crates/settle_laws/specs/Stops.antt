@@ -38,7 +38,7 @@ pub record IsUndecided (instance : Instance) (level : ℕ) (stop : Stop) : Type 
   pub alive : Dead instance (triple_from (target_code level stop.told)) stop.prefix → ⊥
 
 -- a prefix names a choice of every path, and they are an assignment that meets the imperative records
-pub record IsWhole (instance : Instance) (prefix : List Literal) (plan : List ℕ) : Type 0 where
+pub record IsWholePrefix (instance : Instance) (prefix : List Literal) (plan : List ℕ) : Type 0 where
   pub full : length prefix ≡ length instance.paths
   pub feasible : IsFeasible instance plan
   pub extends : Extends plan prefix
@@ -47,7 +47,7 @@ pub record IsWhole (instance : Instance) (prefix : List Literal) (plan : List �
 pub record Precedes (instance : Instance) (earlier later : Stop) : Type 0 where
   pub told : later.told ≤ earlier.told
   pub copied : All (Contains later.copied) earlier.copied
-  pub cost : (plan : List ℕ) → IsWhole instance earlier.prefix plan → later.told ≤ code_of (cost instance plan)
+  pub cost : (plan : List ℕ) → IsWholePrefix instance earlier.prefix plan → later.told ≤ code_of (cost instance plan)
 
 -- it told no more than what had been told and offered, and all rows that were known had been copied
 pub record ComesAfter (old : World) (stop : Stop) : Type 0 where

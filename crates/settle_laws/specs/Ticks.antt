@@ -11,7 +11,7 @@ use Rattle.tries_laws.specs.TriesLaws.{AreTried}
 use Rattle.search_log.specs.declared.line.LogLine.{LogLine}
 use Rattle.search_log.specs.Contents.{KnownRow}
 use Rattle.settle_laws.specs.Levels.{level_code}
-use Rattle.settle_laws.specs.Stops.{AreStops, IsUndecided, IsWhole, NoneFits, stop_at}
+use Rattle.settle_laws.specs.Stops.{AreStops, IsUndecided, IsWholePrefix, NoneFits, stop_at}
 use Rattle.settle_laws.specs.Worlds.{KeepsAtMost, World}
 
 -- no row lies within some literals at a tag of at least the level's target
@@ -29,7 +29,7 @@ pub record OffersCost (instance : Instance) (tried : List (List Literal)) (new :
   pub plan : List ℕ
   pub prefix : List Literal
   pub ticked : Contains tried prefix
-  pub whole : IsWhole instance prefix plan
+  pub whole : IsWholePrefix instance prefix plan
   pub offered : new.bound.least ≡ Some (code_of (cost instance plan))
   pub kept : KeepsAtMost new.log.best (code_of (cost instance plan))
 
@@ -41,7 +41,7 @@ OfferedAtMost (Some least) tag = least ≤ tag
 -- the cost of each assignment that is one of some prefixes was offered, or less
 abbrev pub AreOffered : Instance → List (List Literal) → Option ℕ → Type 0
 AreOffered instance tried least =
-    All (λ prefix. (plan : List ℕ) → IsWhole instance prefix plan → OfferedAtMost least (code_of (cost instance plan))) tried
+    All (λ prefix. (plan : List ℕ) → IsWholePrefix instance prefix plan → OfferedAtMost least (code_of (cost instance plan))) tried
 
 -- a Count line at so much was gained, within a prefix
 pub record GainsCount (old new : List LogLine) (prefix : List Literal) (code : ℕ) : Type 0 where
@@ -54,9 +54,9 @@ pub record GainsCount (old new : List LogLine) (prefix : List Literal) (code : �
   pub within : HasAll prefix line.lits
 
 -- each assignment that is one of some prefixes has a Count line at its cost
-abbrev pub AreCounted : Instance → List (List Literal) → List LogLine → List LogLine → Type 0
-AreCounted instance tried old new =
-    All (λ prefix. (plan : List ℕ) → IsWhole instance prefix plan → GainsCount old new prefix (code_of (cost instance plan))) tried
+abbrev pub HaveCountLines : Instance → List (List Literal) → List LogLine → List LogLine → Type 0
+HaveCountLines instance tried old new =
+    All (λ prefix. (plan : List ℕ) → IsWholePrefix instance prefix plan → GainsCount old new prefix (code_of (cost instance plan))) tried
 
 -- The prefixes at which ticks fell, in order, as many as the fuel fell by; and behind them those at which fuel was refused. They
 -- go on from a prefix, each once and behind the one that is one shorter, none dead at the level's target (as the law of tries
@@ -84,4 +84,4 @@ pub record TicksBelow (instance : Instance) (level : ℕ) (prefix : List Literal
   pub begins : Contains ticks.asked prefix
   pub each : All (IsEarlier prefix path index) ticks.asked
   pub offered : AreOffered instance ticks.tried new.bound.least
-  pub counted : AreCounted instance ticks.tried old.log.lines new.log.lines
+  pub counted : HaveCountLines instance ticks.tried old.log.lines new.log.lines

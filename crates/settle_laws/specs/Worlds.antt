@@ -12,7 +12,7 @@ use Rattle.search_log.specs.Segments.{IsGoodLog}
 use Rattle.search_log.specs.declared.log.KeptPlan.{KeptPlan}
 use Rattle.search_log.specs.Bounds.{BoundState, floor, lowest}
 use Rattle.search_log.specs.LogStates.{LogState}
-use Rattle.search_log.specs.Shares.{IsServed, SharedState, known}
+use Rattle.search_log.specs.Shares.{IsServedContent, SharedState, known}
 
 -- the fuel, the bound, the shared rows and the log
 pub record World : Type 0 where
@@ -26,11 +26,11 @@ world fuel bound shared log = record { fuel = fuel; bound = bound; shared = shar
 
 -- each line from some place on has literals of the instance, and is implied at its tag, which is one of it
 abbrev pub AreServed : Instance → ℕ → List LogLine → Type 0
-AreServed instance from lines = (n : ℕ) (line : LogLine) → from ≤ n → slice_get lines n ≡ Some line → IsServed instance (content_of line) × IsTagFor instance line.tag
+AreServed instance from lines = (n : ℕ) (line : LogLine) → from ≤ n → slice_get lines n ≡ Some line → IsServedContent instance (content_of line) × IsTagFor instance line.tag
 
 -- the log is good over the rows that are known
-abbrev pub IsGood : Instance → World → Type 0
-IsGood instance w = IsGoodLog instance (known w.shared) w.log.lines w.log.segments
+abbrev pub IsGoodWorld : Instance → World → Type 0
+IsGoodWorld instance w = IsGoodLog instance (known w.shared) w.log.lines w.log.segments
 
 -- a Count line has no references
 abbrev pub IsPlain : LogLine → Type 0
@@ -70,7 +70,7 @@ pub record Keeps (instance : Instance) (old new : World) : Type 0 where
   pub lines : Gains old.log.lines new.log.lines
   pub served : AreServed instance (length old.log.lines) new.log.lines
   pub segments : new.log.segments ≡ old.log.segments
-  pub good : IsGood instance old → IsGood instance new
+  pub good : IsGoodWorld instance old → IsGoodWorld instance new
   pub began : new.bound.began ≡ old.bound.began
   pub tells : new.bound.told ≤ old.bound.told
   pub lowers : (tag : ℕ) → lowest tag new.bound.least ≤ lowest tag old.bound.least

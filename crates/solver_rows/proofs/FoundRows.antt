@@ -14,7 +14,7 @@ use Rattle.search_log.specs.declared.line.Ref.TheVariants.{Own}
 use Rattle.search_log.specs.Contents.{Content, KnownRow, content_of}
 use Rattle.search_log.specs.declared.job.Outcome.{Outcome}
 use Rattle.search_log.specs.declared.job.Outcome.TheVariants.{Refuted}
-use Rattle.search_log.specs.Shares.{IsServed}
+use Rattle.search_log.specs.Shares.{IsServedContent}
 use Rattle.settle_laws.specs.Founds.{IsRefuted}
 use Rattle.settle_laws.specs.Settling.{IsOutcome}
 use Rattle.settle_laws.specs.Worlds.{World}
@@ -36,7 +36,7 @@ module _ (instance : Instance) (rows : List KnownRow) (lines : List LogLine) (n 
   none : h.content.lits ≡ []
   none = no-literals h.content.lits h.contained
 
-  served-alone : IsServed instance (record { tag = line.tag.code; lits = [] })
+  served-alone : IsServedContent instance (record { tag = line.tag.code; lits = [] })
   served-alone = record {
     lits = subst (AreLiterals instance) none h.served.lits;
     implied = subst (λ lits. Implied instance (triple_from line.tag.code) lits) none (subst (λ (c : Content). Implied instance (triple_from c.tag) h.content.lits) content-is h.served.implied);
@@ -45,10 +45,10 @@ module _ (instance : Instance) (rows : List KnownRow) (lines : List LogLine) (n 
 -- what a job without literals comes to, where its line is read
 pub row-alone : (E : Type 0) (instance : Instance) (level : ℕ) (literals : List Literal) (old new : World) (outcome : Outcome) (ref : Ref) (tag : Tag) (n : ℕ) (read : List LogLine) (line : LogLine) →
     IsOutcome {E = E} instance level literals old new (Ok outcome) → outcome ≡ Refuted ref tag → ref ≡ Own n → literals ≡ [] → read ≡ new.log.lines → line ≡ get_or read n line →
-    IsServed instance (record { tag = (get_or read n line).tag.code; lits = [] })
+    IsServedContent instance (record { tag = (get_or read n line).tag.code; lits = [] })
 row-alone E instance level literals old new outcome ref tag n read line is refuted own none same there =
     let first = subst (λ o. IsOutcome {E = E} instance level literals old new (Ok o)) refuted is in
     let second = subst (λ r. IsOutcome {E = E} instance level literals old new (Ok (Refuted r tag))) own first in
     let h : IsOutcome {E = E} instance level [] old new (Ok (Refuted (Own n) tag)) = subst (λ l. IsOutcome {E = E} instance level l old new (Ok (Refuted (Own n) tag))) none second in
-    subst (λ (l : LogLine). IsServed instance (record { tag = l.tag.code; lits = [] })) there
+    subst (λ (l : LogLine). IsServedContent instance (record { tag = l.tag.code; lits = [] })) there
     (served-alone instance new.shared.copied new.log.lines n tag.code line h.0.refuted (read-at read new.log.lines n line same (omega (arith, h.0.last.1)) there))

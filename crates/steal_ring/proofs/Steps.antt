@@ -17,8 +17,8 @@ use Rattle.seat_laws.proofs.Views.{each_set, each_split, each_join, shared_set, 
 use Rattle.seat_laws.proofs.Sums.{sum_set, sum_more, one_within}
 use Rattle.steal_ring.specs.declared.view.RingView.{RingView}
 use Rattle.steal_ring.specs.Jobs.{Words, IsRing, word, is_spent, share_of, once, times, wins, kept_half, given_half, after_join, spent_view, after_win, after_miss}
-use Rattle.steal_ring.specs.Steps.{Takes, HasPart}
-use Rattle.steal_ring.specs.Seats.{IsWhole}
+use Rattle.steal_ring.specs.Steps.{TakesJob, HasPart}
+use Rattle.steal_ring.specs.Seats.{IsWholeRing}
 
 -- how often a live seat won a job
 wins_live : (q : ℕ) (v : RingView) → v.spent ≡ false → part_of is_spent (wins q) v ≡ times q v.won
@@ -77,7 +77,7 @@ taken_kept jobs s b id v job l lt =
           found),
     )
 
-pub takes : (jobs slots id : ℕ) (me : Me (Unit {0}) RingView) (job : ℕ) → me.0.spent ≡ false → job < jobs → Allows (IsRing jobs) slots id me job (λ _. 1) (Takes (step slots job 1 0 none) me)
+pub takes : (jobs slots id : ℕ) (me : Me (Unit {0}) RingView) (job : ℕ) → me.0.spent ≡ false → job < jobs → Allows (IsRing jobs) slots id me job (λ _. 1) (TakesJob (step slots job 1 0 none) me)
 takes jobs slots id me job un lt s b _ at _ =
     let v : RingView = me.0 in
     let l : Live is_spent s.views id v = live_me s id v un at in
@@ -131,7 +131,7 @@ has_part jobs slots id me un s b _ at _ =
     )
 
 -- who has the whole share won what was won
-pub closes : (jobs id : ℕ) (v : RingView) (words : List ℕ) (slots : List (Unit {0})) → v.spent ≡ false → v.share ≡ WHOLE_SHARE → Final (Seen (IsRing jobs) id v) words slots → IsWhole v
+pub closes : (jobs id : ℕ) (v : RingView) (words : List ℕ) (slots : List (Unit {0})) → v.spent ≡ false → v.share ≡ WHOLE_SHARE → Final (Seen (IsRing jobs) id v) words slots → IsWholeRing v
 closes jobs id v words slots un all f =
     let s : Words = f.0 in
     let b : IsRing jobs s = f.1.0 in

@@ -31,8 +31,8 @@ abbrev pub IsListed : Hand → ℕ → Type 0
 IsListed hand job = (job % hand.workers ≡ hand.number) ⊎ (job % hand.workers ≡ hand.neighbour)
 
 -- each job of both lists was given to this hand, or was found taken by it
-abbrev pub IsDone : Hand → Type 0
-IsDone hand = (job : ℕ) → job < hand.jobs → IsListed hand job → 0 < times job (found_of hand)
+abbrev pub IsHandDone : Hand → Type 0
+IsHandDone hand = (job : ℕ) → job < hand.jobs → IsListed hand job → 0 < times job (found_of hand)
 
 -- as many hands as workers, by their number
 pub record IsDealt (jobs : ℕ) (hands : List Hand) : Type 0 where

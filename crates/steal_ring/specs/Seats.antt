@@ -18,7 +18,7 @@ abbrev pub IsSameSeat : RingSeat → RingSeat → Type 0
 IsSameSeat seat other = other.seat.table_id ≡ seat.seat.table_id
 
 -- no job was won twice, and each job that was found was won
-pub record IsWhole (v : RingView) : Type 0 where
+pub record IsWholeRing (v : RingView) : Type 0 where
   pub most : (job : ℕ) → times job v.won ≤ 1
   pub found : (job : ℕ) → Contains v.found job → times job v.won ≡ 1
 

@@ -3,7 +3,7 @@ ghost use Rattle.std.specs.Prelude.{◌≡◌, ℕ, ◌<◌, All};
 ghost use Rattle.seat_laws.specs.declared.TheConstants.{WHOLE_SHARE};
 ghost use Rattle.steal_ring.specs.Jobs.{after_join};
 ghost use Rattle.steal_ring.specs.Seats.{view_of, IsSeatOf, IsSameSeat};
-ghost use Rattle.steal_ring.specs.Hands.{shares_of, times_given, IsHandOf, IsDone, IsDealt};
+ghost use Rattle.steal_ring.specs.Hands.{shares_of, times_given, IsHandOf, IsHandDone, IsDealt};
 
 use crate::hand::Hand;
 use crate::seat::{Ring, RingSeat};
@@ -34,7 +34,7 @@ impl Ring {
         requires own { All (IsHandOf self) hands.items }
         requires shares { shares_of hands.items ≡ WHOLE_SHARE }
         requires dealt { IsDealt self.jobs hands.items }
-        requires done { All IsDone hands.items }
+        requires done { All IsHandDone hands.items }
         ensures { (job : ℕ) → job < self.jobs → times_given job hands.items ≡ 1 }
     {
         let mut hands = hands;

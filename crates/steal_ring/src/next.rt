@@ -3,7 +3,7 @@ ghost use Rattle.std.specs.Prelude.{◌≡◌, ◌⊎◌, ℕ, ◌<◌, ◌≤�
 ghost use Rattle.steal_ring.specs.Jobs.{times};
 ghost use Rattle.steal_ring.specs.Lists.{IsGiven, IsSwapped};
 ghost use Rattle.steal_ring.specs.Seats.{view_of, IsSeatOf, IsSameSeat};
-ghost use Rattle.steal_ring.specs.Hands.{won_of, found_of, IsHandOf, IsSameHand, IsListed, IsDone};
+ghost use Rattle.steal_ring.specs.Hands.{won_of, found_of, IsHandOf, IsSameHand, IsListed, IsHandDone};
 
 use crate::hand::Hand;
 use crate::seat::{Ring, RingSeat};
@@ -40,7 +40,7 @@ impl Ring {
         ensures first { IfSome result (λ job. (job % hand.old.workers ≡ hand.old.number) ⊎ ((other : ℕ) → other < self.now.jobs → other % hand.old.workers ≡ hand.old.number → 0 < times other (found_of hand.new))) }
         ensures order { IfSome result (λ job. (earlier : ℕ) → earlier < job → earlier % hand.old.workers ≡ job % hand.old.workers → 0 < times earlier (found_of hand.new)) }
         ensures once { IfSome result (λ job. times job (found_of hand.old) ≡ 0) }
-        ensures none { IfNone result ((won_of hand.new ≡ won_of hand.old) × IsDone hand.new) }
+        ensures none { IfNone result ((won_of hand.new ≡ won_of hand.old) × IsHandDone hand.new) }
     {
         let (own, job) = self.advance(&mut hand.seat, hand.workers, hand.number, hand.own);
         hand.own = own;

@@ -6,9 +6,9 @@ use atomic_table::{Join, Play, Split};
 pub struct Take;
 
 impl Play<(), RingView> for Take {
-    ghost use Rattle.steal_ring.specs.Steps.{Takes};
+    ghost use Rattle.steal_ring.specs.Steps.{TakesJob};
 
-    ghost then = { Takes };
+    ghost then = { TakesJob };
 }
 
 /// A load that is made for the share alone.

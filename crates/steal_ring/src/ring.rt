@@ -2,7 +2,7 @@
 ghost use Rattle.std.specs.Prelude.{◌≡◌, ◌<◌, ◌≤◌, IfOk, MatchBool};
 ghost use Rattle.seat_laws.specs.declared.TheConstants.{WHOLE_SHARE};
 ghost use Rattle.steal_ring.specs.Jobs.{first_view, given_half, kept_half, after_miss, after_win, after_join};
-ghost use Rattle.steal_ring.specs.Seats.{view_of, IsSeatOf, IsSameSeat, IsWhole};
+ghost use Rattle.steal_ring.specs.Seats.{view_of, IsSeatOf, IsSameSeat, IsWholeRing};
 
 use crate::plays::{Halve, Share, Take, Unite};
 use crate::seat::{Ring, RingSeat};
@@ -86,7 +86,7 @@ impl Ring {
     pub(crate) fn end(self, seat: RingSeat)
         requires own { IsSeatOf self seat }
         requires share { (view_of seat).share ≡ WHOLE_SHARE }
-        ensures { IsWhole (view_of seat) }
+        ensures { IsWholeRing (view_of seat) }
     {
         let Ring { table, jobs: _ } = self;
         let RingSeat { seat, share: _ } = seat;

@@ -12,7 +12,7 @@ use Rattle.nogood.specs.declared.row.Published.TheVariants.{Home}
 use Rattle.search_log.specs.declared.job.Outcome.{Outcome}
 use Rattle.search_log.specs.LogStates.{LogState}
 use Rattle.search_log.specs.Logs.{with_segment}
-use Rattle.search_log.specs.Shares.{Offered, SharedState}
+use Rattle.search_log.specs.Shares.{OffersRow, SharedState}
 use Rattle.settle_laws.specs.declared.found.Found.{Found}
 use Rattle.settle_laws.specs.declared.found.Found.TheVariants.{Settled}
 use Rattle.settle_laws.specs.Settling.{Settles}
@@ -37,7 +37,7 @@ ends-by log after row (Ok u) ok err = ok
 ends-by log after row (Err e) ok err = err
 
 -- a row was drawn
-pub home-published : {T E : Type 0} → (old new : SharedState) (log after : LogState) (place row : ℕ) (line : LogLine) (result : Result T E) → slice_get log.lines place ≡ Some line → 0 < line.tag.code → Offered old new line.lits line.tag.code (Home row) →
+pub home-published : {T E : Type 0} → (old new : SharedState) (log after : LogState) (place row : ℕ) (line : LogLine) (result : Result T E) → slice_get log.lines place ≡ Some line → 0 < line.tag.code → OffersRow old new line.lits line.tag.code (Home row) →
     OnOk result (after ≡ with_segment log row) → OnErr result (after ≡ log) → IsPublished old new log after place result
 home-published old new log after place row line result last says offered ok err = record {
   copied = offered.copied;

@@ -35,7 +35,7 @@ use Rattle.settle_laws.specs.Lines.{IsLined}
 use Rattle.settle_laws.specs.Explained.{Explains, IsClosedBy, IsDeadPart, StaysFor}
 use Rattle.settle_laws.proofs.Adding.{has-cons, has-front, has-same, has-trans, pairs-join}
 use Rattle.settle_laws.proofs.LineParts.{names-same, with-literal}
-use Rattle.subtree_search.specs.Explaining.{IsAsked, IsFree}
+use Rattle.subtree_search.specs.Explaining.{IsNodeToExplain, IsOffPath}
 
 -- a choice that isn't left at the tag's level is dead
 pub left-dead : (instance : Instance) (literals : List Literal) (a : Literal) (code level : ℕ) → IsInstance instance → IsPartial instance (a ∷ literals) → level ≡ mode_level (triple_from code) → (RemainsAt instance level literals a → ⊥) → Dead instance (triple_from code) (a ∷ literals)
@@ -63,11 +63,11 @@ dead-with instance literals path choice code valid partial small below apart dea
     (with-literal instance literals path choice partial small below apart) (has-front (literal path choice) literals) dead
 
 -- a node has at most 2^16 choices
-pub asked-few : (instance : Instance) (literals : List Literal) (node : Node) → IsAsked instance literals node → node.count ≤ 2 ^ 16
+pub asked-few : (instance : Instance) (literals : List Literal) (node : Node) → IsNodeToExplain instance literals node → node.count ≤ 2 ^ 16
 asked-few instance literals node asked = omega (arith, few_choices instance asked.valid node.path asked.small, asked.counted)
 
 -- fewer literals are asked about in the same way
-pub asked-fewer : (instance : Instance) (literals fewer : List Literal) (node : Node) → IsAsked instance literals node → IsPartial instance fewer → HasAll literals fewer → IsAsked instance fewer node
+pub asked-fewer : (instance : Instance) (literals fewer : List Literal) (node : Node) → IsNodeToExplain instance literals node → IsPartial instance fewer → HasAll literals fewer → IsNodeToExplain instance fewer node
 asked-fewer instance literals fewer node asked partial within = record {
   valid = asked.valid;
   partial = partial;
@@ -153,22 +153,22 @@ module _ (instance : Instance) (literals pushed : List Literal) (whole : IsParti
   again-within : HasAll literals again
   again-within = All-append (Contains literals) (other_paths a.path pushed) (a ∷ []) (has-trans (other_paths a.path pushed) pushed literals (others-within pushed a.path) within) (All-cons (Contains literals) a [] m (All-nil (Contains literals)))
 
-module _ (instance : Instance) (cites : List Cite) (lines : List LogLine) (literals pushed : List Literal) (node : Node) (asked : IsAsked instance literals node) (why : Explains instance cites lines literals pushed node) where
+module _ (instance : Instance) (cites : List Cite) (lines : List LogLine) (literals pushed : List Literal) (node : Node) (asked : IsNodeToExplain instance literals node) (why : Explains instance cites lines literals pushed node) where
   module _ (path : ℕ) where
-    free-stays : (ref : Ref) → IsFree cites lines path ref → StaysFor cites lines literals pushed ref → StaysFor cites lines literals (other_paths path pushed) ref
+    free-stays : (ref : Ref) → IsOffPath cites lines path ref → StaysFor cites lines literals pushed ref → StaysFor cites lines literals (other_paths path pushed) ref
     free-stays (Own n) free stay = λ line at a m l. others-has pushed path a (stay line at a m l) (none-member (λ (x : Literal). eqb x.path path) line.lits (free line at) a m)
     free-stays (Row r) free stay = λ a may l. others-has pushed path a (stay a may l) (none-member (λ (x : Literal). eqb x.path path) (row_literals free.0.content) free.2 a (may free.0 free.1.0 free.1.1))
 
-    pub asked-without : IsAsked instance (other_paths path pushed) node
+    pub asked-without : IsNodeToExplain instance (other_paths path pushed) node
     asked-without = asked-fewer instance literals (other_paths path pushed) node asked (others-partial instance pushed path why.partial)
         (has-trans (other_paths path pushed) pushed literals (others-within pushed path) why.within)
 
-    pub explains-without : All (λ (r : ChoiceRef). IsFree cites lines path r.line) node.refs → IsClosedBy instance (other_paths path pushed) node → Explains instance cites lines literals (other_paths path pushed) node
+    pub explains-without : All (λ (r : ChoiceRef). IsOffPath cites lines path r.line) node.refs → IsClosedBy instance (other_paths path pushed) node → Explains instance cites lines literals (other_paths path pushed) node
     explains-without free closed = record {
       partial = others-partial instance pushed path why.partial;
       within = has-trans (other_paths path pushed) pushed literals (others-within pushed path) why.within;
       stay = All-from_members (λ (r : ChoiceRef). StaysFor cites lines literals (other_paths path pushed) r.line) node.refs (λ r m.
-          free-stays r.line (All-contains (λ (x : ChoiceRef). IsFree cites lines path x.line) node.refs r free m) (All-contains (λ (x : ChoiceRef). StaysFor cites lines literals pushed x.line) node.refs r why.stay m));
+          free-stays r.line (All-contains (λ (x : ChoiceRef). IsOffPath cites lines path x.line) node.refs r free m) (All-contains (λ (x : ChoiceRef). StaysFor cites lines literals pushed x.line) node.refs r why.stay m));
       closed = closed;
     }
 
@@ -206,7 +206,7 @@ module _ (instance : Instance) (cites : List Cite) (lines : List LogLine) (liter
     }
 
 -- all literals explain
-pub explains-all : (instance : Instance) (cites : List Cite) (lines : List LogLine) (literals : List Literal) (node : Node) → IsAsked instance literals node → IsClosedBy instance literals node → Explains instance cites lines literals literals node
+pub explains-all : (instance : Instance) (cites : List Cite) (lines : List LogLine) (literals : List Literal) (node : Node) → IsNodeToExplain instance literals node → IsClosedBy instance literals node → Explains instance cites lines literals literals node
 explains-all instance cites lines literals node asked closed = record {
   partial = asked.partial;
   within = has-same literals;

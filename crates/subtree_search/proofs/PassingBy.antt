@@ -15,7 +15,7 @@ use Rattle.settle_laws.specs.Noted.{by_choice}
 use Rattle.settle_laws.specs.Passed.{Passes}
 use Rattle.settle_laws.specs.Worlds.{AreServed}
 use Rattle.settle_laws.proofs.Passing.{cited-next, dead-next}
-use Rattle.subtree_search.specs.Explaining.{IsAsked}
+use Rattle.subtree_search.specs.Explaining.{IsNodeToExplain}
 use Rattle.subtree_search.specs.Recalling.{IsRecalled}
 use Rattle.search_log.specs.declared.line.LogLine.{LogLine}
 use Rattle.std.specs.List.{slice_get}
@@ -40,7 +40,7 @@ passes-trans instance first literals log a b c p q = record {
   goes = λ level limit entered now prefix log_is served trying. q.goes level limit entered now prefix log_is served (p.goes level limit entered now prefix log_is served trying);
 }
 
-pub asked-passed : (instance : Instance) (first : ℕ) (literals : List Literal) (log : LogState) (old new : Node) → IsAsked instance literals old → Passes instance first literals log old new → IsAsked instance literals new
+pub asked-passed : (instance : Instance) (first : ℕ) (literals : List Literal) (log : LogState) (old new : Node) → IsNodeToExplain instance literals old → Passes instance first literals log old new → IsNodeToExplain instance literals new
 asked-passed instance first literals log old new asked p = record {
   valid = asked.valid;
   partial = asked.partial;
@@ -50,7 +50,7 @@ asked-passed instance first literals log old new asked p = record {
   apart = subst (λ n. names literals n ≡ false) (sym p.path_is) asked.apart;
 }
 
-module _ (instance : Instance) (first : ℕ) (literals : List Literal) (log : LogState) (node : Node) (asked : IsAsked instance literals node) (more : node.choice < node.count) (new : Node) (tag_is : new.tag ≡ node.tag) (path_is : new.path ≡ node.path) (count_is : new.count ≡ node.count) (choice_is : new.choice ≡ node.choice + 1) where
+module _ (instance : Instance) (first : ℕ) (literals : List Literal) (log : LogState) (node : Node) (asked : IsNodeToExplain instance literals node) (more : node.choice < node.count) (new : Node) (tag_is : new.tag ≡ node.tag) (path_is : new.path ≡ node.path) (count_is : new.count ≡ node.count) (choice_is : new.choice ≡ node.choice + 1) where
   pub dead-passes : Dead instance (triple_from node.tag.code) (literal node.path node.choice ∷ literals) → new.refs ≡ node.refs → Passes instance first literals log node new
   dead-passes dead refs_are = record {
     tag_is = tag_is;

@@ -24,7 +24,7 @@ use Rattle.dead_laws.proofs.DeadTests.{arcs-of}
 use Rattle.dead_laws.proofs.Growing.{added-grows, names-more, pair-grows}
 use Rattle.dead_laws.proofs.PairSums.{parts-at_most}
 use Rattle.dead_laws.proofs.Picks.{head-not-named}
-use Rattle.choice_counts.specs.CountedSums.{IsBound, IsCalm, IsLeastAt, IsLeastSum}
+use Rattle.choice_counts.specs.CountedSums.{IsCountedSum, IsCalm, IsLeastAt, IsLeastSum}
 use Rattle.choice_counts.proofs.Bounds.{further_most, open_part, total_most}
 use Rattle.choice_counts.proofs.Calm.{bound_is, one_least}
 use Rattle.choice_counts.proofs.Coded.{code-at_most}
@@ -59,7 +59,7 @@ module _ (instance : Instance) (level : ℕ) (valid : IsInstance instance) (with
 -- ---- with a choice more
 
 module _ (instance : Instance) (valid : IsInstance instance) (t : Triple) (tag : IsTagOf instance t) (some : IsTrue (has_limit t)) (fits : t.s < S_SPAN) (literals : List Literal) (partial : IsPartial instance literals) (a : Literal) (longer : IsPartial instance (a ∷ literals))
-    (n : ℕ) (bound : IsBound instance (mode_level t) literals n) (pair : Pair) (least : IsLeastAt instance (mode_level t) literals a.path pair) (high : pair_code (limit_of t) + pair_code pair ≤ n + pair_code (added_pair instance (mode_level t) literals a)) where
+    (n : ℕ) (bound : IsCountedSum instance (mode_level t) literals n) (pair : Pair) (least : IsLeastAt instance (mode_level t) literals a.path pair) (high : pair_code (limit_of t) + pair_code pair ≤ n + pair_code (added_pair instance (mode_level t) literals a)) where
   level : ℕ
   level = mode_level t
 
@@ -109,7 +109,7 @@ module _ (instance : Instance) (valid : IsInstance instance) (t : Triple) (tag :
       (omega (arith, code-is, high))
 
   -- where the literals with the choice are calm, their sum is no less
-  module _ (m : ℕ) (other : IsBound instance (mode_level t) (a ∷ literals) m) where
+  module _ (m : ℕ) (other : IsCountedSum instance (mode_level t) (a ∷ literals) m) where
     has : HasAll (a ∷ literals) literals
     has = All-from_members (Contains (a ∷ literals)) literals (λ b k. behind a literals b k)
 
@@ -151,9 +151,9 @@ module _ (instance : Instance) (valid : IsInstance instance) (t : Triple) (tag :
 
 -- as the counts of a level tell it
 pub over-sum : (instance : Instance) (valid : IsInstance instance) (code : ℕ) (tag : IsTagOf instance (triple_from code)) (level : ℕ) → level ≡ mode_level (triple_from code) → 0 < (triple_from code).v →
-    (literals : List Literal) (partial : IsPartial instance literals) (a : Literal) (longer : IsPartial instance (a ∷ literals)) (n : ℕ) → IsBound instance level literals n → (m : ℕ) → IsLeastSum instance level literals a.path (Some m) →
+    (literals : List Literal) (partial : IsPartial instance literals) (a : Literal) (longer : IsPartial instance (a ∷ literals)) (n : ℕ) → IsCountedSum instance level literals n → (m : ℕ) → IsLeastSum instance level literals a.path (Some m) →
     (w : ℕ) → w ≡ pair_code (added_pair instance level literals a) → pair_code (limit_of (triple_from code)) + m ≤ n + w → Dead instance (triple_from code) (a ∷ literals)
 over-sum instance valid code tag level same some literals partial a longer n bound m least w added-is high =
     let l = subst (λ k. IsLeastSum instance k literals a.path (Some m)) same least in
     let w-is : w ≡ pair_code (added_pair instance (mode_level (triple_from code)) literals a) = added-is ∙ ap (λ k. pair_code (added_pair instance k literals a)) same in
-    sum-dead instance valid (triple_from code) tag (lt-ltb 0 (triple_from code).v some) (omega arith) literals partial a longer n (subst (λ k. IsBound instance k literals n) same bound) l.0 l.1 (omega (arith, high, w-is, l.2))
+    sum-dead instance valid (triple_from code) tag (lt-ltb 0 (triple_from code).v some) (omega arith) literals partial a longer n (subst (λ k. IsCountedSum instance k literals n) same bound) l.0 l.1 (omega (arith, high, w-is, l.2))

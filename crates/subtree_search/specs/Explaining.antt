@@ -15,7 +15,7 @@ use Rattle.settle_laws.specs.declared.node.Node.{Node}
 use Rattle.subtree_search.specs.Recalling.{IsSeen}
 
 -- a node of a further path of the instance, with a tag of it
-pub record IsAsked (instance : Instance) (literals : List Literal) (node : Node) : Type 0 where
+pub record IsNodeToExplain (instance : Instance) (literals : List Literal) (node : Node) : Type 0 where
   pub valid : IsInstance instance
   pub partial : IsPartial instance literals
   pub tag : IsTagFor instance node.tag
@@ -24,6 +24,6 @@ pub record IsAsked (instance : Instance) (literals : List Literal) (node : Node)
   pub apart : names literals node.path ≡ false
 
 -- a line doesn't name a path, nor does a row, by what a look-up gave under its number
-abbrev pub IsFree : List Cite → List LogLine → ℕ → Ref → Type 0
-IsFree cites lines path (Own n) = (line : LogLine) → slice_get lines n ≡ Some line → names line.lits path ≡ false
-IsFree cites lines path (Row r) = (cite : Cite) × IsSeen cites r cite × (names (row_literals cite.content) path ≡ false)
+abbrev pub IsOffPath : List Cite → List LogLine → ℕ → Ref → Type 0
+IsOffPath cites lines path (Own n) = (line : LogLine) → slice_get lines n ≡ Some line → names line.lits path ≡ false
+IsOffPath cites lines path (Row r) = (cite : Cite) × IsSeen cites r cite × (names (row_literals cite.content) path ≡ false)

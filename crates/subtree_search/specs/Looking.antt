@@ -9,11 +9,11 @@ use Rattle.settle_laws.specs.declared.found.Found.{Found}
 use Rattle.settle_laws.specs.declared.node.Node.{Node}
 use Rattle.settle_laws.specs.Explained.{Explains, IsClosedBy}
 use Rattle.settle_laws.specs.Lines.{AddsLine}
-use Rattle.subtree_search.specs.Explaining.{IsAsked}
+use Rattle.subtree_search.specs.Explaining.{IsNodeToExplain}
 
 -- a node of a further path at a tag, with no choice left to try and nothing noted of any
 pub record IsBare (instance : Instance) (literals : List Literal) (tag : Tag) (node : Node) : Type 0 where
-  pub asked : IsAsked instance literals node
+  pub asked : IsNodeToExplain instance literals node
   pub tag_is : node.tag ≡ tag
   pub done : node.choice ≡ node.count
   pub none : node.refs ≡ []

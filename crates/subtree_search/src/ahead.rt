@@ -5,7 +5,7 @@ ghost use Rattle.fapp_model.specs.Instances.{IsInstance};
 ghost use Rattle.fapp_model.specs.search.Partials.{IsPartial, names};
 ghost use Rattle.fapp_model.specs.search.Prefixes.{IsPrefix};
 ghost use Rattle.fapp_model.specs.search.WorkOrder.{work_order};
-ghost use Rattle.subtree_search.specs.Explaining.{IsAsked};
+ghost use Rattle.subtree_search.specs.Explaining.{IsNodeToExplain};
 ghost use Rattle.subtree_search.specs.Looking.{IsBare, IsShut, LooksAhead};
 
 use crate::explain::{Scratch, add_explained, is_closed};
@@ -41,7 +41,7 @@ fn bare_node(alloc: Global, forward: &Forward, tag: Tag, path: u16) -> Node
 
 /// Whether few choices of a node's path are left, and not all.
 fn has_few_left(forward: &Forward, node: &Node) -> bool
-    requires asked { IsAsked forward.now.instance forward.now.pushed node.now }
+    requires asked { IsNodeToExplain forward.now.instance forward.now.pushed node.now }
 {
     let mut more = FEW;
     let mut some_gone = false;

@@ -6,9 +6,9 @@ ghost use Rattle.fapp_model.specs.Levels.{levels_of};
 ghost use Rattle.fapp_model.specs.search.Prefixes.{IsPrefix};
 ghost use Rattle.search_log.specs.declared.shared.Cite.{Cite as SomeCite};
 ghost use Rattle.search_log.specs.LogStates.{LogState};
-ghost use Rattle.settle_laws.specs.Explained.{AreCopied};
+ghost use Rattle.settle_laws.specs.Explained.{AreCitesCopied};
 ghost use Rattle.settle_laws.specs.Worlds.{world};
-ghost use Rattle.subtree_search.specs.Entries.{IsEntry};
+ghost use Rattle.subtree_search.specs.Entries.{IsArrival};
 
 use crate::tags::{lesser, level_tag};
 use fapp_model::Tag;
@@ -18,7 +18,7 @@ use settle_laws::Found;
 
 /// What is known of a prefix before its choices are tried.
 #[derive(Clone, Copy, Debug)]
-pub enum Entry {
+pub enum Arrival {
     /// That it is settled.
     Decided(Found),
     /// That a row settles it, at this target.
@@ -35,7 +35,7 @@ pub fn enter<B: Bound, H: Shared>(
     fuel: &mut Fuel,
     bound: &mut B,
     shared: &mut H,
-) -> Entry
+) -> Arrival
     requires valid { IsInstance forward.now.instance }
     requires level { level ≤ levels_of forward.now.instance }
     requires prefix { IsPrefix forward.now.instance forward.now.pushed }
@@ -43,23 +43,23 @@ pub fn enter<B: Bound, H: Shared>(
     ensures bound { (was : B) → B.since was bound.old → B.since was bound.new }
     ensures shared { (was : H) → H.since was shared.old → H.since was shared.new }
     ensures serves { (instance : Instance) → H.serves shared.old instance ↔ H.serves shared.new instance }
-    ensures copied { (cites : List SomeCite) → AreCopied (H.state shared.old).copied cites → AreCopied (H.state shared.new).copied cites }
-    ensures entry { (log : LogState) → IsEntry forward.now.instance level forward.now.pushed (world fuel.old.amount (B.state bound.old) (H.state shared.old) log)
+    ensures copied { (cites : List SomeCite) → AreCitesCopied (H.state shared.old).copied cites → AreCitesCopied (H.state shared.new).copied cites }
+    ensures entry { (log : LogState) → IsArrival forward.now.instance level forward.now.pushed (world fuel.old.amount (B.state bound.old) (H.state shared.old) log)
         (world fuel.new.amount (B.state bound.new) (H.state shared.new) log) result }
 {
     let seen = bound.now();
     if seen <= level_tag(level) {
-        return Entry::Decided(Found::Moot { seen });
+        return Arrival::Decided(Found::Moot { seen });
     }
     let target = lesser(seen, level_tag(level + 1));
     if let Some(cite) = shared.lookup(forward.partial(), target) {
-        return Entry::Cited { cite, tag: target };
+        return Arrival::Cited { cite, tag: target };
     }
     if forward.is_dead(target) {
-        return Entry::Decided(Found::Dead { tag: target });
+        return Arrival::Decided(Found::Dead { tag: target });
     }
     if !fuel.take() {
-        return Entry::Decided(Found::Spent);
+        return Arrival::Decided(Found::Spent);
     }
-    Entry::Ticked(target)
+    Arrival::Ticked(target)
 }

@@ -14,7 +14,7 @@ ghost use Rattle.choice_counts.specs.ForwardStates.{with_literals};
 ghost use Rattle.search_log.specs.GoodLines.{IsSettled};
 ghost use Rattle.settle_laws.specs.Explained.{Explains, IsClosedBy, IsDeadPart};
 ghost use Rattle.settle_laws.specs.Lines.{IsLined};
-ghost use Rattle.subtree_search.specs.Explaining.{IsAsked, IsFree};
+ghost use Rattle.subtree_search.specs.Explaining.{IsNodeToExplain, IsOffPath};
 
 use crate::lines::add_line;
 use crate::prefix::push_instead;
@@ -139,7 +139,7 @@ fn is_dead_with(forward: &mut Forward, tag: Tag, path: u16, choice: u16) -> bool
 
 /// Whether a choice of the node has the reference at a place, or is dead with the literals.
 fn is_settled(forward: &mut Forward, node: &Node, choice: u16, place: usize) -> bool
-    requires asked { IsAsked forward.old.instance forward.old.pushed node.now }
+    requires asked { IsNodeToExplain forward.old.instance forward.old.pushed node.now }
     requires choice { choice < node.now.count }
     ensures front { forward.new ≡ forward.old }
     ensures settled { IsTrue result → IsSettled forward.old.instance node.now.tag.code forward.old.pushed node.now.path node.now.refs choice }
@@ -152,7 +152,7 @@ fn is_settled(forward: &mut Forward, node: &Node, choice: u16, place: usize) -> 
 
 /// Whether each choice of the node has a reference or is dead with the literals.
 pub fn is_closed(forward: &mut Forward, node: &Node) -> bool
-    requires asked { IsAsked forward.old.instance forward.old.pushed node.now }
+    requires asked { IsNodeToExplain forward.old.instance forward.old.pushed node.now }
     ensures front { forward.new ≡ forward.old }
     ensures closed { IsTrue result → IsClosedBy forward.old.instance forward.old.pushed node.now }
 {
@@ -170,7 +170,7 @@ pub fn is_closed(forward: &mut Forward, node: &Node) -> bool
 
 /// Whether what a reference names may name a path: a line or a row that does, or a row that isn't found again.
 fn may_name(line: Ref, log: &Log, seen: &SeenRows, path: u16) -> bool
-    ensures { result ≡ false → IsFree seen.now.cites.items log.now.lines path line }
+    ensures { result ≡ false → IsOffPath seen.now.cites.items log.now.lines path line }
 {
     match line {
         Ref::Own(place) => match log.lines().get(place as usize) {
@@ -186,7 +186,7 @@ fn may_name(line: Ref, log: &Log, seen: &SeenRows, path: u16) -> bool
 
 /// Whether what settles some choice may name a path.
 fn is_used(refs: &[ChoiceRef], log: &Log, seen: &SeenRows, path: u16) -> bool
-    ensures { result ≡ false → All (λ r. IsFree seen.now.cites.items log.now.lines path r.line) refs.now }
+    ensures { result ≡ false → All (λ r. IsOffPath seen.now.cites.items log.now.lines path r.line) refs.now }
 {
     for r in refs {
         if may_name(r.line, log, seen, path) {
@@ -206,7 +206,7 @@ fn leave_out(
     place: usize,
 ) -> bool
     requires place { place < length literals.now }
-    requires asked { IsAsked forward.old.instance literals.now node.now }
+    requires asked { IsNodeToExplain forward.old.instance literals.now node.now }
     requires explains { Explains forward.old.instance seen.now.cites.items log.now.lines literals.now forward.old.pushed node.now }
     ensures front { forward.new ≡ with_literals forward.old forward.new.pushed }
     ensures explains { Explains forward.old.instance seen.now.cites.items log.now.lines literals.now forward.new.pushed node.now }
@@ -236,7 +236,7 @@ fn reduce(
     literals: &[Literal],
     needed: &[bool],
 )
-    requires asked { IsAsked forward.old.instance literals.now node.now }
+    requires asked { IsNodeToExplain forward.old.instance literals.now node.now }
     requires explains { Explains forward.old.instance seen.now.cites.items log.now.lines literals.now forward.old.pushed node.now }
     ensures front { forward.new ≡ with_literals forward.old forward.new.pushed }
     ensures explains { Explains forward.old.instance seen.now.cites.items log.now.lines literals.now forward.new.pushed node.now }
@@ -398,7 +398,7 @@ fn clashing(forward: &Forward, needed: &[bool], path: u16, choice: u16) -> Optio
 
 /// Marks, for each choice of the node that isn't left, a literal that clashes with it.
 fn mark_clashes(needed: &mut [bool], forward: &Forward, node: &Node)
-    requires asked { IsAsked forward.now.instance forward.now.pushed node.now }
+    requires asked { IsNodeToExplain forward.now.instance forward.now.pushed node.now }
 {
     for choice in 0..node.count {
         if !forward.remains(node.path, choice as u16) {
@@ -418,7 +418,7 @@ pub fn add_explained(
     forward: &mut Forward,
     log: &mut Log,
 ) -> Result<Found, NoMemory>
-    requires asked { IsAsked forward.old.instance forward.old.pushed node }
+    requires asked { IsNodeToExplain forward.old.instance forward.old.pushed node }
     requires prefix { IsPrefix forward.old.instance forward.old.pushed }
     requires closed { IsClosedBy forward.old.instance forward.old.pushed node }
     ensures front { forward.new ≡ forward.old }

@@ -1,7 +1,7 @@
 // The choices of a node that need not be tried.
 ghost use Rattle.std.specs.Prelude.{◌<◌, ◌≤◌};
 ghost use Rattle.settle_laws.specs.Passed.{IsPassedBy, Passes};
-ghost use Rattle.subtree_search.specs.Explaining.{IsAsked};
+ghost use Rattle.subtree_search.specs.Explaining.{IsNodeToExplain};
 
 use crate::explain::is_left;
 use crate::recall::Recall;
@@ -13,7 +13,7 @@ use settle_laws::Node;
 /// Goes past the choices of a node that are seen not to be left, and those that a line of the search settles, as far as
 /// it is found: they need not be pushed.
 pub fn pass_settled(node: &mut Node, forward: &Forward, recall: &Recall, log: &Log)
-    requires asked { IsAsked forward.now.instance forward.now.pushed node.old }
+    requires asked { IsNodeToExplain forward.now.instance forward.now.pushed node.old }
     requires within { node.old.choice ≤ node.old.count }
     ensures { Passes forward.now.instance recall.now.first forward.now.pushed log.now node.old node.new }
 {
@@ -26,7 +26,7 @@ pub fn pass_settled(node: &mut Node, forward: &Forward, recall: &Recall, log: &L
 
 /// Goes past the next choice of a node where it can. Whether it did so.
 fn is_passed_by(node: &mut Node, forward: &Forward, recall: &Recall, log: &Log) -> bool
-    requires asked { IsAsked forward.now.instance forward.now.pushed node.old }
+    requires asked { IsNodeToExplain forward.now.instance forward.now.pushed node.old }
     requires more { node.old.choice < node.old.count }
     ensures { IsPassedBy forward.now.instance recall.now.first forward.now.pushed log.now node.old node.new result }
 {

@@ -6,7 +6,7 @@ ghost use Rattle.fapp_model.specs.declared.literal.Literal.{Literal};
 ghost use Rattle.fapp_model.specs.search.Partials.{names};
 ghost use Rattle.fapp_model.specs.search.Prefixes.{IsPrefix};
 ghost use Rattle.choice_counts.specs.ForwardStates.{with_literals};
-ghost use Rattle.settle_laws.specs.Explained.{AreContents, AreCopied};
+ghost use Rattle.settle_laws.specs.Explained.{AreContents, AreCitesCopied};
 ghost use Rattle.settle_laws.specs.Founds.{Searched};
 ghost use Rattle.settle_laws.specs.OpenNodes.{IsTrying};
 ghost use Rattle.settle_laws.specs.Worlds.{World, world};
@@ -15,7 +15,7 @@ ghost use Rattle.subtree_search.specs.Steps.{ComesTo, IsAdvanced, IsBack, IsNote
 
 use crate::ahead::look_ahead;
 use crate::by_row::add_by_row;
-use crate::enter::{Entry, enter};
+use crate::enter::{Arrival, enter};
 use crate::explain::{Scratch, add_explained, names_path};
 use crate::lines::conclude;
 use crate::node::note_choice;
@@ -89,18 +89,18 @@ fn visit<B: Bound, H: Shared>(
     ensures first { walk.new.recall.first ≡ walk.old.recall.first }
     ensures shared { (was : H) → H.since was shared.old → H.since was shared.new }
     ensures serves { (instance : Instance) → H.serves shared.old instance ↔ H.serves shared.new instance }
-    ensures held { AreCopied (H.state shared.old).copied walk.old.seen.cites.items → AreCopied (H.state shared.new).copied walk.new.seen.cites.items }
+    ensures held { AreCitesCopied (H.state shared.old).copied walk.old.seen.cites.items → AreCitesCopied (H.state shared.new).copied walk.new.seen.cites.items }
     ensures visited { IsVisited forward.old.instance walk.old.level forward.old.pushed walk.old.nodes.items walk.new.nodes.items
         (world fuel.old.amount (B.state bound.old) (H.state shared.old) log.old) (world fuel.new.amount (B.state bound.new) (H.state shared.new) log.new) result }
 {
     let target = match enter(walk.level, forward, fuel, bound, shared) {
-        Entry::Decided(found) => return Ok(Some(found)),
-        Entry::Cited { cite, tag } => {
+        Arrival::Decided(found) => return Ok(Some(found)),
+        Arrival::Cited { cite, tag } => {
             walk.seen.note(cite);
             let line = Ref::Row(cite.row);
             return Ok(Some(Found::Settled { line, tag }));
         }
-        Entry::Ticked(target) => target,
+        Arrival::Ticked(target) => target,
     };
     let tables = forward.tables();
     let order = tables.order();
@@ -151,7 +151,7 @@ fn try_next<B: Bound, H: Shared>(
 ) -> Result<Option<Found>, NoMemory>
     requires ready { IsReady forward.old.instance walk.old }
     requires serves { H.serves shared.old forward.old.instance }
-    requires held { AreCopied (H.state shared.old).copied walk.old.seen.cites.items }
+    requires held { AreCitesCopied (H.state shared.old).copied walk.old.seen.cites.items }
     requires trying { (root : List Literal) × (from : World) × IsPrefix forward.old.instance root × BeginsAt walk.old from × IsTrying forward.old.instance walk.old.level root from walk.old.nodes.items forward.old.pushed
         (world fuel.old.amount (B.state bound.old) (H.state shared.old) log.old) }
     ensures bound { (was : B) → B.since was bound.old → B.since was bound.new }
@@ -161,7 +161,7 @@ fn try_next<B: Bound, H: Shared>(
     ensures shared { (was : H) → H.since was shared.old → H.since was shared.new }
     ensures serves { (instance : Instance) → H.serves shared.old instance ↔ H.serves shared.new instance }
     ensures front { forward.new ≡ with_literals forward.old forward.new.pushed }
-    ensures held { AreCopied (H.state shared.new).copied walk.new.seen.cites.items }
+    ensures held { AreCitesCopied (H.state shared.new).copied walk.new.seen.cites.items }
     ensures advanced { (root : List Literal) (from : World) → IsPrefix forward.old.instance root → BeginsAt walk.old from → IsTrying forward.old.instance walk.old.level root from walk.old.nodes.items forward.old.pushed
         (world fuel.old.amount (B.state bound.old) (H.state shared.old) log.old) → IsAdvanced forward.old.instance walk.old.level root from walk.new.nodes.items forward.new.pushed
         (world fuel.new.amount (B.state bound.new) (H.state shared.new) log.new) result }
@@ -296,7 +296,7 @@ fn advance<B: Bound, H: Shared>(
 ) -> Result<Option<Found>, NoMemory>
     requires ready { IsReady forward.old.instance walk.old }
     requires serves { H.serves shared.old forward.old.instance }
-    requires held { AreCopied (H.state shared.old).copied walk.old.seen.cites.items }
+    requires held { AreCitesCopied (H.state shared.old).copied walk.old.seen.cites.items }
     requires trying { (root : List Literal) × (from : World) × IsPrefix forward.old.instance root × BeginsAt walk.old from × IsTrying forward.old.instance walk.old.level root from walk.old.nodes.items forward.old.pushed
         (world fuel.old.amount (B.state bound.old) (H.state shared.old) log.old) }
     ensures bound { (was : B) → B.since was bound.old → B.since was bound.new }
@@ -306,7 +306,7 @@ fn advance<B: Bound, H: Shared>(
     ensures shared { (was : H) → H.since was shared.old → H.since was shared.new }
     ensures serves { (instance : Instance) → H.serves shared.old instance ↔ H.serves shared.new instance }
     ensures front { forward.new ≡ with_literals forward.old forward.new.pushed }
-    ensures held { AreCopied (H.state shared.new).copied walk.new.seen.cites.items }
+    ensures held { AreCitesCopied (H.state shared.new).copied walk.new.seen.cites.items }
     ensures advanced { (root : List Literal) (from : World) → IsPrefix forward.old.instance root → BeginsAt walk.old from → IsTrying forward.old.instance walk.old.level root from walk.old.nodes.items forward.old.pushed
         (world fuel.old.amount (B.state bound.old) (H.state shared.old) log.old) → IsAdvanced forward.old.instance walk.old.level root from walk.new.nodes.items forward.new.pushed
         (world fuel.new.amount (B.state bound.new) (H.state shared.new) log.new) result }

@@ -18,7 +18,7 @@ use Rattle.fapp_model.specs.Tags.{has_limit, least_tag, mode_level}
 use Rattle.fapp_model.specs.search.Tries.{IsTries, IsTriesBy}
 use Rattle.fapp_model.specs.search.WorkOrder.{work_order}
 use Rattle.tries_laws.specs.JobLaws.{IsDepth}
-use Rattle.tries_laws.specs.ExampleLaws.{IsFree}
+use Rattle.tries_laws.specs.ExampleLaws.{IsWithoutRecords}
 use Rattle.tries_laws.proofs.AlivePlans.{IsClear, IsOf, not_dead}
 use Rattle.tries_laws.proofs.JobParts.{depth-is, depth-greatest, job-is, prefixes-all}
 use Rattle.tries_laws.proofs.PrefixParts.{prefix-is_partial}
@@ -27,7 +27,7 @@ use Rattle.fapp_model.proofs.WorkOrders.{order-is, order-length}
 any-none : (p : Record → Bool) (rs : List Record) → rs ≡ [] → list_any p rs ≡ false
 any-none p rs e = ap (list_any p) e
 
-clear : (instance : Instance) (level : ℕ) → IsFree instance → IsClear instance level (λ p. 0)
+clear : (instance : Instance) (level : ℕ) → IsWithoutRecords instance → IsClear instance level (λ p. 0)
 clear instance level free = record {
   in_range = λ p l. (let one = free.one p l in omega arith);
   apart = λ p q l m. no_clash instance level (literal p 0) (literal q 0) free.records;
@@ -37,7 +37,7 @@ clear instance level free = record {
     no_clash : (instance : Instance) (level : ℕ) (a b : Literal) → instance.records ≡ [] → clashes instance level a b ≡ false
     no_clash instance level a b e = rw e refl
 
-module _ (instance : Instance) (t : Triple) (free : IsFree instance) (above : t ≡ least_tag → ⊥) (unlimited : has_limit t ≡ false) where
+module _ (instance : Instance) (t : Triple) (free : IsWithoutRecords instance) (above : t ≡ least_tag → ⊥) (unlimited : has_limit t ≡ false) where
   pub tried : (paths : List ℕ) (literals : List Literal) → All (λ p. p < length instance.paths) paths → All (IsOf instance (λ p. 0)) literals → IsTriesBy (Dead instance t) (count_at instance) paths literals (length paths + 1)
   tried [] literals small all =
       inr (not_dead instance t (λ p. 0) (clear instance (mode_level t) free) above unlimited literals all, (0, refl, refl))
@@ -62,7 +62,7 @@ module _ (instance : Instance) (t : Triple) (free : IsFree instance) (above : t 
 target-above : (level : ℕ) → target level ≡ least_tag → ⊥
 target-above level e = absurd (let k : level + 1 ≡ 0 = ap (λ t. t.k) e in omega arith)
 
-pub free-tries : (instance : Instance) (level : ℕ) (prefix : List Literal) → IsFree instance → IsPrefix instance prefix → IsTries instance (target level) prefix (length instance.paths - length prefix + 1)
+pub free-tries : (instance : Instance) (level : ℕ) (prefix : List Literal) → IsWithoutRecords instance → IsPrefix instance prefix → IsTries instance (target level) prefix (length instance.paths - length prefix + 1)
 free-tries instance level prefix free h =
     let part = prefix-is_partial instance prefix h in
     let zeros : All (IsOf instance (λ p. 0)) prefix = All-weaker (IsLiteral instance) (IsOf instance (λ p. 0))
@@ -73,13 +73,13 @@ free-tries instance level prefix free h =
     (tried instance (target level) free (target-above level) refl rest prefix
     (All-drop (λ p. p < length instance.paths) (length prefix) (work_order instance) (order-is instance).in_range) zeros)
 
-one_way : (instance : Instance) → IsFree instance → (paths : List ℕ) → All (λ p. p < length instance.paths) paths → ways instance paths ≡ 1
+one_way : (instance : Instance) → IsWithoutRecords instance → (paths : List ℕ) → All (λ p. p < length instance.paths) paths → ways instance paths ≡ 1
 one_way instance free [] small = refl
 one_way instance free (path ∷ paths) small =
     ap (λ n. n * ways instance paths) (free.one path (All-head (λ p. p < length instance.paths) path paths small))
     ∙ (let rest = one_way instance free paths (All-tail (λ p. p < length instance.paths) path paths small) in omega arith)
 
-pub most_paths : (instance : Instance) (id : ℕ) → IsFree instance → length instance.paths ≡ 8192 → id < job_count instance 64 → IsTries instance (target (job_level instance id)) (job_prefix instance 64 id) 8129
+pub most_paths : (instance : Instance) (id : ℕ) → IsWithoutRecords instance → length instance.paths ≡ 8192 → id < job_count instance 64 → IsTries instance (target (job_level instance id)) (job_prefix instance 64 id) 8129
 most_paths instance id free many below =
     let enough : IsDepth instance 64 64 = record {
       most = omega arith;

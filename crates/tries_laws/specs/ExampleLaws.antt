@@ -36,16 +36,16 @@ pub record TwoPathsTries : Type 0 where
   pub tries : IsTries two_paths (target 0) [] 3
 
 -- instances without records, of which each path has one choice
-pub record IsFree (instance : Instance) : Type 0 where
+pub record IsWithoutRecords (instance : Instance) : Type 0 where
   pub records : instance.records ≡ []
   pub one : (path : ℕ) → path < length instance.paths → count_at instance path ≡ 1
 
 -- They are tried path by path.
 abbrev pub FreeTries : Type 0
-FreeTries = (instance : Instance) (level : ℕ) (prefix : List Literal) → IsFree instance → IsPrefix instance prefix →
+FreeTries = (instance : Instance) (level : ℕ) (prefix : List Literal) → IsWithoutRecords instance → IsPrefix instance prefix →
     IsTries instance (target level) prefix (length instance.paths - length prefix + 1)
 
 -- The most paths that an instance has take 8,129 tries in each job.
 abbrev pub MostPathsTries : Type 0
-MostPathsTries = (instance : Instance) (id : ℕ) → IsFree instance → length instance.paths ≡ 8192 → id < job_count instance 64 →
+MostPathsTries = (instance : Instance) (id : ℕ) → IsWithoutRecords instance → length instance.paths ≡ 8192 → id < job_count instance 64 →
     IsTries instance (target (job_level instance id)) (job_prefix instance 64 id) 8129

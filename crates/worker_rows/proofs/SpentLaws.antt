@@ -20,7 +20,7 @@ use Rattle.fapp_plan.specs.Outcomes.{IsPlacedFor, Placed}
 use Rattle.fapp_plan.specs.VerdictRule.{IsVerdictOf}
 use Rattle.merge_laws.specs.Conditions.{IsMergeable}
 use Rattle.fapp_plan.specs.Shown.{IsPut, IsRefutedBy}
-use Rattle.search_log.specs.GoodLogs.{AreGoodLogs, IsBare, IsHome}
+use Rattle.search_log.specs.GoodLogs.{AreGoodLogs, IsBare, IsHomeRow}
 use Rattle.worker_rows.specs.SpentJobs.{AreSpent}
 
 -- the first jobs are spent, and the others have no outcome

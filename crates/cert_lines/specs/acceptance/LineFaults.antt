@@ -89,8 +89,8 @@ abbrev pub fault_at : Instance → List Line → ℕ → Option Rejected
 fault_at instance lines n = option_map (rejected_at (n + 1)) (line_fault instance (take n lines) (line_at lines (n + 1)))
 
 -- that line is good
-abbrev pub IsGood : Instance → List Line → ℕ → Type 0
-IsGood instance lines n = fault_at instance lines n ≡ None
+abbrev pub IsGoodLine : Instance → List Line → ℕ → Type 0
+IsGoodLine instance lines n = fault_at instance lines n ≡ None
 
 -- the first fault of the lines, in their order
 unfoldable pub lines_fault : Instance → List Line → Option Rejected

@@ -21,12 +21,12 @@ abbrev pub greater : Option Tag → Tag → Tag
 greater None t = t
 greater (Some u) t = if nat_lt u.code t.code then t else u
 
-abbrev pub with_line : Option Tag → Line → Option Tag
-with_line found line = if is_root line then Some (greater found line.tag) else found
+abbrev pub with_root_line : Option Tag → Line → Option Tag
+with_root_line found line = if is_root line then Some (greater found line.tag) else found
 
 -- the greatest tag of the lines without literals
 unfoldable pub root_tag : List Line → Option Tag
-root_tag lines = fold with_line None lines
+root_tag lines = fold with_root_line None lines
 
 abbrev pub tag_by : (code : ℕ) (test : Bool) → is_code code ≡ test → Tag
 tag_by code true h = record { code = code; of_tag = h }

@@ -1,7 +1,7 @@
 ghost use Rattle.std.specs.Prelude.{◌≡◌, ◌≤◌, [], length, IfOk};
 ghost use Rattle.fapp_model.specs.Levels.{levels_of};
 ghost use Rattle.choice_counts.specs.ForwardStates.{at_level};
-ghost use Rattle.search_log.specs.Shares.{IsServed, row_content};
+ghost use Rattle.search_log.specs.Shares.{IsServedContent, row_content};
 
 use super::falling::FallingBound;
 use super::tables::read;
@@ -129,7 +129,7 @@ fn found_row(forward: &mut Forward, job: &Job, alloc: Global) -> Result<Row, Fai
     requires level { job.now.level ≤ levels_of forward.old.instance }
     requires root { job.now.prefix ≡ [] }
     ensures forward { IfOk result (λ row. forward.new ≡ at_level forward.old job.now.level) }
-    ensures row { IfOk result (λ row. IsServed forward.old.instance (row_content row)) }
+    ensures row { IfOk result (λ row. IsServedContent forward.old.instance (row_content row)) }
 {
     let mut fuel = Fuel::new(1003);
     let mut bound = PlainBound::new(tag_of(TOP));
@@ -159,7 +159,7 @@ fn run_with_row(forward: &mut Forward, job: &Job, row: Row, alloc: Global) -> Re
     requires empty { forward.old.pushed ≡ [] }
     requires level { job.now.level ≤ levels_of forward.old.instance }
     requires root { job.now.prefix ≡ [] }
-    requires served { IsServed forward.old.instance (row_content row) }
+    requires served { IsServedContent forward.old.instance (row_content row) }
 {
     let mut rows = MemRows::new(Vec::from_slice(alloc, &[row])?);
     let mut bound = PlainBound::new(tag_of(TOP));

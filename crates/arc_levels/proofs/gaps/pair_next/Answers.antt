@@ -5,7 +5,7 @@ use Rattle.fapp_model.specs.declared.record.Record.{Record}
 use Rattle.fapp_model.specs.search.Clashes.{is_hard_bad}
 use Rattle.fapp_tables.specs.Indexes.{no_record}
 use Rattle.fapp_tables.proofs.PairLaws.{positions_within}
-use Rattle.arc_levels.specs.Gaps.{IsNext}
+use Rattle.arc_levels.specs.Gaps.{IsNextApart}
 use Rattle.arc_levels.proofs.GapLaws.{next_all, next_more}
 use Rattle.arc_levels.proofs.gaps.pair_next.Goals as goal
 
@@ -18,7 +18,7 @@ bounds-records-position c =
 
 pub loop-position-preserved : goal.loop-position-preserved
 loop-position-preserved c =
-    let found = subst (λ (rs : List Record). IsNext (is_hard_bad c.args.pair.now.level (slice_index_or rs (slice_index c.args.pair.now.positions.now c.loop-position.position-index) no_record) c.args.first) c.args.second c.record_next.result)
+    let found = subst (λ (rs : List Record). IsNextApart (is_hard_bad c.args.pair.now.level (slice_index_or rs (slice_index c.args.pair.now.positions.now c.loop-position.position-index) no_record) c.args.first) c.args.second c.record_next.result)
     c.as_slice-records.ensures c.record_next.ensures in
     next_more c.args.pair.now c.args.first c.args.second c.loop-position.position-index c.loop-position.next c.record_next.result c.max-next.result
     c.requires.pair c.loop-position-test.true c.loop-position.invariant found

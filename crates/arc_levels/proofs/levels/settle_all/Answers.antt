@@ -1,7 +1,7 @@
 use Rattle.std.proofs.Common.{◌-◌, ◌≡◌, ap, ◌∙◌, subst, arith}
 use Rattle.fapp_model.specs.Levels.{levels_of}
 use Rattle.dead_laws.specs.ArcLaws.{IsArcs}
-use Rattle.arc_levels.specs.Marks.{Falls, arc_of}
+use Rattle.arc_levels.specs.Heights.{Falls, arc_of}
 use Rattle.arc_levels.specs.Removals.{AreRemovals}
 use Rattle.arc_levels.proofs.LevelLaws.{passed_all, passed_more, passed_none}
 use Rattle.arc_levels.proofs.levels.settle_all.Goals as goal

@@ -1,4 +1,4 @@
-use Rattle.arc_levels.specs.Marks.{Falls, size_of}
+use Rattle.arc_levels.specs.Heights.{Falls, size_of}
 use Rattle.arc_levels.specs.Removals.{AreFresh, AreRemovals}
 use Rattle.arc_levels.proofs.rounds.settle.Given as goal
 

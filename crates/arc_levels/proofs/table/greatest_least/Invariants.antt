@@ -1,4 +1,4 @@
-use Rattle.arc_levels.specs.Marks.{IsGreatestLeast}
+use Rattle.arc_levels.specs.Heights.{IsGreatestLeast}
 use Rattle.arc_levels.proofs.table.greatest_least.Given as goal
 
 abbrev pub invariant-loop-path : goal.invariant-loop-path

@@ -6,7 +6,7 @@ use Rattle.fapp_model.specs.search.Weights.{between, bad_before, bad_further}
 use Rattle.fapp_model.specs.declared.choice.Choice.{Choice}
 use Rattle.fapp_model.specs.declared.literal.Literal.{Literal}
 use Rattle.fapp_model.specs.declared.record.Record.{Record}
-use Rattle.cert_check.specs.Weighed.{IsRow}
+use Rattle.cert_check.specs.Weighed.{IsWeighedRow}
 use Rattle.cert_check.proofs.Steps.{none_more, sum_more}
 use Rattle.cert_check.proofs.judging.own_weight.Goals as goal
 
@@ -14,7 +14,7 @@ pub returns-in-None : goal.returns-in-None
 returns-in-None c =
     let instance = c.args.scene.instance.now in
     let literals = c.args.literals.now in
-    let bad = subst (IsRow instance c.args.scene.level literals (get_or literals c.loop-a.a-index (literal 0 0))) c.in-None.is c.in_ok-own_row.ensures in
+    let bad = subst (IsWeighedRow instance c.args.scene.level literals (get_or literals c.loop-a.a-index (literal 0 0))) c.in-None.is c.in_ok-own_row.ensures in
     list_any_at (clashes_with instance c.args.scene.level literals) literals c.loop-a.a-index (literal 0 0) c.loop-a-test.true bad
 
 pub loop-a-preserved : goal.loop-a-preserved
@@ -24,7 +24,7 @@ loop-a-preserved c =
     let literals = c.args.literals.now in
     let index = c.loop-a.a-index in
     let more = c.in-Some.more in
-    let row = subst (IsRow instance level literals (get_or literals index (literal 0 0))) c.in-Some.is c.in_ok-own_row.ensures in
+    let row = subst (IsWeighedRow instance level literals (get_or literals index (literal 0 0))) c.in-Some.is c.in_ok-own_row.ensures in
     let term = λ (measure : Record → Choice → Choice → ℕ) (a : Literal). sum_by (λ b. between instance measure a b) literals in
     record {
       calm = none_more (clashes_with instance level literals) literals index (literal 0 0) c.loop-a-test.true c.loop-a.invariant.calm row.0;

@@ -1,7 +1,7 @@
 use Rattle.std.proofs.Common.{◌≡◌, take, sym, ap, ◌∙◌, Option, subst}
 use Rattle.std.proofs.lemmas.List.{get_or_default}
 use Rattle.cert_lines.specs.declared.answer.Line.{Line}
-use Rattle.cert_lines.specs.WellFormed.{IsEntry, IsLine}
+use Rattle.cert_lines.specs.WellFormed.{IsLineOrDelete, IsLine}
 use Rattle.cert_lines.specs.acceptance.Deleted.{deletes}
 use Rattle.cert_lines.specs.acceptance.Excluded.{no_line}
 use Rattle.cert_lines.specs.declared.reject.RejectCause.{RejectCause}
@@ -17,7 +17,7 @@ rule_fault-requires-clause-line c =
     let n = c.args.n in
     let line = c.index-lines-n.result in
     let own = c.index-lines-n.is ∙ get_or_default lines n line no_line c.requires.n in
-    entry-line instance line (subst (IsEntry instance) (sym own) (c.requires.lines n no_line c.requires.n)) c.if-line-eq0.false
+    entry-line instance line (subst (IsLineOrDelete instance) (sym own) (c.requires.lines n no_line c.requires.n)) c.if-line-eq0.false
 
 pub returns-then-line-eq0 : goal.returns-then-line-eq0
 returns-then-line-eq0 c =
@@ -34,7 +34,7 @@ returns c =
     let n = c.args.n in
     let line = c.index-lines-n.result in
     let own = c.index-lines-n.is ∙ get_or_default lines n line no_line c.requires.n in
-    let formed = entry-line instance line (subst (IsEntry instance) (sym own) (c.requires.lines n no_line c.requires.n)) c.if-line-eq0.false in
+    let formed = entry-line instance line (subst (IsLineOrDelete instance) (sym own) (c.requires.lines n no_line c.requires.n)) c.if-line-eq0.false in
     if_ok (λ (fault : Option RejectCause). fault ≡ rule_fault instance (take n lines) line.tag line.lits line.rule)
     (λ (fault : Option RejectCause). fault ≡ line_fault instance (take n lines) (line_on lines n)) c.rule_fault.result
     (λ fault e. e ∙ (sym (other-line instance (take n lines) line formed c.if-line-eq0.false) ∙ ap (λ (l : Line). line_fault instance (take n lines) l) own))

@@ -5,7 +5,7 @@ use Rattle.search_log.specs.LogStates.{LogState}
 use Rattle.search_log.specs.declared.piece.Piece.{Piece}
 use Rattle.search_log.specs.GoodLogs.{all_lines}
 use Rattle.merge_laws.specs.Pieces.{emit_pieces}
-use Rattle.cert_merge.specs.Growth.{AreLeft, IsWithin}
+use Rattle.cert_merge.specs.Growth.{AreLeft, HasRoomFor}
 use Rattle.cert_merge.proofs.Gatherings.{gathered-is, left-at-start, pieces-within}
 use Rattle.cert_merge.proofs.gathered.gathered.Goals as goal
 
@@ -17,7 +17,7 @@ write_pieces-requires-clause-within c =
     let fits = subst (λ (ps : List Piece). All (λ p. p.row < c.room_for-room.result) ps) (c.deref.ensures.value ∙ whole) c.room_for-room.ensures.pieces in
     let same = subst (λ xs. IsPermutation xs sorted) (c.deref_mut.ensures.value ∙ c.in_ok-rests.ensures.pieces) c.sort_by_row.ensures.same in
     let many : c.len.result ≡ length logs = omega (arith, c.len.ensures, c.in_ok-rests.field-0.rests.ok.0, ap length c.in_ok-rests.ensures.rests, length-map logs (λ (l : LogState). l.lines)) in
-    subst (All (IsWithin c.in_ok-merged.merged)) (sym (c.deref-2.ensures.value ∙ whole))
+    subst (All (HasRoomFor c.in_ok-merged.merged)) (sym (c.deref-2.ensures.value ∙ whole))
     (pieces-within logs sorted (c.args.old.now ++ c.args.arcs.now) c.args.placed.now c.len.result c.room_for-room.result c.in_ok-merged.merged same fits many c.in_ok-merged.ensures)
 
 pub returns : goal.returns

@@ -1,10 +1,10 @@
 use Rattle.std.proofs.Common.{◌≤◌, ◌+◌, get_or, inl, inr, arith}
 use Rattle.std.proofs.lemmas.List.Sorted.{IsNonDecreasingBy-from_all_adjacent}
 use Rattle.search_log.specs.declared.piece.Piece.{Piece}
-use Rattle.cert_merge.specs.Growth.{IsNotAfter}
+use Rattle.cert_merge.specs.Growth.{IsPieceNotAfter}
 use Rattle.cert_merge.proofs.segments.sort_by_row.Goals as goal
 
-no_lower : (p q : Piece) → IsNotAfter p q → p.row ≤ q.row
+no_lower : (p q : Piece) → IsPieceNotAfter p q → p.row ≤ q.row
 no_lower p q (inl less) = omega arith
 no_lower p q (inr (same, more)) = omega arith
 

@@ -1,6 +1,6 @@
 use Rattle.std.proofs.Common.{◌≡◌, ℕ, List, [], ap, sym, subst, arith}
 use Rattle.choice_counts.specs.declared.cells.Cell.{Cell}
-use Rattle.choice_counts.specs.Cells.{AreCells, IsCell, end_of}
+use Rattle.choice_counts.specs.Cells.{AreCells, IsCell, end_of_cells}
 use Rattle.choice_counts.proofs.CellLaws.{extends_cells, extends_end}
 use Rattle.choice_counts.proofs.fill.add_cells.Goals as goal
 
@@ -10,7 +10,7 @@ none A cells e a = subst A (sym e) a
 pub loop-step-init : goal.loop-step-init
 loop-step-init c = record {
   cells = none (AreCells c.args.pair.now.instance.now c.args.pair.now.level c.args.pair.now.path c.args.pair.now.other) c.args.cells.now c.requires.none (λ place inside. absurd (omega (arith, inside)));
-  reached = ap end_of c.requires.none;
+  reached = ap end_of_cells c.requires.none;
 }
 
 pub returns-then-not-extend-clause-cells : goal.returns-then-not-extend-clause-cells

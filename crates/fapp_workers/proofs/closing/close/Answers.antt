@@ -2,7 +2,7 @@ use Rattle.std.proofs.Common.{All, sym, subst}
 use Rattle.std.proofs.lemmas.List.Elements.{All-map}
 use Rattle.best_word.specs.Seats.{IsSeatOf}
 use Rattle.nogood_pool.specs.Seats.{IsSeatOf as IsPoolSeatOf}
-use Rattle.steal_ring.specs.Hands.{IsDone as IsAtEnd, IsHandOf}
+use Rattle.steal_ring.specs.Hands.{IsHandDone as IsAtEnd, IsHandOf}
 use Rattle.fapp_workers.specs.declared.place.Place.{Place}
 use Rattle.fapp_workers.proofs.Ending.{all-at-end}
 use Rattle.fapp_workers.proofs.closing.close.Goals as goal

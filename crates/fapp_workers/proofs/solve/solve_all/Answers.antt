@@ -3,7 +3,7 @@ use Rattle.fapp_model.specs.Instances.{IsInstance}
 use Rattle.nogood_pool.specs.Seats.{view_of as pool_view}
 use Rattle.steal_ring.specs.Hands.{IsDealt}
 use Rattle.search_log.specs.NumberedRows.{numbered_rows}
-use Rattle.fapp_workers.specs.Closings.{IsClosed}
+use Rattle.fapp_workers.specs.Closings.{IsClosedRun}
 use Rattle.fapp_workers.specs.Places.{hands_of}
 use Rattle.fapp_workers.specs.Solved.{works_logs}
 use Rattle.fapp_workers.proofs.Ending.{count-same}
@@ -68,7 +68,7 @@ returns-clause-solved g c =
     let new = c.in_ok-places.places.items in
     let works = c.in_ok-works.works.items in
     let some : 0 < length new = omega (arith, c.in_ok-places.ensures.count, c.in_ok-ring.ensures.dealt.count, c.requires.settings.some_workers) in
-    let here = subst (λ n. IsClosed n (pool_view d.first) new works c.in_ok-works.least.code) c.in_ok-ring.ensures.dealt.jobs c.in_ok-works.ensures in
+    let here = subst (λ n. IsClosedRun n (pool_view d.first) new works c.in_ok-works.least.code) c.in_ok-ring.ensures.dealt.jobs c.in_ok-works.ensures in
     solved split fuel workers (subst IsInstance c.instance-valid.ensures.value c.instance-valid.ensures.valid) d.ring d.word d.pool (pool_view d.first)
     (numbered_rows c.args.first_rows.now) c.in_ok-ring.ensures.dealt.published old new c.in_ok-places.ensures.count c.in_ok-ring.ensures.dealt.count c.in_ok-ring.ensures.dealt.stand
     c.in_ok-places.ensures.each works c.in_ok-works.least.code here (some-place new some) (some-work works (omega (arith, count-same works new here.kept, some)))
@@ -81,7 +81,7 @@ returns-clause-started g c =
     let new = c.in_ok-places.places.items in
     let works = c.in_ok-works.works.items in
     let some : 0 < length new = omega (arith, c.in_ok-places.ensures.count, c.in_ok-ring.ensures.dealt.count, c.requires.settings.some_workers) in
-    let here = subst (λ n. IsClosed n (pool_view d.first) new works c.in_ok-works.least.code) c.in_ok-ring.ensures.dealt.jobs c.in_ok-works.ensures in
+    let here = subst (λ n. IsClosedRun n (pool_view d.first) new works c.in_ok-works.least.code) c.in_ok-ring.ensures.dealt.jobs c.in_ok-works.ensures in
     if-some c.args.start (λ s. OffersFirst instance s.now d.places.items) (λ s. IsStartUsed instance s.now (works_logs works) c.in_ok-works.least.code)
     (λ s offers. start-used split c.args.settings.now.fuel c.args.settings.now.workers (subst IsInstance c.instance-valid.ensures.value c.instance-valid.ensures.valid) d.ring d.word d.pool
     (pool_view d.first) (numbered_rows c.args.first_rows.now) c.in_ok-ring.ensures.dealt.published d.places.items new c.in_ok-places.ensures.count c.in_ok-ring.ensures.dealt.count

@@ -3,7 +3,7 @@ use Rattle.std.specs.Option.{is_some}
 use Rattle.nogood.specs.Partials.{choice_given}
 use Rattle.choice_counts.specs.declared.rows.PathTallies.{PathTallies}
 use Rattle.choice_counts.specs.declared.rows.TheConstants.{HARD}
-use Rattle.choice_counts.specs.Totals.{IsOpen}
+use Rattle.choice_counts.specs.Totals.{AreOpenPaths}
 use Rattle.choice_counts.specs.Tallies.{least_part, stuck_part}
 use Rattle.choice_counts.proofs.OpenSums.{least_most, open_freed, open_most, open_part, open_taken, stuck_most}
 use Rattle.forward_count.specs.Steps.{slots_after}
@@ -41,7 +41,7 @@ returns-then-step c =
     let taken : is_some (choice_given slots path) ≡ true = c.requires.slot ∙ c.if-step.true in
     let stuck = open_freed stuck_part slots rows path inside taken in
     let least = open_freed least_part slots rows path inside taken in
-    subst (λ (t : Bool). IsOpen (slots_after t step.literal slots) rows c.with.result) (sym c.if-step.true)
+    subst (λ (t : Bool). AreOpenPaths (slots_after t step.literal slots) rows c.with.result) (sym c.if-step.true)
     (record {
       stuck = omega (arith, stuck, ap (λ (r : PathTallies). stuck_part r.least) c.tallies_at.ensures, c.requires.open.stuck, c.with.ensures.stuck);
       least = omega (arith, least, ap (λ (r : PathTallies). least_part r.least) c.tallies_at.ensures, c.requires.open.least, c.with.ensures.least);
@@ -57,7 +57,7 @@ returns-else-step c =
     let free : is_some (choice_given slots path) ≡ false = c.requires.slot ∙ c.if-step.false in
     let stuck = open_taken stuck_part slots rows path step.literal.choice inside free in
     let least = open_taken least_part slots rows path step.literal.choice inside free in
-    subst (λ (t : Bool). IsOpen (slots_after t step.literal slots) rows c.without.result) (sym c.if-step.false)
+    subst (λ (t : Bool). AreOpenPaths (slots_after t step.literal slots) rows c.without.result) (sym c.if-step.false)
     (record {
       stuck = omega (arith, stuck, ap (λ (r : PathTallies). stuck_part r.least) c.tallies_at.ensures, c.requires.open.stuck, c.without.ensures.stuck);
       least = omega (arith, least, ap (λ (r : PathTallies). least_part r.least) c.tallies_at.ensures, c.requires.open.least, c.without.ensures.least);

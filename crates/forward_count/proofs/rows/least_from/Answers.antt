@@ -1,6 +1,6 @@
 use Rattle.std.proofs.Common.{◌≡◌, ◌<◌, ◌≤◌, ◌∙◌, ℕ, List, ap, length, refl, sym, arith}
 use Rattle.std.proofs.lemmas.List.{get_or_default, take_all}
-use Rattle.choice_counts.specs.Tallies.{least_of, tally_at}
+use Rattle.choice_counts.specs.Tallies.{least_of_tallies, tally_at}
 use Rattle.choice_counts.proofs.Least.{least_none}
 use Rattle.forward_count.proofs.RowLaws.{floor_found, least_more}
 use Rattle.forward_count.proofs.rows.least_from.Goals.{then-tally-least, else-tally-least}
@@ -40,4 +40,4 @@ returns-clause-least c =
     let tallies = c.loop-index.tallies in
     let same = c.loop-index.invariant.same in
     let past : length tallies ≤ c.loop-index.index = omega (arith, ap (λ (ws : List ℕ). length ws) same, c.loop-index-test.false) in
-    c.loop-index.invariant.least ∙ ap least_of (take_all c.loop-index.index tallies past ∙ same)
+    c.loop-index.invariant.least ∙ ap least_of_tallies (take_all c.loop-index.index tallies past ∙ same)

@@ -7,7 +7,7 @@ use Rattle.fapp_model.specs.declared.instance.Instance.{Instance}
 use Rattle.fapp_model.specs.Assignments.{count_at}
 use Rattle.fapp_model.specs.search.Partials.{literal}
 use Rattle.choice_counts.specs.Counts.{tally_of, tallies_of}
-use Rattle.choice_counts.specs.Tallies.{least_of, tally_at}
+use Rattle.choice_counts.specs.Tallies.{least_of_tallies, tally_at}
 use Rattle.choice_counts.proofs.Least.{least_none}
 use Rattle.forward_count.proofs.RowLaws.{least_all, least_write, row_made}
 use Rattle.forward_count.proofs.start.reset_row.Goals as goal
@@ -31,7 +31,7 @@ loop-choice-preserved c =
         | inl e ↦ ap (tally_at (set tallies index tally)) e ∙ (get_or-set_same tallies index tally 0 inside ∙ (subst (λ (i : Instance). IsArcs i c.args.level arc → tally ≡ tally_of i c.args.level arc [] (literal c.args.path index)) c.requires.same (c.outside_tally-tally.ensures.tally arc) arcs ∙ ap (λ j. tally_of c.args.instance.now c.args.level arc [] (literal c.args.path j)) (sym e)))
         | inr other ↦ get_or-set_other tallies index k tally 0 other ∙ c.loop-choice.invariant.done k (below_other k index below other) arc arcs
       ];
-      least = subst (λ (ws : List ℕ). c.min-least.result ≡ least_of (take (index + 1) ws)) (sym same) (least_write tallies index tally c.loop-choice.least _ inside c.loop-choice.invariant.least c.min-least.ensures);
+      least = subst (λ (ws : List ℕ). c.min-least.result ≡ least_of_tallies (take (index + 1) ws)) (sym same) (least_write tallies index tally c.loop-choice.least _ inside c.loop-choice.invariant.least c.min-least.ensures);
     }
 
 pub returns : goal.returns

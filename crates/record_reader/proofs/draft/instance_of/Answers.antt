@@ -1,5 +1,5 @@
 use Rattle.std.proofs.Common.{All, sym, subst, take}
-use Rattle.record_reader.specs.declared.entry.Link.TheVariants as links
+use Rattle.record_reader.specs.declared.entry.Pending.TheVariants as links
 use Rattle.record_reader.specs.Instances.{paths_of}
 use Rattle.record_reader.specs.Validity.{IsPathEntry}
 use Rattle.record_reader.proofs.LinkLists.{path_entry_at}

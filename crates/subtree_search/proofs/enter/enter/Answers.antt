@@ -3,8 +3,8 @@ use Rattle.std.proofs.lemmas.Bool.{true≢false}
 use Rattle.fapp_model.specs.Tags.{triple_from}
 use Rattle.fapp_model.specs.search.Dead.{Dead}
 use Rattle.fapp_model.proofs.LevelNumbers.{levels-few}
-use Rattle.search_log.specs.Fuels.{Takes}
-use Rattle.search_log.specs.Shares.{IsCiteOf, Looks}
+use Rattle.search_log.specs.Fuels.{TakesTick}
+use Rattle.search_log.specs.Shares.{IsCiteOf, LooksUp}
 use Rattle.settle_laws.specs.Levels.{level_code}
 use Rattle.settle_laws.proofs.Entering.{dead-found, is-ticked, moot-found, row-found, spent-found}
 use Rattle.settle_laws.proofs.Fewer.{copied-more}
@@ -27,7 +27,7 @@ returns-in-Some-clause-entry g c =
     let f = c.args.forward.now in
     let low : level_code c.args.level < c.now-seen.result.code = omega (arith, above-by c.le.result c.now-seen.result.code c.level_tag.result.code c.le.ensures c.if-le.false, c.level_tag.ensures) in
     let at_is : c.lesser-target.result.code ≡ min c.now-seen.result.code (level_code (c.args.level + 1)) = c.lesser-target.ensures ∙ ap (λ n. min c.now-seen.result.code n) c.level_tag-2.ensures in
-    let looks = subst (λ o. Looks (g.H.Shared.state c.args.shared.now) (g.H.Shared.state c.lookup.new.self) c.partial.result.now c.lesser-target.result.code o) c.in-Some.is c.lookup.ensures.looks in
+    let looks = subst (λ o. LooksUp (g.H.Shared.state c.args.shared.now) (g.H.Shared.state c.lookup.new.self) c.partial.result.now c.lesser-target.result.code o) c.in-Some.is c.lookup.ensures.looks in
     λ log. (
       row-found f.instance c.args.level f.pushed c.args.fuel.now.amount (g.B.Bound.state c.args.bound.now) (g.B.Bound.state c.now-seen.new.self) (g.H.Shared.state c.args.shared.now) c.now-seen.result c.now-seen.ensures.tells log
           low c.lesser-target.result at_is c.partial.result.now (g.H.Shared.state c.lookup.new.self) (λ a. (c.partial.ensures.given a).0) c.in-Some.cite
@@ -47,7 +47,7 @@ returns-then-is_dead-clause-entry g c =
     let at_is : c.lesser-target.result.code ≡ min c.now-seen.result.code (level_code (c.args.level + 1)) = c.lesser-target.ensures ∙ ap (λ n. min c.now-seen.result.code n) c.level_tag-2.ensures in
     λ log. dead-found f.instance c.args.level f.pushed c.args.fuel.now.amount (g.B.Bound.state c.args.bound.now) (g.B.Bound.state c.now-seen.new.self) (g.H.Shared.state c.args.shared.now) c.now-seen.result c.now-seen.ensures.tells log
     low c.lesser-target.result at_is c.partial.result.now (g.H.Shared.state c.lookup.new.self)
-    (subst (λ o. Looks (g.H.Shared.state c.args.shared.now) (g.H.Shared.state c.lookup.new.self) c.partial.result.now c.lesser-target.result.code o) c.in_default.is c.lookup.ensures.looks)
+    (subst (λ o. LooksUp (g.H.Shared.state c.args.shared.now) (g.H.Shared.state c.lookup.new.self) c.partial.result.now c.lesser-target.result.code o) c.in_default.is c.lookup.ensures.looks)
     (λ a. (c.partial.ensures.given a).1) (c.is_dead.ensures.0 c.if-is_dead.true)
 
 pub returns-then-not-take-clause-entry : goal.returns-then-not-take-clause-entry
@@ -56,10 +56,10 @@ returns-then-not-take-clause-entry g c =
     let low : level_code c.args.level < c.now-seen.result.code = omega (arith, above-by c.le.result c.now-seen.result.code c.level_tag.result.code c.le.ensures c.if-le.false, c.level_tag.ensures) in
     let at_is : c.lesser-target.result.code ≡ min c.now-seen.result.code (level_code (c.args.level + 1)) = c.lesser-target.ensures ∙ ap (λ n. min c.now-seen.result.code n) c.level_tag-2.ensures in
     let alive : Dead f.instance (triple_from c.lesser-target.result.code) f.pushed → ⊥ = λ dead. true≢false (sym (c.is_dead.ensures.1 dead) ∙ c.if-is_dead.false) in
-    let taken : Takes c.args.fuel.now.amount c.take.new.self.amount false = subst (λ b. Takes c.args.fuel.now.amount c.take.new.self.amount b) c.if-not-take.true c.take.ensures in
+    let taken : TakesTick c.args.fuel.now.amount c.take.new.self.amount false = subst (λ b. TakesTick c.args.fuel.now.amount c.take.new.self.amount b) c.if-not-take.true c.take.ensures in
     λ log. spent-found f.instance c.args.level f.pushed c.args.fuel.now.amount (g.B.Bound.state c.args.bound.now) (g.B.Bound.state c.now-seen.new.self) (g.H.Shared.state c.args.shared.now) c.now-seen.result c.now-seen.ensures.tells log
     low c.lesser-target.result at_is c.partial.result.now (g.H.Shared.state c.lookup.new.self)
-    (subst (λ o. Looks (g.H.Shared.state c.args.shared.now) (g.H.Shared.state c.lookup.new.self) c.partial.result.now c.lesser-target.result.code o) c.in_default.is c.lookup.ensures.looks)
+    (subst (λ o. LooksUp (g.H.Shared.state c.args.shared.now) (g.H.Shared.state c.lookup.new.self) c.partial.result.now c.lesser-target.result.code o) c.in_default.is c.lookup.ensures.looks)
     (λ a. (c.partial.ensures.given a).1) c.requires.valid c.requires.level alive c.requires.prefix c.take.new.self.amount taken.0 taken.1
 
 pub returns-clause-entry : goal.returns-clause-entry
@@ -68,10 +68,10 @@ returns-clause-entry g c =
     let low : level_code c.args.level < c.now-seen.result.code = omega (arith, above-by c.le.result c.now-seen.result.code c.level_tag.result.code c.le.ensures c.if-le.false, c.level_tag.ensures) in
     let at_is : c.lesser-target.result.code ≡ min c.now-seen.result.code (level_code (c.args.level + 1)) = c.lesser-target.ensures ∙ ap (λ n. min c.now-seen.result.code n) c.level_tag-2.ensures in
     let alive : Dead f.instance (triple_from c.lesser-target.result.code) f.pushed → ⊥ = λ dead. true≢false (sym (c.is_dead.ensures.1 dead) ∙ c.if-is_dead.false) in
-    let taken : Takes c.args.fuel.now.amount c.take.new.self.amount true = subst (λ b. Takes c.args.fuel.now.amount c.take.new.self.amount b) c.if-not-take.false c.take.ensures in
+    let taken : TakesTick c.args.fuel.now.amount c.take.new.self.amount true = subst (λ b. TakesTick c.args.fuel.now.amount c.take.new.self.amount b) c.if-not-take.false c.take.ensures in
     λ log. is-ticked f.instance c.args.level f.pushed c.args.fuel.now.amount (g.B.Bound.state c.args.bound.now) (g.B.Bound.state c.now-seen.new.self) (g.H.Shared.state c.args.shared.now) c.now-seen.result c.now-seen.ensures.tells log
     low c.lesser-target.result at_is c.partial.result.now (g.H.Shared.state c.lookup.new.self)
-    (subst (λ o. Looks (g.H.Shared.state c.args.shared.now) (g.H.Shared.state c.lookup.new.self) c.partial.result.now c.lesser-target.result.code o) c.in_default.is c.lookup.ensures.looks)
+    (subst (λ o. LooksUp (g.H.Shared.state c.args.shared.now) (g.H.Shared.state c.lookup.new.self) c.partial.result.now c.lesser-target.result.code o) c.in_default.is c.lookup.ensures.looks)
     (λ a. (c.partial.ensures.given a).1) c.requires.valid c.requires.level alive c.take.new.self.amount taken
 
 pub returns-in-Some-clause-copied : goal.returns-in-Some-clause-copied

@@ -5,7 +5,7 @@ use Rattle.fapp_model.specs.Tags.{IsTagOf, code_of, triple_from}
 use Rattle.fapp_model.specs.search.Dead.{Dead}
 use Rattle.search_log.specs.Logs.{KeepsBest}
 use Rattle.search_log.specs.Bounds.{Offers}
-use Rattle.settle_laws.specs.Lines.{Offered}
+use Rattle.settle_laws.specs.Lines.{OffersPlan}
 use Rattle.settle_laws.proofs.FullPrefixes.{cost-low, cost-own, dead-at-cost, unmet-dead}
 use Rattle.settle_laws.proofs.Offering.{concluded, cost-tag-code}
 use Rattle.subtree_search.specs.Plans.{IsPlanOf}
@@ -59,7 +59,7 @@ returns-clause-concluded g c =
     let costs : c.in-Some.triple ≡ cost c.args.forward.now.instance c.fill.new.plan = c.in-Some.ensures.1 ∙ ap (λ i. cost i c.fill.new.plan) (c.instance.ensures.value ∙ c.tables.ensures) in
     let code : c.tag_of-tag.result.code ≡ code_of (cost c.args.forward.now.instance c.fill.new.plan) = c.tag_of-tag.ensures.code ∙ ap code_of costs in
     let met : meets c.args.forward.now.instance c.fill.new.plan ≡ true = subst (λ i. meets i c.fill.new.plan ≡ true) (c.instance.ensures.value ∙ c.tables.ensures) c.in-Some.ensures.0 in
-    let o : Offered c.args.forward.now.instance c.args.forward.now.pushed (g.B.Bound.state c.args.bound.now) (g.B.Bound.state c.offer.new.self) c.args.log.now c.keep_best.new.self = record {
+    let o : OffersPlan c.args.forward.now.instance c.args.forward.now.pushed (g.B.Bound.state c.args.bound.now) (g.B.Bound.state c.offer.new.self) c.args.log.now c.keep_best.new.self = record {
       plan = c.fill.new.plan;
       feasible = plan-feasible c.args.forward.now.instance c.requires.valid c.args.forward.now.pushed c.requires.prefix c.requires.full
           (prefix-is_partial c.args.forward.now.instance c.args.forward.now.pushed c.requires.prefix) c.partial.result.now c.partial.ensures c.fill.new.plan (c.fill.auto.plan ∙ c.requires.room)

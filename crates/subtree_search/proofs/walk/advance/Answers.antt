@@ -4,7 +4,7 @@ use Rattle.fapp_model.specs.declared.instance.Instance.{Instance}
 use Rattle.fapp_model.specs.search.Prefixes.{IsPrefix}
 use Rattle.choice_counts.specs.ForwardStates.{ForwardState}
 use Rattle.settle_laws.specs.declared.node.Node.{Node}
-use Rattle.settle_laws.specs.Explained.{AreCopied}
+use Rattle.settle_laws.specs.Explained.{AreCitesCopied}
 use Rattle.settle_laws.specs.Worlds.{world}
 use Rattle.settle_laws.proofs.Fewer.{copied-contents}
 use Rattle.subtree_search.specs.declared.seen.SeenRows.{SeenRows}
@@ -49,10 +49,10 @@ jump-requires-clause-coming g c =
     )
 
 pub returns-in_err-settled-clause-held : goal.returns-in_err-settled-clause-held
-returns-in_err-settled-clause-held g c = subst (λ (seen : SeenRows). AreCopied (g.H.Shared.state c.try_next.new.shared).copied seen.cites.items) (sym c.close_by_row.ensures.seen) c.try_next.ensures.held
+returns-in_err-settled-clause-held g c = subst (λ (seen : SeenRows). AreCitesCopied (g.H.Shared.state c.try_next.new.shared).copied seen.cites.items) (sym c.close_by_row.ensures.seen) c.try_next.ensures.held
 
 pub returns-clause-held : goal.returns-clause-held
-returns-clause-held g c = subst (λ (seen : SeenRows). AreCopied (g.H.Shared.state c.try_next.new.shared).copied seen.cites.items) (sym (c.remember.ensures.seen ∙ (c.jump.ensures.seen ∙ c.close_by_row.ensures.seen))) c.try_next.ensures.held
+returns-clause-held g c = subst (λ (seen : SeenRows). AreCitesCopied (g.H.Shared.state c.try_next.new.shared).copied seen.cites.items) (sym (c.remember.ensures.seen ∙ (c.jump.ensures.seen ∙ c.close_by_row.ensures.seen))) c.try_next.ensures.held
 
 pub returns-in_err-settled-clause-advanced : goal.returns-in_err-settled-clause-advanced
 returns-in_err-settled-clause-advanced g c = λ root from prefix begins trying.

@@ -4,7 +4,7 @@ use Rattle.std.proofs.lemmas.List.Elements.{All-nil}
 use Rattle.search_log.specs.Contents.{known_row}
 use Rattle.search_log.specs.declared.shared.Cite.{Cite}
 use Rattle.search_log.specs.Shares.{row_content}
-use Rattle.settle_laws.specs.Explained.{AreCopied}
+use Rattle.settle_laws.specs.Explained.{AreCitesCopied}
 use Rattle.subtree_search.specs.declared.seen.SeenRows.{SeenRows}
 use Rattle.choice_counts.specs.ForwardStates.{ForwardState, with_literals}
 use Rattle.settle_laws.specs.OpenNodes.{IsTrying}
@@ -20,7 +20,7 @@ loop-found-init g c = record {
   bound = c.visit.ensures.bound;
   shared = c.visit.ensures.shared;
   serves = c.visit.ensures.serves;
-  held = c.visit.ensures.held (subst (λ cites. AreCopied (g.H.Shared.state c.args.shared.now).copied cites) (sym c.requires.unseen) (All-nil (λ (cite : Cite). Contains (g.H.Shared.state c.args.shared.now).copied (known_row cite.row (row_content cite.content)))));
+  held = c.visit.ensures.held (subst (λ cites. AreCitesCopied (g.H.Shared.state c.args.shared.now).copied cites) (sym c.requires.unseen) (All-nil (λ (cite : Cite). Contains (g.H.Shared.state c.args.shared.now).copied (known_row cite.row (row_content cite.content)))));
   exploring = record {
     begins = c.visit.ensures.first ∙ c.requires.begins;
     fronted = record { front = c.visit.ensures.front ∙ ap (λ (s : ForwardState). with_literals c.args.forward.now s.pushed) (sym c.visit.ensures.front); level_is = c.visit.ensures.level; ready = c.visit.ensures.ready; prefix = c.requires.prefix };
@@ -105,7 +105,7 @@ loop-found-preserved g c = record {
   bound = λ was h. c.advance.ensures.bound was (c.loop-found.invariant.bound was h);
   shared = λ was h. c.advance.ensures.shared was (c.loop-found.invariant.shared was h);
   serves = serves-trans (g.H.Shared.serves c.args.shared.now) (g.H.Shared.serves c.loop-found.shared) (g.H.Shared.serves c.advance.new.shared) c.loop-found.invariant.serves c.advance.ensures.serves;
-  held = subst (λ (seen : SeenRows). AreCopied (g.H.Shared.state c.advance.new.shared).copied seen.cites.items) (sym c.note.ensures.seen) c.advance.ensures.held;
+  held = subst (λ (seen : SeenRows). AreCitesCopied (g.H.Shared.state c.advance.new.shared).copied seen.cites.items) (sym c.note.ensures.seen) c.advance.ensures.held;
   exploring = record {
     begins = c.note.ensures.first ∙ (c.advance.ensures.first ∙ c.loop-found.invariant.exploring.begins);
     fronted = fronted-on c.args.forward.now c.advance.new.forward c.args.walk.now.level c.advance.new.walk (fronted-on c.args.forward.now c.loop-found.forward c.args.walk.now.level c.loop-found.walk c.loop-found.invariant.exploring.fronted c.advance.new.forward c.advance.ensures.front c.advance.new.walk c.advance.ensures.level c.advance.ensures.ready) c.note.new.forward c.note.ensures.front c.note.new.walk c.note.ensures.level c.note.ensures.ready;

@@ -4,7 +4,7 @@ use Rattle.fapp_model.specs.declared.triple.Triple.{Triple}
 use Rattle.fapp_model.specs.Tags.{mode_level, triple_from}
 use Rattle.fapp_model.specs.search.Pairs.{limit_of}
 use Rattle.fapp_tables.specs.Measures.{pair_code}
-use Rattle.choice_counts.specs.CountedSums.{IsBound, IsCalm}
+use Rattle.choice_counts.specs.CountedSums.{IsCountedSum, IsCalm}
 use Rattle.forward_count.proofs.DeadLaws.{dead_free, dead_over, dead_restless, seen}
 use Rattle.forward_count.proofs.forward.Forward.is_dead.Goals as goal
 
@@ -21,7 +21,7 @@ returns-then-triple-gt0 c =
     let st = c.args.self.now in
     let f = (seen c.self.inside.tables.now c.self.inside.level c.self.inside.pushed.items c.self.inside.partial c.self.inside.rows.items c.self.inside.totals c.self.inside.pushed.cap c.self.invariant.1 c.args.self.now c.self.view_is) in
     let calm = subst (λ (k : ℕ). IsCalm st.instance k st.pushed) c.level_of-level.ensures (c.is_calm.ensures.0 c.if-not-is_calm.false) in
-    let bound = subst (λ (k : ℕ). IsBound st.instance k st.pushed c.bound.result) c.level_of-level.ensures c.bound.ensures in
+    let bound = subst (λ (k : ℕ). IsCountedSum st.instance k st.pushed c.bound.result) c.level_of-level.ensures c.bound.ensures in
     dead_over st.instance c.args.tag.code st.pushed f.valid c.requires f.partial c.if-tag-eq0.false c.bound.result calm bound c.limit_code.result
     (c.limit_code.ensures ∙ ap (λ (t : Triple). pair_code (limit_of t)) c.triple_of-triple.ensures) (subst (λ (t : Triple). 0 < t.v) c.triple_of-triple.ensures c.if-triple-gt0.true)
 

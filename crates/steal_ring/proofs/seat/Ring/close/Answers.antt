@@ -5,7 +5,7 @@ use Rattle.std.proofs.lemmas.List.{length-append}
 use Rattle.steal_ring.specs.declared.hand.Hand.{Hand}
 use Rattle.steal_ring.specs.Jobs.{times, once}
 use Rattle.steal_ring.specs.Seats.{view_of}
-use Rattle.steal_ring.specs.Hands.{won_of, found_of, IsHandOf, IsDone, IsDealt}
+use Rattle.steal_ring.specs.Hands.{won_of, found_of, IsHandOf, IsHandDone, IsDealt}
 use Rattle.steal_ring.proofs.Steps.{stands}
 use Rattle.steal_ring.proofs.seat.Ring.close.Goals as goal
 
@@ -13,7 +13,7 @@ popped : (f : Hand → ℕ) (hands rest : List Hand) (h : Hand) → hands ≡ re
 popped f hands rest h e = ap (sum_by f) e ∙ sum_by_push f rest h
 
 -- some hand found each job
-found_by_one : (jobs : ℕ) (hands : List Hand) (first : Hand) (job : ℕ) → IsDealt jobs hands → All IsDone hands → 0 < length hands → job < jobs → 0 < sum_by (λ h. times job (found_of h)) hands
+found_by_one : (jobs : ℕ) (hands : List Hand) (first : Hand) (job : ℕ) → IsDealt jobs hands → All IsHandDone hands → 0 < length hands → job < jobs → 0 < sum_by (λ h. times job (found_of h)) hands
 found_by_one jobs hands first job dealt done some lt =
     let i : ℕ = job % length hands in
     let inside : i < length hands = omega arith in

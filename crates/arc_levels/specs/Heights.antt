@@ -1,4 +1,4 @@
--- Marks of choices: at which level each was removed from the arcs.
+-- Heights of choices: at which level each was removed from the arcs.
 use Rattle.std.specs.Prelude.{◌≡◌, ◌⊎◌, ◌↔◌, ℕ, ◌+◌, ◌<◌, ◌≤◌, nat_le, Bool, false, not, ◌&&◌, IsTrue, List, [], length, slice_index_or, sum_by, count_by}
 use Rattle.std.specs.List.{range_with_len}
 use Rattle.fapp_model.specs.declared.instance.Instance.{Instance}
@@ -11,29 +11,29 @@ use Rattle.fapp_model.specs.Assignments.{count_at}
 use Rattle.fapp_model.specs.Levels.{levels_of}
 use Rattle.dead_laws.specs.ArcLaws.{IsArcs}
 
--- what stands past the end of the marks: above the mark of each level
-abbrev pub no_mark : ℕ
-no_mark = MAX_LEVELS + 2
+-- what stands past the end of the heights: above the height of each level
+abbrev pub no_height : ℕ
+no_height = MAX_LEVELS + 2
 
-abbrev pub mark_of : List ℕ → ℕ → ℕ
-mark_of marks index = slice_index_or marks index no_mark
+abbrev pub height_of : List ℕ → ℕ → ℕ
+height_of heights index = slice_index_or heights index no_height
 
-abbrev pub mark_at : List (List ℕ) → ℕ → ℕ → ℕ
-mark_at rows path index = mark_of (slice_index_or rows path []) index
+abbrev pub height_at : List (List ℕ) → ℕ → ℕ → ℕ
+height_at rows path index = height_of (slice_index_or rows path []) index
 
 -- the choices that are within the arcs of a level: those that were removed at a lower level at most
 abbrev pub arc_of : List (List ℕ) → ℕ → Literal → Bool
-arc_of rows level a = nat_le (mark_at rows a.path a.choice) level
+arc_of rows level a = nat_le (height_at rows a.path a.choice) level
 
--- one mark for each choice of each path
-pub record AreMarks (instance : Instance) (rows : List (List ℕ)) : Type 0 where
+-- one height for each choice of each path
+pub record AreHeights (instance : Instance) (rows : List (List ℕ)) : Type 0 where
   pub paths : length rows ≡ length instance.paths
   pub counts : (path : ℕ) → path < length instance.paths →
       length (slice_index_or rows path []) ≡ count_at instance path
 
 -- no choice is removed yet
 abbrev pub AreClear : Instance → List (List ℕ) → Type 0
-AreClear instance rows = (a : Literal) → IsLiteral instance a → mark_at rows a.path a.choice ≡ 0
+AreClear instance rows = (a : Literal) → IsLiteral instance a → height_at rows a.path a.choice ≡ 0
 
 -- a choice of another path is within the arcs, with no hard-bad record between it and the literal
 abbrev pub is_partner : Instance → ℕ → List (List ℕ) → Literal → Literal → Bool
@@ -57,14 +57,14 @@ abbrev pub IsWideAt : Instance → ℕ → List (List ℕ) → Type 0
 IsWideAt instance level rows = (family : Literal → Bool) → IsSupported instance level family →
     (a : Literal) → IsTrue (family a) → IsTrue (arc_of rows level a)
 
--- each mark stays, or a choice that was within the level's arcs is removed at the level
+-- each height stays, or a choice that was within the level's arcs is removed at the level
 abbrev pub Falls : ℕ → List (List ℕ) → List (List ℕ) → Type 0
-Falls level old rows = (path index : ℕ) → (mark_at rows path index ≡ mark_at old path index)
-    ⊎ ((mark_at old path index ≤ level) × (mark_at rows path index ≡ level + 1))
+Falls level old rows = (path index : ℕ) → (height_at rows path index ≡ height_at old path index)
+    ⊎ ((height_at old path index ≤ level) × (height_at rows path index ≡ level + 1))
 
 -- each choice of a path that is within the arcs has a partner on the other path
-abbrev pub IsServed : Instance → ℕ → List (List ℕ) → ℕ → ℕ → Type 0
-IsServed instance level rows path other = (index : ℕ) → IsTrue (arc_of rows level (literal path index)) →
+abbrev pub HasPartners : Instance → ℕ → List (List ℕ) → ℕ → ℕ → Type 0
+HasPartners instance level rows path other = (index : ℕ) → IsTrue (arc_of rows level (literal path index)) →
     HasPartner instance level (arc_of rows level) (literal path index) other
 
 -- how many choices are within a level's arcs
@@ -75,24 +75,24 @@ size_of instance level rows = sum_by
 
 -- the arcs of each level
 pub record AreArcs (instance : Instance) (rows : List (List ℕ)) : Type 0 where
-  pub marks : AreMarks instance rows
-  pub low : (a : Literal) → IsLiteral instance a → mark_at rows a.path a.choice ≤ levels_of instance + 1
+  pub heights : AreHeights instance rows
+  pub low : (a : Literal) → IsLiteral instance a → height_at rows a.path a.choice ≤ levels_of instance + 1
   pub arcs : (level : ℕ) → level ≤ levels_of instance → IsArcs instance level (arc_of rows level)
 
--- the least mark of a path's first choices, or one more than the number of levels where that is less: below it each of
+-- the least height of a path's first choices, or one more than the number of levels where that is less: below it each of
 -- them is outside the arcs
-pub record IsLeastMark (instance : Instance) (rows : List (List ℕ)) (path count least : ℕ) : Type 0 where
+pub record IsLeastHeight (instance : Instance) (rows : List (List ℕ)) (path count least : ℕ) : Type 0 where
   pub few : least ≤ levels_of instance + 1
   pub below : (level : ℕ) → level ≤ levels_of instance →
-      ((index : ℕ) → index < count → level < mark_at rows path index) ↔ (level < least)
+      ((index : ℕ) → index < count → level < height_at rows path index) ↔ (level < least)
 
 -- a path with each choice outside the arcs
 pub record IsOutsidePath (instance : Instance) (rows : List (List ℕ)) (count level : ℕ) : Type 0 where
   pub path : ℕ
   pub inside : path < count
-  pub outside : (index : ℕ) → index < count_at instance path → level < mark_at rows path index
+  pub outside : (index : ℕ) → index < count_at instance path → level < height_at rows path index
 
--- the greatest such mark of the first paths: below it one of them has each choice outside the arcs
+-- the greatest such height of the first paths: below it one of them has each choice outside the arcs
 pub record IsGreatestLeast (instance : Instance) (rows : List (List ℕ)) (count greatest : ℕ) : Type 0 where
   pub few : greatest ≤ levels_of instance + 1
   pub below : (level : ℕ) → level ≤ levels_of instance → IsOutsidePath instance rows count level ↔ (level < greatest)

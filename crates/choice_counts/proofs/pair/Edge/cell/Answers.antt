@@ -4,7 +4,7 @@ use Rattle.fapp_tables.specs.Indexes.{record_at}
 use Rattle.fapp_tables.proofs.PairLaws.{positions_within}
 use Rattle.choice_counts.specs.Breaks.{IsSteady}
 use Rattle.choice_counts.proofs.CellLaws.{cell_tallies}
-use Rattle.choice_counts.proofs.pair.Pair.cell.Goals as goal
+use Rattle.choice_counts.proofs.pair.Edge.cell.Goals as goal
 
 pub next_reach-requires : goal.next_reach-requires
 next_reach-requires c = record {

@@ -1,7 +1,7 @@
 use Rattle.std.proofs.Common.{◌∙◌, ap}
 use Rattle.fapp_model.specs.declared.choice.Choice.{Choice}
 use Rattle.choice_counts.specs.Distances.{choices_tally, near}
-use Rattle.choice_counts.proofs.pair.Pair.tally_apart.Goals as goal
+use Rattle.choice_counts.proofs.pair.Edge.tally_apart.Goals as goal
 
 pub returns : goal.returns
 returns c =
