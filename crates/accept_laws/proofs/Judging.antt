@@ -17,7 +17,7 @@ use Rattle.fapp_model.proofs.Anys.{any-member, none-member, passing}
 use Rattle.fapp_model.proofs.Members.{in-range, from-range}
 use Rattle.dead_laws.proofs.DeadImplied.{small-paths}
 use Rattle.dead_laws.proofs.DeadLower.{IsPairAtMost-trans}
-use Rattle.dead_laws.proofs.Growing.{pair-grows}
+use Rattle.dead_laws.proofs.MoreLiterals.{pair-grows}
 use Rattle.dead_laws.proofs.Picks.{at-names}
 use Rattle.std.proofs.lemmas.List.Elements.{All-contains, All-contains_itself}
 use Rattle.cert_lines.specs.acceptance.Judged.{is_pair_at_most, remains, least_pair, or_no_pair, has_clash, is_stuck, is_over, judged_dead}

@@ -15,7 +15,7 @@ use Rattle.seat_laws.proofs.Views.{set_at, each_set, some_set, shared_set, each_
 use Rattle.seat_laws.proofs.Sums.{one_within}
 use Rattle.best_word.specs.declared.view.BestView.{BestView}
 use Rattle.best_word.specs.Bound.{IsBestWord, IsCodeFor, Knows, Words, word_of, IsSeatOffer, is_spent, share_of, top_code, kept_half, given_half, after_join, spent_view, after_load, after_offer}
-use Rattle.best_word.specs.Steps.{LoadsBest, Lowers, HasPart}
+use Rattle.best_word.specs.BestSteps.{LoadsBest, Lowers, HasPart}
 use Rattle.best_word.specs.Seats.{IsLeastOf}
 
 -- a lower word is known by whoever knew the word

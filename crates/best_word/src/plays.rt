@@ -6,7 +6,7 @@ use atomic_table::{Join, Play, Split};
 pub struct Look;
 
 impl Play<(), BestView> for Look {
-    ghost use Rattle.best_word.specs.Steps.{LoadsBest};
+    ghost use Rattle.best_word.specs.BestSteps.{LoadsBest};
 
     ghost then = { LoadsBest };
 }
@@ -15,7 +15,7 @@ impl Play<(), BestView> for Look {
 pub struct Lower;
 
 impl Play<(), BestView> for Lower {
-    ghost use Rattle.best_word.specs.Steps.{Lowers};
+    ghost use Rattle.best_word.specs.BestSteps.{Lowers};
 
     ghost then = { Lowers };
 }
@@ -24,7 +24,7 @@ impl Play<(), BestView> for Lower {
 pub struct Share;
 
 impl Play<(), BestView> for Share {
-    ghost use Rattle.best_word.specs.Steps.{HasPart};
+    ghost use Rattle.best_word.specs.BestSteps.{HasPart};
 
     ghost then = { HasPart };
 }

@@ -20,7 +20,7 @@ use Rattle.accept_laws.proofs.Judging.{least}
 use Rattle.accept_laws.proofs.LeastFolds.{IsLeastOf}
 use Rattle.cert_check.specs.declared.exclusion.Scene.{Scene}
 use Rattle.cert_check.specs.declared.weight.Weight.{Weight}
-use Rattle.cert_check.specs.Places.{ties_of, clashes_at, between_at}
+use Rattle.cert_check.specs.RecordsNamed.{ties_of, clashes_at, between_at}
 use Rattle.cert_check.specs.Scenes.{excluded_by}
 use Rattle.cert_check.specs.Weighed.{IsNear, IsStep, near_at, stuck_by, least_by}
 use Rattle.cert_check.proofs.Ties.{clashes_with-at, added-at}

@@ -1,4 +1,4 @@
-pub mod Steps
+pub mod OneMoreNumber
 pub mod Filters
 pub mod FirstDeleter
 pub mod Notes

@@ -9,7 +9,7 @@ use Rattle.fapp_model.specs.declared.record.Record.{Record}
 use Rattle.fapp_model.specs.search.Partials.{names}
 use Rattle.fapp_model.specs.Records.{first_path, second_path}
 use Rattle.fapp_model.proofs.Anys.{passing, any-member, no-member}
-use Rattle.cert_check.specs.Places.{record_at, touches, places_of, reaches, ties_of}
+use Rattle.cert_check.specs.RecordsNamed.{record_at, touches, places_of, reaches, ties_of}
 use Rattle.cert_check.proofs.Filters.{any-filter}
 
 -- no element passes where none does before the filter

@@ -14,7 +14,7 @@ use Rattle.fapp_model.specs.Records.{first_path, second_path}
 use Rattle.fapp_model.specs.search.Weights.{between, added}
 use Rattle.dead_laws.proofs.Picks.{at-names}
 use Rattle.fapp_model.proofs.Sums.{sum_by-same-members}
-use Rattle.cert_check.specs.Places.{no_record, record_at, blocks_at, clashes_at, clashes_with_at, between_at, added_at, row_at, touches, places_of, reaches, ties_of, ArePlaces}
+use Rattle.cert_check.specs.RecordsNamed.{no_record, record_at, blocks_at, clashes_at, clashes_with_at, between_at, added_at, row_at, touches, places_of, reaches, ties_of, ArePlaces}
 use Rattle.cert_check.proofs.Filters.{any-skip, any-places, sum-skip, sum-places}
 
 pub any-same-members : {X : Type 0} (p q : X → Bool) (xs : List X) → All (λ x. p x ≡ q x) xs → list_any p xs ≡ list_any q xs

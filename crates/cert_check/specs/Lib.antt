@@ -1,4 +1,4 @@
-pub mod Places
+pub mod RecordsNamed
 pub mod Weights
 pub mod Marked
 pub mod Scenes

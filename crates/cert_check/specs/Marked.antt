@@ -10,7 +10,7 @@ use Rattle.cert_lines.specs.declared.answer.Line.{Line}
 use Rattle.cert_lines.specs.acceptance.Deleted.{deletes, is_deleted}
 use Rattle.cert_lines.specs.acceptance.Excluded.{no_line, is_only}
 use Rattle.cert_check.specs.declared.marks.Marks.{Marks}
-use Rattle.cert_check.specs.Places.{places_of}
+use Rattle.cert_check.specs.RecordsNamed.{places_of}
 
 -- the line at a position, from 0
 abbrev pub line_on : List Line → ℕ → Line

@@ -11,7 +11,7 @@ use Rattle.fapp_model.specs.search.Clashes.{clashes_with}
 use Rattle.cert_lines.specs.acceptance.Judged.{has_clash, is_pair_at_most, is_stuck, or_no_pair}
 use Rattle.cert_check.specs.declared.exclusion.Scene.{Scene}
 use Rattle.cert_check.specs.declared.weight.Weight.{Weight}
-use Rattle.cert_check.specs.Places.{record_at, touches, ties_of}
+use Rattle.cert_check.specs.RecordsNamed.{record_at, touches, ties_of}
 use Rattle.fapp_model.specs.declared.record.Record.{Record}
 use Rattle.cert_check.specs.Scenes.{excluded_by, pair_by}
 use Rattle.cert_check.specs.Weights.{added_most, row_most, whole_most}

@@ -5,7 +5,7 @@ ghost use Rattle.fapp_model.specs.search.Clashes.{joins, is_hard_bad};
 ghost use Rattle.fapp_model.specs.Instances.{IsInstance};
 ghost use Rattle.fapp_model.specs.search.Partials.{choice_of, IsLiteral};
 ghost use Rattle.fapp_model.specs.search.Weights.{bad_before, bad_further};
-ghost use Rattle.cert_check.specs.Places.{ArePlaces, blocks_at, between_at, clashes_with_at, added_at, row_at};
+ghost use Rattle.cert_check.specs.RecordsNamed.{ArePlaces, blocks_at, between_at, clashes_with_at, added_at, row_at};
 ghost use Rattle.cert_check.specs.Weights.{pair_most};
 
 use crate::weight::Weight;

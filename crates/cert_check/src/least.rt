@@ -6,7 +6,7 @@ ghost use Rattle.fapp_model.specs.search.Partials.{literal, names, IsLiteral};
 ghost use Rattle.fapp_model.specs.search.Weights.{added_pair};
 ghost use Rattle.cert_lines.specs.acceptance.Excluded.{is_excluded};
 ghost use Rattle.cert_lines.specs.acceptance.Judged.{lesser};
-ghost use Rattle.cert_check.specs.Places.{reaches, places_of, ties_of, record_at};
+ghost use Rattle.cert_check.specs.RecordsNamed.{reaches, places_of, ties_of, record_at};
 ghost use Rattle.cert_check.specs.Scenes.{IsScene, choice_by, pair_by, remains_by};
 ghost use Rattle.cert_check.specs.Weights.{added_most, pair_of};
 

@@ -4,7 +4,7 @@ ghost use Rattle.std.specs.Prelude.{◌≡◌, ◌<◌, length, IfOk, All};
 ghost use Rattle.fapp_model.specs.search.Partials.{IsLiteral};
 ghost use Rattle.fapp_model.specs.Instances.{IsInstance};
 ghost use Rattle.fapp_model.specs.Records.{first_path, second_path};
-ghost use Rattle.cert_check.specs.Places.{ArePlaces, record_at, touches};
+ghost use Rattle.cert_check.specs.RecordsNamed.{ArePlaces, record_at, touches};
 ghost use Rattle.cert_check.specs.Scenes.{IsScene};
 ghost use Rattle.cert_check.specs.Weighed.{IsNear, near_at, MarksEnds, MarksAll};
 

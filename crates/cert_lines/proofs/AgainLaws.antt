@@ -23,7 +23,7 @@ use Rattle.cert_lines.specs.VerdictReading.{verdict_line}
 use Rattle.cert_lines.specs.VersionReading.{version_line}
 use Rattle.cert_lines.specs.CertificateReading.{certificate_line}
 use Rattle.cert_lines.specs.Reading.{TextFault, Rest, parts_of, line_by, until, version_or, version_at, finished, reading}
-use Rattle.cert_lines.specs.Laws.{line_after}
+use Rattle.cert_lines.specs.AnswerLaws.{line_after}
 use Rattle.cert_lines.proofs.PlanLaws.{turn_again, plan_again, plan_ends}
 use Rattle.cert_lines.proofs.VerdictLaws.{verdict_again}
 use Rattle.cert_lines.proofs.VersionLaws.{version_again, no_version, no_version_at_end}

@@ -15,7 +15,7 @@ use Rattle.cert_lines.specs.declared.fault.CertCause.TheVariants.{BadTag}
 use Rattle.fapp_text.specs.Reading.{◌>>=◌, allowed}
 use Rattle.cert_lines.specs.Spelling.{triple_numbers, tag_numbers}
 use Rattle.cert_lines.specs.FieldReading.{field_at, ended, number_of, number_at, triple_at, tag_of_code, tag_at}
-use Rattle.fapp_text.proofs.Steps.{bind_ok, allowed_ok, ok_is}
+use Rattle.fapp_text.proofs.ReadingSteps.{bind_ok, allowed_ok, ok_is}
 use Rattle.cert_lines.proofs.Codes.{IsSmall, small_tag, triple_from-code_of}
 use Rattle.cert_lines.proofs.NumberLaws.{number_of_takes, number_of_again}
 use Rattle.cert_lines.proofs.TagReading.{tag_read}

@@ -25,7 +25,7 @@ use Rattle.cert_lines.specs.FieldReading.{field_at, ended, tag_at}
 use Rattle.cert_lines.specs.ListReading.{position_at, literal_at, cite_at, child_at, list_at}
 use Rattle.cert_lines.specs.CertificateReading.{count_line, branch_line, delete_line, certificate_line}
 use Rattle.cert_lines.proofs.Ascending.{few_items}
-use Rattle.fapp_text.proofs.Steps.{bind_ok, chosen, ok_is}
+use Rattle.fapp_text.proofs.ReadingSteps.{bind_ok, chosen, ok_is}
 use Rattle.cert_lines.proofs.FieldLaws.{Takes, split_numbers, takes_both, field_takes, ended_takes, tag_takes, tag_again}
 use Rattle.cert_lines.proofs.ListLaws.{path_of, one_number, itself, choice_of, literal_step, cite_step, child_step, few_choices, position_takes, position_again}
 use Rattle.cert_lines.proofs.StepLaws.{list_takes, list_again}

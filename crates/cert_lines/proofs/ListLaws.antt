@@ -18,7 +18,7 @@ use Rattle.cert_lines.specs.Spelling.{literal_numbers, child_numbers}
 use Rattle.cert_lines.specs.WellFormed.{IsChild}
 use Rattle.cert_lines.specs.FieldReading.{number_at}
 use Rattle.cert_lines.specs.ListReading.{State, position_at, index_at, literal_at, cite_at, child_at}
-use Rattle.fapp_text.proofs.Steps.{bind_ok, allowed_ok, ok_is}
+use Rattle.fapp_text.proofs.ReadingSteps.{bind_ok, allowed_ok, ok_is}
 use Rattle.cert_lines.proofs.FieldLaws.{Takes, takes_both, number_takes, number_again}
 use Rattle.cert_lines.proofs.StepLaws.{IsStep}
 

@@ -16,7 +16,7 @@ use Rattle.fapp_model.specs.Instances.{IsNumber}
 use Rattle.cert_lines.specs.declared.fault.CertCause.{CertCause}
 use Rattle.cert_lines.specs.declared.fault.CertCause.TheVariants.{BadNumber}
 use Rattle.cert_lines.specs.FieldReading.{is_padded, number_of}
-use Rattle.fapp_text.proofs.Steps.{or_fault_ok, refused_ok}
+use Rattle.fapp_text.proofs.ReadingSteps.{or_fault_ok, refused_ok}
 
 own : IsNumeralModel (λ ds. list_all is_digit ds ≡ true) (digits_value 10)
 own = numerals_by_value (λ ds. list_all is_digit ds ≡ true) (search rules)

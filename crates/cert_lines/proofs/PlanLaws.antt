@@ -18,7 +18,7 @@ use Rattle.cert_lines.specs.Spelling.{choice_fields}
 use Rattle.cert_lines.specs.WellFormed.{IsShownChoice}
 use Rattle.cert_lines.specs.FieldReading.{field_at, ended, number_at}
 use Rattle.cert_lines.specs.PlanReading.{polarization_at, misplaced, is_turn, choice_line, plan_line}
-use Rattle.fapp_text.proofs.Steps.{bind_ok, allowed_ok, chosen, ok_is}
+use Rattle.fapp_text.proofs.ReadingSteps.{bind_ok, allowed_ok, chosen, ok_is}
 use Rattle.cert_lines.proofs.FieldLaws.{field_takes, ended_takes, number_takes, number_again}
 use Rattle.fapp_text.specs.Signs.{IsSign, sign_of}
 use Rattle.fapp_text.proofs.SignLemmas.{is_word, sign_taken, sign_again}

@@ -8,7 +8,7 @@ use Rattle.fapp_text.specs.Reading.{◌>>=◌}
 use Rattle.cert_lines.specs.FieldReading.{number_at}
 use Rattle.cert_lines.specs.ListReading.{State, many, counted, list_at}
 use Rattle.cert_lines.proofs.Ascending.{AscendsFrom, pairs_from, ascends}
-use Rattle.fapp_text.proofs.Steps.{bind_ok, ok_is}
+use Rattle.fapp_text.proofs.ReadingSteps.{bind_ok, ok_is}
 use Rattle.cert_lines.proofs.FieldLaws.{Takes, split_numbers, takes_both, number_takes, number_again}
 
 -- a step reads an element that is written as these numbers, and its key is at least the least that may come

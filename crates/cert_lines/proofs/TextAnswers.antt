@@ -5,11 +5,11 @@ use Rattle.fapp_model.specs.Instances.{IsInstance}
 use Rattle.cert_lines.specs.declared.answer.Answer.{Answer}
 use Rattle.fapp_text.specs.declared.failure.Failure.{Failure}
 use Rattle.fapp_text.specs.declared.failure.Failure.TheVariants as errors
-use Rattle.cert_lines.specs.Laws.{OneText, NoFault, FaultBehind, TextOfAnswer, InParts}
+use Rattle.cert_lines.specs.AnswerLaws.{OneText, NoFault, FaultBehind, TextOfAnswer, InParts}
 use Rattle.cert_lines.specs.Reading.{TextFault, fault_in, reading, IsReading}
 use Rattle.fapp_text.specs.Reading.{Gives}
 use Rattle.cert_lines.proofs.AgainLaws.{reading_again, reading_past}
-use Rattle.fapp_text.proofs.Steps.{ok_is}
+use Rattle.fapp_text.proofs.ReadingSteps.{ok_is}
 use Rattle.cert_lines.proofs.TextLaws.{reading_takes}
 
 pub is_reading : (instance : Instance) → IsInstance instance → (bytes : List ℕ) (result : Result Answer (Failure TextFault)) → Gives (λ x. x) result (reading instance bytes) → IsReading instance bytes result

@@ -21,7 +21,7 @@ use Rattle.cert_lines.specs.VerdictReading.{verdict_line}
 use Rattle.cert_lines.specs.VersionReading.{version_line}
 use Rattle.cert_lines.specs.CertificateReading.{certificate_line}
 use Rattle.cert_lines.specs.Reading.{TextFault, Rest, parts_of, next_line, line_by, and_then, until, version_or, version_at, finished, reading}
-use Rattle.fapp_text.proofs.Steps.{bind_ok, at_line_ok, ok_is}
+use Rattle.fapp_text.proofs.ReadingSteps.{bind_ok, at_line_ok, ok_is}
 use Rattle.cert_lines.proofs.PlanLaws.{plan_takes}
 use Rattle.cert_lines.proofs.VerdictLaws.{verdict_takes}
 use Rattle.cert_lines.proofs.VersionLaws.{version_takes}

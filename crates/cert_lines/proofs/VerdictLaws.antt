@@ -19,7 +19,7 @@ use Rattle.cert_lines.specs.WellFormed.{IsVerdict, is_cost, is_shown}
 use Rattle.cert_lines.specs.FieldReading.{field_at, ended, number_at, triple_at, tag_at}
 use Rattle.cert_lines.specs.ListReading.{literal_at, list_at}
 use Rattle.cert_lines.specs.VerdictReading.{word_at, judged, best_line, level_at, open_line, verdict_line}
-use Rattle.fapp_text.proofs.Steps.{bind_ok, allowed_ok, chosen, ok_is}
+use Rattle.fapp_text.proofs.ReadingSteps.{bind_ok, allowed_ok, chosen, ok_is}
 use Rattle.cert_lines.proofs.Codes.{IsSmall, small_tag}
 use Rattle.cert_lines.proofs.FieldLaws.{Takes, field_takes, ended_takes, number_takes, number_again, triple_takes, triple_again, tag_takes, tag_again}
 use Rattle.cert_lines.proofs.LineLaws.{literals_take, literals_again}

@@ -2,7 +2,7 @@
 use Rattle.std.proofs.Common.{◌≡◌, ℕ, cond, List, [], ◌∷◌, codes, Option, Some, None, Ok, refl, sym, ap, subst, ◌∙◌, inl, inr}
 use Rattle.std.specs.Str.{bytes_eq}
 use Rattle.fapp_text.proofs.SignLemmas.{is_word}
-use Rattle.fapp_text.proofs.Steps.{bind_ok, allowed_ok, chosen, ok_is}
+use Rattle.fapp_text.proofs.ReadingSteps.{bind_ok, allowed_ok, chosen, ok_is}
 use Rattle.fapp_text.specs.Reading.{◌>>=◌, allowed}
 use Rattle.cert_lines.specs.declared.answer.Rule.{Rule}
 use Rattle.cert_lines.specs.declared.answer.Rule.TheVariants.{Count, Branch, Delete}

@@ -11,7 +11,7 @@ pub mod VersionReading
 pub mod CertificateReading
 pub mod Reading
 pub mod TextLeft
-pub mod Laws
+pub mod AnswerLaws
 pub mod Rejects
 pub mod acceptance
 pub mod Renumbering

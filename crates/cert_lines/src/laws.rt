@@ -1,6 +1,6 @@
 //! How answers and texts belong together, as contracts of functions that do nothing.
 
-ghost use Rattle.cert_lines.specs.Laws.{OneText, NoFault, FaultBehind, TextOfAnswer, InParts, ReadsBack};
+ghost use Rattle.cert_lines.specs.AnswerLaws.{OneText, NoFault, FaultBehind, TextOfAnswer, InParts, ReadsBack};
 
 /// No two well-formed answers have one text, so what was written is read as the same answer.
 pub fn one_text()

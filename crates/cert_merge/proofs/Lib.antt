@@ -1,6 +1,6 @@
 pub mod Numbers
 pub mod Lefts
-pub mod Growing
+pub mod GrowingLists
 pub mod Trees
 pub mod Gatherings
 pub mod PlanSteps

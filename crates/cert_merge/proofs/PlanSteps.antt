@@ -10,7 +10,7 @@ use Rattle.fapp_model.specs.search.WorkOrder.{work_order, comes_before, degree}
 use Rattle.fapp_model.proofs.InOrder.{pairs-weaker}
 use Rattle.fapp_model.proofs.WorkOrders.{order-is, first-asym}
 use Rattle.fapp_plan.specs.declared.steps.Step.{Step}
-use Rattle.fapp_plan.specs.Steps.{prefix_paths, steps_along}
+use Rattle.fapp_plan.specs.NamedPaths.{prefix_paths, steps_along}
 use Rattle.fapp_model.specs.declared.tag.Tag.{Tag}
 use Rattle.fapp_plan.specs.Outcomes.{Placed}
 use Rattle.merge_laws.specs.Certificates.{finished}

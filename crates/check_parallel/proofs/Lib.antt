@@ -1,3 +1,3 @@
 pub mod Between
-pub mod Places
+pub mod SliceFaults
 pub mod Edges

@@ -25,7 +25,7 @@ use Rattle.fapp_model.proofs.LevelNumbers.{levels-few}
 use Rattle.fapp_model.proofs.TagParts.{TagShape, limited, mode-limited, mode-plain, plain, shape_of}
 use Rattle.fapp_tables.specs.Measures.{pair_code}
 use Rattle.choice_counts.specs.CountedSums.{IsCountedSum, IsCalm, IsLeastAt}
-use Rattle.choice_counts.specs.Laws.{AliveIsCalm, DeadIsOverBound}
+use Rattle.choice_counts.specs.CalmLaws.{AliveIsCalm, DeadIsOverBound}
 use Rattle.choice_counts.proofs.Bounds.{further_most, open_part, total_most}
 use Rattle.choice_counts.proofs.Calm.{one_bound}
 use Rattle.choice_counts.proofs.Coded.{at_most-code, code-at_most}

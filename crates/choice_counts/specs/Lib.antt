@@ -10,4 +10,4 @@ pub mod Totals
 pub mod Kept
 pub mod ForwardStates
 pub mod CountedSums
-pub mod Laws
+pub mod CalmLaws

@@ -1,5 +1,5 @@
 // Laws over the definitions of this crate. Each is the contract of a function that does nothing.
-ghost use Rattle.choice_counts.specs.Laws.{AliveIsCalm, DeadIsOverBound, OneBound};
+ghost use Rattle.choice_counts.specs.CalmLaws.{AliveIsCalm, DeadIsOverBound, OneBound};
 
 /// Literals that are not dead at a tag are calm at its mode's level.
 pub fn alive_is_calm()

@@ -32,7 +32,7 @@ use Rattle.dead_laws.proofs.CostLaws.{within-cost}
 use Rattle.dead_laws.proofs.DeadImplied.{small-paths}
 use Rattle.dead_laws.proofs.DeadLower.{IsPairAtMost-trans, least_or_above}
 use Rattle.dead_laws.proofs.DeadTests.{calm-at, clash-dead, has_clash}
-use Rattle.dead_laws.proofs.Growing.{pair-grows}
+use Rattle.dead_laws.proofs.MoreLiterals.{pair-grows}
 use Rattle.dead_laws.proofs.PairSums.{below_or_at_most}
 use Rattle.dead_laws.proofs.Picks.{AreDistinct, distinct-tail, names-at}
 use Rattle.dead_laws.proofs.PlanLiterals.{IsChosen, chosen-is, plan_literals, plan-distinct, plan-member, plan-names, plan-pair}

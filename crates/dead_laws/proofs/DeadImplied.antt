@@ -23,7 +23,7 @@ use Rattle.fapp_model.specs.search.Weights.{added_pair, pair_with}
 use Rattle.fapp_model.specs.search.Implied.{RulesOut}
 use Rattle.dead_laws.proofs.CostLaws.{cost-within}
 use Rattle.dead_laws.proofs.DeadLower.{IsPairAtMost-trans, nothing_below}
-use Rattle.dead_laws.proofs.Growing.{pair-grows}
+use Rattle.dead_laws.proofs.MoreLiterals.{pair-grows}
 use Rattle.dead_laws.proofs.ImpliedLemmas.{none-at-top}
 use Rattle.dead_laws.proofs.PairSums.{not_both}
 use Rattle.dead_laws.proofs.PlanLiterals.{IsChosen, plan_literals, plan-apart, plan-distinct, plan-free, plan-has, plan-member, plan-names, plan-pair, plan-small}

@@ -19,7 +19,7 @@ use Rattle.fapp_model.proofs.Anys.{any-member, none-member, passing}
 use Rattle.dead_laws.proofs.DeadImplied.{small-paths}
 use Rattle.dead_laws.proofs.DeadLower.{IsPairAtMost-trans}
 use Rattle.dead_laws.proofs.DeadTests.{arcs-of, clash-dead, dead-judged, excluded-dead, has_clash, is_stuck, least-pairs, least_pairs, stuck-dead}
-use Rattle.dead_laws.proofs.Growing.{added-grows, names-more, pair-grows}
+use Rattle.dead_laws.proofs.MoreLiterals.{added-grows, names-more, pair-grows}
 use Rattle.dead_laws.proofs.PairSums.{parts-at_most}
 use Rattle.dead_laws.proofs.Picks.{names-at}
 

@@ -25,7 +25,7 @@ use Rattle.dead_laws.proofs.ArcTest.{InArc-from_greatest, greatest, greatest-fro
 use Rattle.dead_laws.proofs.BestChoices.{BestOf, NonePass, best, best_pair}
 use Rattle.dead_laws.proofs.DeadImplied.{small-paths}
 use Rattle.dead_laws.proofs.DeadLower.{IsPairAtMost-trans, least_or_above, nothing_below}
-use Rattle.dead_laws.proofs.Growing.{pair-grows}
+use Rattle.dead_laws.proofs.MoreLiterals.{pair-grows}
 use Rattle.dead_laws.proofs.PairSums.{below_or_at_most, not_both}
 use Rattle.dead_laws.proofs.Picks.{at-names}
 use Rattle.fapp_model.proofs.TagParts.{shape_of}

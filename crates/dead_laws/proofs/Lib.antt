@@ -6,7 +6,7 @@ pub mod LowerLevels
 pub mod DeadLower
 pub mod Picks
 pub mod PairSums
-pub mod Growing
+pub mod MoreLiterals
 pub mod PlanLiterals
 pub mod DeadImplied
 pub mod DeadFull

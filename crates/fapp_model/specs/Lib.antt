@@ -9,4 +9,4 @@ pub mod Least
 pub mod Tags
 pub mod InstanceTags
 pub mod search
-pub mod Laws
+pub mod ModelLaws

@@ -15,7 +15,7 @@ use Rattle.tries_laws.proofs.JobParts.{depth-is, depth-greatest, depth-small}
 use Rattle.tries_laws.proofs.ListPlaces.{some_count, some_ways}
 use Rattle.tries_laws.proofs.Lists.{length-choice_lists}
 use Rattle.fapp_plan.specs.declared.steps.Step.{Step}
-use Rattle.fapp_plan.specs.Steps.{prefix_paths, steps_along}
+use Rattle.fapp_plan.specs.NamedPaths.{prefix_paths, steps_along}
 
 abbrev AreIn : Instance → List ℕ → Type 0
 AreIn instance paths = All (λ path. path < length instance.paths) paths

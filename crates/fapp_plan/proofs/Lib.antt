@@ -1,5 +1,5 @@
 pub mod Depths
-pub mod Places
+pub mod ChoicesAtPlace
 pub mod ByPath
 pub mod Refuted
 pub mod Rules

@@ -19,7 +19,7 @@ use Rattle.fapp_model.specs.Instances.{IsInstance}
 use Rattle.cert_lines.specs.declared.answer.Verdict.TheVariants.{Open}
 use Rattle.cert_lines.specs.WellFormed.{IsVerdict, is_cost, is_shown}
 use Rattle.tries_laws.proofs.ListPlaces.{some_ways}
-use Rattle.fapp_plan.specs.Steps.{prefix_paths}
+use Rattle.fapp_plan.specs.NamedPaths.{prefix_paths}
 use Rattle.fapp_plan.proofs.Depths.{prefix_paths-in, prefixes-count}
 use Rattle.search_log.specs.declared.job.Outcome.TheVariants.{Refuted, Moot, Spent}
 use Rattle.tries_laws.proofs.JobParts.{prefixes-all}

@@ -1,7 +1,7 @@
-pub mod Steps
+pub mod NamedPaths
 pub mod Plans
 pub mod Sorting
 pub mod Outcomes
 pub mod VerdictRule
-pub mod Laws
+pub mod PlanLaws
 pub mod Shown

@@ -4,7 +4,7 @@ use Rattle.fapp_model.specs.declared.instance.Instance.{Instance}
 use Rattle.fapp_model.specs.Instances.{IsInstance}
 use Rattle.fapp_model.specs.search.Jobs.{prefixes}
 use Rattle.fapp_plan.specs.declared.steps.Step.{Step}
-use Rattle.fapp_plan.specs.Steps.{prefix_paths, steps_along}
+use Rattle.fapp_plan.specs.NamedPaths.{prefix_paths, steps_along}
 
 -- the instance, and the most prefixes that it is split into
 pub record Split : Type 0 where

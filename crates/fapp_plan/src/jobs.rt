@@ -3,7 +3,7 @@ ghost use Rattle.std.specs.Prelude.{◌≡◌, ◌<◌, ◌≤◌, [], length, s
 ghost use Rattle.fapp_model.specs.Instances.{IsInstance};
 ghost use Rattle.fapp_model.specs.search.Jobs.{depth, job_count, job_level, job_prefix, prefixes};
 ghost use Rattle.fapp_plan.specs.Plans.{split_of};
-ghost use Rattle.fapp_plan.specs.Steps.{prefix_paths, steps_along};
+ghost use Rattle.fapp_plan.specs.NamedPaths.{prefix_paths, steps_along};
 
 use crate::steps::{Reach, Step, reach_of, steps_along};
 use fapp_model::{Instance, Items, Literal, NoMemory, levels};

@@ -1,4 +1,4 @@
-ghost use Rattle.fapp_plan.specs.Laws.{LiteralsByPath, OneVerdict};
+ghost use Rattle.fapp_plan.specs.PlanLaws.{LiteralsByPath, OneVerdict};
 
 /// Literals of different paths, sorted by path, are the same ones and ascend.
 pub fn literals_by_path()

@@ -4,7 +4,7 @@ ghost use Rattle.fapp_model.specs.Assignments.{count_at};
 ghost use Rattle.fapp_model.specs.Instances.{IsInstance};
 ghost use Rattle.fapp_model.specs.search.Jobs.{depth, ways};
 ghost use Rattle.fapp_model.specs.search.WorkOrder.{work_order};
-ghost use Rattle.fapp_plan.specs.Steps.{steps_along};
+ghost use Rattle.fapp_plan.specs.NamedPaths.{steps_along};
 
 use fapp_model::{Instance, MAX_DEPTH, NoMemory, choice_count};
 use std::alloc::Global;

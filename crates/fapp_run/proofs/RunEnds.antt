@@ -33,7 +33,7 @@ use Rattle.fapp_run.specs.Answers.{Answers, IsSolved, fuel_of, status_of}
 use Rattle.fapp_run.specs.Halves.{Halves, halves}
 use Rattle.fapp_run.specs.Judgements.{IsCheckInput, IsJudged}
 use Rattle.fapp_run.specs.Made.{Demonstrates}
-use Rattle.fapp_run.specs.Outcomes.{AnswersTo, Asks, IsOutcome, IsOutcomeFor, IsOutcomeOf, Names, limit_of}
+use Rattle.fapp_run.specs.Replies.{AnswersTo, Asks, IsReply, IsReplyFor, IsReplyOf, Names, input_limit}
 use Rattle.fapp_run.specs.Runs.{IsAnswer, IsEnoughFor, IsRun, TakesWhole}
 use Rattle.fapp_run.specs.Solving.{IsClosedVerdict}
 use Rattle.fapp_run.proofs.CheckKinds.{accepted, accepted_proved}
@@ -95,12 +95,12 @@ record IsWhole (command : Command) (source source' : SourceMoment) (status : Sta
 
 abbrev IsEnd : Command → SourceMoment → SourceMoment → Status → List ℕ → Type 0
 IsEnd command source source' status text =
-    Rose source.faults source'.faults ⊎ (Drops source.left source'.left (limit_of command + 1) ⊎ IsWhole command source source' status text)
+    Rose source.faults source'.faults ⊎ (Drops source.left source'.left (input_limit command + 1) ⊎ IsWhole command source source' status text)
 
 whole_end : (command : Command) (source source' : SourceMoment) (status : Status) (text : List ℕ) → ((bytes : List ℕ) × IsAllOf source.left source'.left bytes × AnswersTo command bytes status text) → IsEnd command source source' status text
 whole_end command source source' status text h = inr (inr (record { bytes = h.0; all = h.1; answers = h.2 }))
 
-end_of : (command : Command) (source source' : SourceMoment) (status : Status) (text : List ℕ) → IsOutcomeOf command source source' status text → IsEnd command source source' status text
+end_of : (command : Command) (source source' : SourceMoment) (status : Status) (text : List ℕ) → IsReplyOf command source source' status text → IsEnd command source source' status text
 end_of command source source' Best text h = whole_end command source source' Best text h
 end_of command source source' NoneFeasible text h = whole_end command source source' NoneFeasible text h
 end_of command source source' Open text h = whole_end command source source' Open text h
@@ -171,7 +171,7 @@ not_accepted (verdicts.Open best lower level prefix) e = cc
 
 module _ (source source' : SourceMoment) (bytes : List ℕ) (instance : Instance) (status : Status) (text : List ℕ) (left : source.left ≡ Some bytes) where
   -- by some options and on a text of an instance
-  pub solution_ends : (options : SolveOptions) → length bytes ≤ MAX_INPUT → instance_of_text bytes ≡ Ok instance → (Rose source.faults source'.faults → ⊥) → IsOutcomeOf (Solve options) source source' status text →
+  pub solution_ends : (options : SolveOptions) → length bytes ≤ MAX_INPUT → instance_of_text bytes ≡ Ok instance → (Rose source.faults source'.faults → ⊥) → IsReplyOf (Solve options) source source' status text →
       IsAnswer status × (IsEnough (split_of instance options.split) (fuel_of options instance) → status ≢ Open)
   solution_ends options short read sound h = elim (end_of (Solve options) source source' status text h) [
     | inl risen ↦ absurd (sound risen)
@@ -182,18 +182,18 @@ module _ (source source' : SourceMoment) (bytes : List ℕ) (instance : Instance
 
 module _ (words : List (String Global)) (source source' : SourceMoment) (bytes : List ℕ) (instance : Instance) (status : Status) (text : List ℕ) (left : source.left ≡ Some bytes) where
   -- on the words of solve and a text of an instance
-  pub solve_ends : (options : SolveOptions) → Names words (requests.Solve options) → length bytes ≤ MAX_INPUT → instance_of_text bytes ≡ Ok instance → (Rose source.faults source'.faults → ⊥) → IsOutcome words source source' status text →
+  pub solve_ends : (options : SolveOptions) → Names words (requests.Solve options) → length bytes ≤ MAX_INPUT → instance_of_text bytes ≡ Ok instance → (Rose source.faults source'.faults → ⊥) → IsReply words source source' status text →
       IsAnswer status × (IsEnoughFor words instance → status ≢ Open)
   solve_ends options named short read sound (asked, asks, out) =
       let only = solve_only words options asked named asks in
-      let end = solution_ends source source' bytes instance status text left only.0 short read sound (subst (λ a. IsOutcomeFor a source source' status text) only.1 out) in
+      let end = solution_ends source source' bytes instance status text left only.0 short read sound (subst (λ a. IsReplyFor a source source' status text) only.1 out) in
       (end.0, λ enough. end.1 (enough only.0 (subst (Asks words) only.1 asks)))
 
   -- on the words of check and an answer that is to be accepted
-  pub check_ends : (answer : Answer) (options : CheckOptions) → Names words (requests.Check options) → length bytes ≤ MAX_CHECK_INPUT → IsCheckInput bytes instance answer → Accepts instance answer → (Rose source.faults source'.faults → ⊥) → IsOutcome words source source' status text → status ≡ Accepted
+  pub check_ends : (answer : Answer) (options : CheckOptions) → Names words (requests.Check options) → length bytes ≤ MAX_CHECK_INPUT → IsCheckInput bytes instance answer → Accepts instance answer → (Rose source.faults source'.faults → ⊥) → IsReply words source source' status text → status ≡ Accepted
   check_ends answer options named short given accepts sound (asked, asks, out) =
       let only = check_only words options asked named asks in
-      let h : IsOutcomeOf (Check only.0) source source' status text = subst (λ a. IsOutcomeFor a source source' status text) only.1 out in
+      let h : IsReplyOf (Check only.0) source source' status text = subst (λ a. IsReplyFor a source source' status text) only.1 out in
       elim (end_of (Check only.0) source source' status text h) [
         | inl risen ↦ absurd (sound risen)
         | inr (inl long) ↦ absurd (let l = dropped source.left source'.left bytes (MAX_CHECK_INPUT + 1) left long in omega arith)
@@ -201,18 +201,18 @@ module _ (words : List (String Global)) (source source' : SourceMoment) (bytes :
       ]
 
 -- on the words of gen
-pub gen_ends : (words : List (String Global)) (source source' : SourceMoment) (status : Status) (text : List ℕ) (seed : Seed) → Names words (requests.Gen seed) → IsOutcome words source source' status text → status ≡ Written
+pub gen_ends : (words : List (String Global)) (source source' : SourceMoment) (status : Status) (text : List ℕ) (seed : Seed) → Names words (requests.Gen seed) → IsReply words source source' status text → status ≡ Written
 gen_ends words source source' status text seed named (asked, asks, out) =
     let only = gen_only words seed asked named asks in
-    (subst (λ a. IsOutcomeFor a source source' status text) only.1 out).1
+    (subst (λ a. IsReplyFor a source source' status text) only.1 out).1
 
 -- on the words of demo
-pub demo_ends : (words : List (String Global)) (source source' : SourceMoment) (status : Status) (text : List ℕ) (seed : Seed) → Names words (requests.Demo seed) → IsOutcome words source source' status text →
+pub demo_ends : (words : List (String Global)) (source source' : SourceMoment) (status : Status) (text : List ℕ) (seed : Seed) → Names words (requests.Demo seed) → IsReply words source source' status text →
     IsAnswer status × ((instance : Instance) → instance_of_text (network_text seed.number seed.paths) ≡ Ok instance → IsEnough (split_of instance 64) 40000 → status ≢ Open)
 demo_ends words source source' status text seed named (asked, asks, out) =
     let only = demo_only words seed asked named asks in
     let other : IsSeed (codes "demo") (map string_bytes words) only.0 = subst (Asks words) only.1 asks in
-    let shown : Demonstrates (network_text only.0.number only.0.paths) status text = (subst (λ a. IsOutcomeFor a source source' status text) only.1 out).1 in
+    let shown : Demonstrates (network_text only.0.number only.0.paths) status text = (subst (λ a. IsReplyFor a source source' status text) only.1 out).1 in
     let verdict = shown.shown.answer.verdict in (
       is_answer status verdict shown.shown.status_is,
       λ instance read enough.
@@ -222,7 +222,7 @@ demo_ends words source source' status text seed named (asked, asks, out) =
     )
 
 -- what was accepted is right
-accepted_by : (source source' : SourceMoment) (bytes text : List ℕ) (asked : Option Request) → source.left ≡ Some bytes → IsOutcomeFor asked source source' Accepted text → IsProved bytes
+accepted_by : (source source' : SourceMoment) (bytes text : List ℕ) (asked : Option Request) → source.left ≡ Some bytes → IsReplyFor asked source source' Accepted text → IsProved bytes
 accepted_by source source' bytes text None left h = absurd (let e = h.1 in cc)
 accepted_by source source' bytes text (Some (requests.Gen seed)) left h = absurd (let e = h.1 in cc)
 accepted_by source source' bytes text (Some (requests.Demo seed)) left h = absurd (not_accepted h.1.shown.answer.verdict h.1.shown.status_is)
@@ -231,9 +231,9 @@ accepted_by source source' bytes text (Some (requests.Check options)) left h =
     subst IsProved (taken source.left source'.left bytes h.0 left h.1) (accepted_proved h.0 text h.2)
 
 pub accepted_ends : (words : List (String Global)) (source source' : SourceMoment) (bytes : List ℕ) (status : Status) (text : List ℕ)
-    → source.left ≡ Some bytes → status ≡ Accepted → IsOutcome words source source' status text → IsProved bytes
+    → source.left ≡ Some bytes → status ≡ Accepted → IsReply words source source' status text → IsProved bytes
 accepted_ends words source source' bytes status text left e h =
-    let g : IsOutcome words source source' Accepted text = subst (λ s. IsOutcome words source source' s text) e h in
+    let g : IsReply words source source' Accepted text = subst (λ s. IsReply words source source' s text) e h in
     accepted_by source source' bytes text g.0 left g.2
 
 -- ---- whole runs
@@ -258,14 +258,14 @@ no_judgement_want bytes text None h = h
 
 module _ (source source' : SourceMoment) (text : List ℕ) where
   -- no outcome is a fault of the sink, nor want of memory
-  no_fault : (asked : Option Request) → IsOutcomeFor asked source source' WriteFault text → ⊥
+  no_fault : (asked : Option Request) → IsReplyFor asked source source' WriteFault text → ⊥
   no_fault None h = let e = h.1 in cc
   no_fault (Some (requests.Gen seed)) h = let e = h.1 in cc
   no_fault (Some (requests.Demo seed)) h = no_verdict_fault h.1.shown.answer.verdict h.1.shown.status_is
   no_fault (Some (requests.Solve options)) h = no_verdict_fault h.2.3.answer.verdict h.2.3.status_is
   no_fault (Some (requests.Check options)) h = no_judgement_fault h.0 text (halves h.0) h.2.1
 
-  no_want : (asked : Option Request) → IsOutcomeFor asked source source' NoMemory text → ⊥
+  no_want : (asked : Option Request) → IsReplyFor asked source source' NoMemory text → ⊥
   no_want None h = let e = h.1 in cc
   no_want (Some (requests.Gen seed)) h = let e = h.1 in cc
   no_want (Some (requests.Demo seed)) h = no_verdict_want h.1.shown.answer.verdict h.1.shown.status_is
@@ -273,7 +273,7 @@ module _ (source source' : SourceMoment) (text : List ℕ) where
   no_want (Some (requests.Check options)) h = no_judgement_want h.0 text (halves h.0) h.2.1
 
   -- an outcome whose text was taken whole
-  pub whole_run : (words : List (String Global)) (sink sink' : SinkMoment) (status : Status) → IsOutcome words source source' status text → TakesWhole sink sink' text → IsRun words source source' sink sink' status
+  pub whole_run : (words : List (String Global)) (sink sink' : SinkMoment) (status : Status) → IsReply words source source' status text → TakesWhole sink sink' text → IsRun words source source' sink sink' status
   whole_run words sink sink' Best out takes = (text, out, takes)
   whole_run words sink sink' NoneFeasible out takes = (text, out, takes)
   whole_run words sink sink' Open out takes = (text, out, takes)

@@ -11,7 +11,7 @@ use Rattle.fapp_words.specs.declared.options.SolveOptions.{SolveOptions}
 use Rattle.fapp_run.specs.declared.outcome.TheConstants.{MAX_INPUT}
 use Rattle.cert_lines.specs.declared.answer.Answer.{Answer}
 use Rattle.answer_writer.specs.Texts.{written_text}
-use Rattle.fapp_run.specs.declared.outcome.Outcome.{Outcome}
+use Rattle.fapp_run.specs.declared.outcome.Reply.{Reply}
 use Rattle.fapp_run.specs.declared.outcome.Solution.TheVariants.{Refused, Answered}
 use Rattle.fapp_run.specs.Solving.{IsAnswerFor}
 use Rattle.fapp_run.specs.Versions.{IsWrittenIn}
@@ -66,7 +66,7 @@ told_answers options bytes instance written status text h status_is text_is =
       text_is = text_is;
     })
 
-pub told_result : {E : Type 0} (options : SolveOptions) (bytes : List ℕ) (instance : Instance) (written : Answer) (r : Result Outcome E) → Solves options bytes (Answered instance written) →
+pub told_result : {E : Type 0} (options : SolveOptions) (bytes : List ℕ) (instance : Instance) (written : Answer) (r : Result Reply E) → Solves options bytes (Answered instance written) →
     IfOk r (λ outcome. outcome.status ≡ status_of written.verdict) → IfOk r (λ outcome. outcome.text.items ≡ written_text instance written options.answer_only) → IfOk r (λ outcome. Answers options bytes outcome.status outcome.text.items)
 told_result options bytes instance written (Ok outcome) h status_is text_is = told_answers options bytes instance written outcome.status outcome.text.items h status_is text_is
 told_result options bytes instance written (Err e) h status_is text_is = tt

@@ -5,5 +5,5 @@ pub mod Made
 pub mod Halves
 pub mod Judgements
 pub mod AnswerLaws
-pub mod Outcomes
+pub mod Replies
 pub mod Runs

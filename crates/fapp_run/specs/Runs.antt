@@ -23,7 +23,7 @@ use Rattle.fapp_run.specs.declared.outcome.TheConstants.{MAX_INPUT}
 use Rattle.fapp_run.specs.AnswerLaws.{IsProved}
 use Rattle.fapp_run.specs.Answers.{fuel_of}
 use Rattle.fapp_run.specs.Judgements.{IsCheckInput}
-use Rattle.fapp_run.specs.Outcomes.{IsOutcome, Names, ReadsFront}
+use Rattle.fapp_run.specs.Replies.{IsReply, Names, ReadsFront}
 
 -- the whole text was taken, an empty one by no call
 abbrev pub TakesWhole : SinkMoment → SinkMoment → List ℕ → Type 0
@@ -35,10 +35,10 @@ abbrev pub IsRun : List (String Global) → SourceMoment → SourceMoment → Si
 IsRun words source source' sink sink' NoMemory = ReadsFront words source source' × (sink' ≡ sink)
 IsRun words source source' sink sink' WriteFault =
     Rose sink.faults sink'.faults
-    × (status : Status) × (text : List ℕ) × IsOutcome words source source' status text
+    × (status : Status) × (text : List ℕ) × IsReply words source source' status text
     × GrowsByFront sink.taken sink'.taken text
 IsRun words source source' sink sink' status =
-    (text : List ℕ) × IsOutcome words source source' status text × TakesWhole sink sink' text
+    (text : List ℕ) × IsReply words source source' status text × TakesWhole sink sink' text
 
 -- an answer, or no memory
 abbrev pub IsAnswer : Status → Type 0

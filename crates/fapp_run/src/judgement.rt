@@ -8,7 +8,7 @@ ghost use Rattle.fapp_run.specs.Halves.{halves_of};
 ghost use Rattle.fapp_run.specs.Judgements.{AreCheckOptions, Judges, IsJudgedText, IsJudgedAnswer, IsJudgedAlone, IsJudgedInput};
 
 use crate::check_input::{CheckInput, cut};
-use crate::outcome::{Outcome, refusal};
+use crate::outcome::{Reply, refusal};
 use answer_writer::{BadCert, Status, accepted_text};
 use cert_check::{CheckError, check};
 use cert_lines::{Answer, AnswerError, read_answer};
@@ -33,7 +33,7 @@ pub fn judge<R: Threads + Sync>(
     alloc: Global,
     bytes: &[u8],
     options: &CheckOptions,
-) -> Result<Outcome, NoMemory>
+) -> Result<Reply, NoMemory>
     requires { AreCheckOptions options.now }
     ensures { IfOk result (λ outcome. Judges bytes.now outcome.status outcome.text.items) }
 {
@@ -47,7 +47,7 @@ pub fn judge<R: Threads + Sync>(
 }
 
 /// An input without a line `--`.
-fn judge_alone(alloc: Global, bytes: &[u8]) -> Result<Outcome, NoMemory>
+fn judge_alone(alloc: Global, bytes: &[u8]) -> Result<Reply, NoMemory>
     requires { length bytes.now ≤ MAX_TEXT }
     ensures { IfOk result (λ outcome. IsJudgedAlone bytes.now outcome.status outcome.text.items) }
 {
@@ -64,7 +64,7 @@ fn judge_input<R: Threads + Sync>(
     alloc: Global,
     input: &CheckInput,
     options: &CheckOptions,
-) -> Result<Outcome, NoMemory>
+) -> Result<Reply, NoMemory>
     requires options { AreCheckOptions options.now }
     requires instance { length input.now.instance.now ≤ MAX_TEXT }
     requires divider { input.now.divider ≤ MAX_TEXT }
@@ -86,7 +86,7 @@ fn judge_text<R: Threads + Sync>(
     text: &[u8],
     before: u32,
     options: &CheckOptions,
-) -> Result<Outcome, NoMemory>
+) -> Result<Reply, NoMemory>
     requires options { AreCheckOptions options.now }
     requires instance { IsInstance instance.now }
     requires text { length text.now ≤ MAX_TEXT }
@@ -118,7 +118,7 @@ fn judge_answer<R: Threads + Sync>(
     instance: &Instance,
     answer: &Answer,
     options: &CheckOptions,
-) -> Result<Outcome, NoMemory>
+) -> Result<Reply, NoMemory>
     requires options { AreCheckOptions options.now }
     requires instance { IsInstance instance.now }
     requires answer { IsWellFormed instance.now answer.now }
@@ -126,7 +126,7 @@ fn judge_answer<R: Threads + Sync>(
     ensures { IfOk result (λ outcome. IsJudgedAnswer instance.now answer.now outcome.status outcome.text.items) }
 {
     match checked(rt, alloc, instance, answer, options) {
-        Ok(()) => Ok(Outcome {
+        Ok(()) => Ok(Reply {
             status: Status::Accepted,
             text: accepted_text(alloc, &answer.verdict)?,
         }),

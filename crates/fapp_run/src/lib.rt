@@ -17,7 +17,7 @@ pub use fapp_words::{CheckOptions, SolveOptions};
 pub use fapp_workers::{Gate, OpenGate};
 pub use judgement::{MAX_CHECK_INPUT, judge};
 pub use laws::{a_check_has_one_status, what_is_accepted_is_right};
-pub use outcome::{MAX_INPUT, Outcome, Solution, answer, solve_input, status_of};
+pub use outcome::{MAX_INPUT, Reply, Solution, answer, solve_input, status_of};
 pub use solving::solve_answer;
 pub use top::run;
 

@@ -4,7 +4,7 @@ ghost use Rattle.fapp_model.specs.Instances.{IsInstance};
 ghost use Rattle.fapp_gen.specs.Generated.{network_text};
 ghost use Rattle.fapp_run.specs.Made.{AreSeed, Demonstrates, IsDemonstrated, demo_options};
 
-use crate::outcome::{Outcome, settings_for, status_of};
+use crate::outcome::{Reply, settings_for, status_of};
 use crate::solving::solve_answer;
 use answer_writer::Status;
 use cert_lines::verdict_text;
@@ -18,13 +18,13 @@ use std::alloc::Global;
 use std::thread::Threads;
 
 /// The text of the network that a seed makes.
-pub fn generated(alloc: Global, seed: Seed) -> Result<Outcome, NoMemory>
+pub fn generated(alloc: Global, seed: Seed) -> Result<Reply, NoMemory>
     requires { AreSeed seed }
     ensures status { IfOk result (λ outcome. outcome.status ≡ Status.Written) }
     ensures text { IfOk result (λ outcome. outcome.text.items ≡ network_text seed.number seed.paths) }
 {
     let text = generate(alloc, seed.number, seed.paths)?;
-    Ok(Outcome {
+    Ok(Reply {
         status: Status::Written,
         text,
     })
@@ -36,7 +36,7 @@ pub fn demonstrated<R: Threads + Sync, G: Gate>(
     alloc: Global,
     seed: Seed,
     gate: &G,
-) -> Result<Outcome, NoMemory>
+) -> Result<Reply, NoMemory>
     requires { AreSeed seed }
     ensures { IfOk result (λ outcome. Demonstrates (network_text seed.number seed.paths) outcome.status outcome.text.items) }
 {
@@ -69,14 +69,14 @@ fn shown_verdict<R: Threads + Sync, G: Gate>(
     alloc: Global,
     instance: &Instance,
     gate: &G,
-) -> Result<Outcome, NoMemory>
+) -> Result<Reply, NoMemory>
     requires { IsInstance instance.now }
     ensures { IfOk result (λ outcome. IsDemonstrated instance.now outcome.status outcome.text.items) }
 {
     let settings = settings_for(instance, &demo_options());
     let answer = solve_answer(rt, alloc, instance, &settings, gate)?;
     let text = verdict_text(alloc, &answer.verdict)?;
-    Ok(Outcome {
+    Ok(Reply {
         status: status_of(&answer.verdict),
         text,
     })

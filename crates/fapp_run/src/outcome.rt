@@ -24,7 +24,7 @@ pub const MAX_INPUT: usize = 134_217_728;
 
 /// How a run is to end, unless its writing fails.
 #[derive(Drop)]
-pub struct Outcome {
+pub struct Reply {
     /// What the run ends with.
     pub status: Status,
     /// All that is to be written before.
@@ -48,7 +48,7 @@ pub fn answer<R: Threads + Sync, G: Gate>(
     bytes: &[u8],
     options: &SolveOptions,
     gate: &G,
-) -> Result<Outcome, NoMemory>
+) -> Result<Reply, NoMemory>
     requires { AreOptions options.now }
     ensures { IfOk result (λ outcome. Answers options.now bytes.now outcome.status outcome.text.items) }
 {
@@ -108,13 +108,13 @@ fn told(
     instance: &Instance,
     answer: &Answer,
     answer_only: bool,
-) -> Result<Outcome, NoMemory>
+) -> Result<Reply, NoMemory>
     requires { IsWellFormed instance.now answer.now }
     ensures status { IfOk result (λ outcome. outcome.status ≡ status_of answer.now.verdict) }
     ensures text { IfOk result (λ outcome. outcome.text.items ≡ written_text instance.now answer.now answer_only) }
 {
     let text = answer_text(alloc, instance, answer, answer_only)?;
-    Ok(Outcome {
+    Ok(Reply {
         status: status_of(&answer.verdict),
         text,
     })
@@ -154,9 +154,9 @@ pub fn settings_for(instance: &Instance, options: &SolveOptions) -> Settings
 }
 
 /// A status with the line that tells of it.
-pub fn refusal(alloc: Global, status: Status) -> Result<Outcome, NoMemory>
+pub fn refusal(alloc: Global, status: Status) -> Result<Reply, NoMemory>
     ensures { IfOk result (λ outcome. (outcome.status ≡ status) × (outcome.text.items ≡ refusal_line status)) }
 {
     let text = refusal_text(alloc, &status)?;
-    Ok(Outcome { status, text })
+    Ok(Reply { status, text })
 }

@@ -3,13 +3,13 @@ ghost use Rattle.std.specs.Prelude.{◌≡◌, ◌+◌, ◌≤◌, ◌⊎◌, If
 ghost use Rattle.fapp_io.specs.Whole.{DropsUpTo};
 ghost use Rattle.fapp_words.specs.Promises.{ReadsWords};
 ghost use Rattle.fapp_run.specs.Made.{AreRequested};
-ghost use Rattle.fapp_run.specs.Outcomes.{limit_of, AnswersTo, AreGiven, IsOutcomeOf, IsOutcomeFor, IsOutcome, ReadsFront, ReadsFor};
+ghost use Rattle.fapp_run.specs.Replies.{input_limit, AnswersTo, AreGiven, IsReplyOf, IsReplyFor, IsReply, ReadsFront, ReadsFor};
 ghost use Rattle.fapp_run.specs.Runs.{IsRun, Completes, CompletesCheck, CompletesGen, CompletesDemo, ProvesAccepted};
 
 use crate::command::Command;
 use crate::judgement::{MAX_CHECK_INPUT, judge};
 use crate::made::{demonstrated, generated};
-use crate::outcome::{MAX_INPUT, Outcome, answer, refusal};
+use crate::outcome::{MAX_INPUT, Reply, answer, refusal};
 use answer_writer::Status;
 use fapp_io::{NoMemory, ReadEnd, Sink, Source, WriteEnd, read_all, write_all};
 use fapp_words::{Request, read_words};
@@ -67,9 +67,9 @@ fn outcome_of<R: Threads + Sync, S: Source, G: Gate>(
     words: &[String],
     source: &mut S,
     gate: &G,
-) -> Result<Outcome, NoMemory>
+) -> Result<Reply, NoMemory>
     ensures outcome { IfOk result (λ outcome.
-        IsOutcome words.now (S.moment source.old) (S.moment source.new) outcome.status outcome.text.items) }
+        IsReply words.now (S.moment source.old) (S.moment source.new) outcome.status outcome.text.items) }
     ensures no_memory { OnErr result (ReadsFront words.now (S.moment source.old) (S.moment source.new)) }
 {
     match read_words(alloc, words)? {
@@ -85,10 +85,10 @@ fn requested<R: Threads + Sync, S: Source, G: Gate>(
     request: Request,
     source: &mut S,
     gate: &G,
-) -> Result<Outcome, NoMemory>
+) -> Result<Reply, NoMemory>
     requires { AreRequested request }
     ensures outcome { IfOk result (λ outcome.
-        IsOutcomeFor (Some request) (S.moment source.old) (S.moment source.new) outcome.status outcome.text.items) }
+        IsReplyFor (Some request) (S.moment source.old) (S.moment source.new) outcome.status outcome.text.items) }
     ensures no_memory { OnErr result (ReadsFor request (S.moment source.old) (S.moment source.new)) }
 {
     match request {
@@ -106,14 +106,14 @@ fn commanded<R: Threads + Sync, S: Source, G: Gate>(
     command: Command,
     source: &mut S,
     gate: &G,
-) -> Result<Outcome, NoMemory>
+) -> Result<Reply, NoMemory>
     requires { AreGiven command }
     ensures outcome { IfOk result (λ outcome.
-        IsOutcomeOf command (S.moment source.old) (S.moment source.new) outcome.status outcome.text.items) }
+        IsReplyOf command (S.moment source.old) (S.moment source.new) outcome.status outcome.text.items) }
     ensures no_memory { OnErr result (
-        DropsUpTo (S.moment source.old).left (S.moment source.new).left (limit_of command + 1)) }
+        DropsUpTo (S.moment source.old).left (S.moment source.new).left (input_limit command + 1)) }
 {
-    match read_all(alloc, source, limit_of(command)) {
+    match read_all(alloc, source, input_limit(command)) {
         Ok(bytes) => outcome_by(rt, alloc, command, &bytes, gate),
         Err(ReadEnd::TooLong) => refusal(alloc, Status::TooLong),
         Err(ReadEnd::ReadFault) => refusal(alloc, Status::ReadFault),
@@ -121,8 +121,8 @@ fn commanded<R: Threads + Sync, S: Source, G: Gate>(
     }
 }
 
-fn limit_of(command: Command) -> usize
-    ensures value { result ≡ limit_of command }
+fn input_limit(command: Command) -> usize
+    ensures value { result ≡ input_limit command }
     ensures low { result ≤ MAX_CHECK_INPUT }
 {
     match command {
@@ -137,7 +137,7 @@ fn outcome_by<R: Threads + Sync, G: Gate>(
     command: Command,
     bytes: &[u8],
     gate: &G,
-) -> Result<Outcome, NoMemory>
+) -> Result<Reply, NoMemory>
     requires { AreGiven command }
     ensures { IfOk result (λ outcome. AnswersTo command bytes.now outcome.status outcome.text.items) }
 {

@@ -15,7 +15,7 @@ use Rattle.fapp_model.specs.search.WorkOrder.{IsWorkOrder, comes_before, degree,
 use Rattle.fapp_model.proofs.Members.{All-from_members, in-map, from-map, in-range, from-range}
 use Rattle.fapp_model.proofs.InOrder.{pairs-map}
 use Rattle.fapp_tables.specs.declared.order.Place.{Place}
-use Rattle.fapp_tables.specs.Places.{IsPlannedBefore, place_of}
+use Rattle.fapp_tables.specs.PathDegrees.{IsPlannedBefore, place_of}
 use Rattle.fapp_tables.proofs.RankLaws.{rising_ranks}
 
 -- the place of one more path

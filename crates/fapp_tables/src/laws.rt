@@ -1,5 +1,5 @@
 // Laws over the definitions of this crate. Each is the contract of a function that does nothing.
-ghost use Rattle.fapp_tables.specs.Laws.{NeighboursShareRecords, PairsAreAdded, RecordsNameBoth};
+ghost use Rattle.fapp_tables.specs.IndexLaws.{NeighboursShareRecords, PairsAreAdded, RecordsNameBoth};
 
 /// The neighbours of a path are the paths that share a record with it, ascending.
 pub fn neighbours_share_records()

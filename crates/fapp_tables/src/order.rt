@@ -3,7 +3,7 @@ ghost use Rattle.std.specs.List.{AllAdjacentBelow};
 ghost use Rattle.std.specs.List.Sorted.{IsPermutation};
 ghost use Rattle.fapp_model.specs.Instances.{IsInstance};
 ghost use Rattle.fapp_model.specs.search.WorkOrder.{work_order};
-ghost use Rattle.fapp_tables.specs.Places.{IsPlannedBefore, all_degrees, all_places};
+ghost use Rattle.fapp_tables.specs.PathDegrees.{IsPlannedBefore, all_degrees, all_places};
 
 use fapp_model::{Instance, NoMemory};
 use std::alloc::Global;

@@ -4,7 +4,7 @@ use Rattle.std.specs.List.{concat, list_all, onto_first, slice_split}
 use Rattle.std.proofs.lemmas.Bool.{and_parts}
 use Rattle.fapp_text.specs.Lines.{lines}
 use Rattle.fapp_text.specs.Fields.{is_blank}
-use Rattle.fapp_text.specs.Laws.{closed, LinesJoin, LinesAreCut, FieldsJoin, FieldsAreCut}
+use Rattle.fapp_text.specs.LineLaws.{closed, LinesJoin, LinesAreCut, FieldsJoin, FieldsAreCut}
 
 -- ---- lines
 

@@ -3,5 +3,5 @@ pub mod FieldLemmas
 pub mod DigitLemmas
 pub mod PlaceLemmas
 pub mod LawProofs
-pub mod Steps
+pub mod ReadingSteps
 pub mod SignLemmas

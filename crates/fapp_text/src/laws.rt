@@ -1,5 +1,5 @@
 ghost use Rattle.std.specs.Prelude.{◌≡◌};
-ghost use Rattle.fapp_text.specs.Laws.{LinesJoin, LinesAreCut, FieldsJoin, FieldsAreCut};
+ghost use Rattle.fapp_text.specs.LineLaws.{LinesJoin, LinesAreCut, FieldsJoin, FieldsAreCut};
 
 use crate::{MAX_NUMBER, MAX_TEXT};
 

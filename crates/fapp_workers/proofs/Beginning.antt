@@ -15,7 +15,7 @@ use Rattle.nogood_pool.specs.Seats.{IsSeatOf}
 use Rattle.settle_laws.proofs.FullPrefixes.{cost-back}
 use Rattle.fapp_workers.specs.declared.place.Place.{Place}
 use Rattle.fapp_workers.specs.Begun.{IsBegun, OffersFirst}
-use Rattle.fapp_workers.specs.Places.{IsSeated, IsUnpublished}
+use Rattle.fapp_workers.specs.WorkerPlaces.{IsSeated, IsUnpublished}
 
 pub seated-begun : (split : Split) (word : BestWord) (pool : Pool) (plan : List ℕ) (old new : Place) → IsInstance split.instance → IsFeasible split.instance plan → IsSeated split word pool old → IsBegun split.instance word plan old new → IsSeated split word pool new
 seated-begun split word pool plan old new valid feasible h b = record {

@@ -6,7 +6,7 @@ use Rattle.steal_ring.specs.Hands.{IsHandDone as IsAtEnd}
 use Rattle.fapp_workers.specs.declared.place.Place.{Place}
 use Rattle.fapp_workers.specs.declared.closing.Work.{Work}
 use Rattle.fapp_workers.specs.Closings.{kept_by, kept_of}
-use Rattle.fapp_workers.specs.Places.{IsFinished, hands_of}
+use Rattle.fapp_workers.specs.WorkerPlaces.{IsFinished, hands_of}
 
 -- what was kept at a place
 pub kept-at : (works : List Work) (places : List Place) (k : ℕ) (w : Work) (p : Place) → map kept_by works ≡ map kept_of places → k < length places → kept_by (get_or works k w) ≡ kept_of (get_or places k p)

@@ -40,7 +40,7 @@ use Rattle.fapp_workers.specs.declared.closing.Work.{Work}
 use Rattle.search_log.specs.Logs.{empty_log}
 use Rattle.fapp_workers.specs.Begun.{IsStartUsed, KeepsAsCheap, OffersFirst}
 use Rattle.fapp_workers.specs.Closings.{IsClosedRun}
-use Rattle.fapp_workers.specs.Places.{end_by, pool_seats_of, seats_of, IsTended, IsWorkOf, IsFreshPlace}
+use Rattle.fapp_workers.specs.WorkerPlaces.{end_by, pool_seats_of, seats_of, IsTended, IsWorkOf, IsFreshPlace}
 use Rattle.fapp_workers.specs.SharedBounds.{least_offer}
 use Rattle.fapp_workers.specs.Solved.{AreSolved, IsWorkFor, times_done, works_logs}
 use Rattle.fapp_workers.specs.Works.{IsJobDone, ids_of}

@@ -8,7 +8,7 @@ use Rattle.steal_ring.specs.declared.hand.Hand.{Hand}
 use Rattle.steal_ring.specs.declared.seat.Ring.{Ring}
 use Rattle.steal_ring.specs.Hands.{won_of, found_of, IsHandOf}
 use Rattle.fapp_workers.specs.declared.place.Place.{Place}
-use Rattle.fapp_workers.specs.Places.{IsSeated, IsFreshPlace, hands_of}
+use Rattle.fapp_workers.specs.WorkerPlaces.{IsSeated, IsFreshPlace, hands_of}
 
 pub stand-all : (split : Split) (ring : Ring) (word : BestWord) (pool : Pool) (places : List Place) (hands : List Hand) → hands_of places ≡ hands → All (IsHandOf ring) hands → All (λ hand. (won_of hand ≡ []) × (found_of hand ≡ [])) hands →
     All (IsSeated split word pool) places → All (IsFreshPlace split ring word pool) places

@@ -16,7 +16,7 @@ use Rattle.steal_ring.specs.declared.hand.Hand.{Hand}
 use Rattle.steal_ring.specs.declared.seat.Ring.{Ring}
 use Rattle.steal_ring.specs.Hands.{share_of_hand, shares_of, IsDealt, IsHandOf, IsHandDone as IsAtEnd}
 use Rattle.fapp_workers.specs.declared.place.Place.{Place}
-use Rattle.fapp_workers.specs.Places.{hands_of, pool_seats_of, seats_of, IsFinished, IsTended, IsWorkOf}
+use Rattle.fapp_workers.specs.WorkerPlaces.{hands_of, pool_seats_of, seats_of, IsFinished, IsTended, IsWorkOf}
 
 -- sums over two lists that are equal place by place
 pub sum-zip : {X Y : Type 0} (f : X → ℕ) (g : Y → ℕ) (xs : List X) (ys : List Y) → length xs ≡ length ys → ((i : ℕ) (d : X) (e : Y) → i < length xs → f (get_or xs i d) ≡ g (get_or ys i e)) → sum_by f xs ≡ sum_by g ys

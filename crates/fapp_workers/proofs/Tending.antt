@@ -22,7 +22,7 @@ use Rattle.steal_ring.specs.declared.hand.Hand.{Hand}
 use Rattle.steal_ring.specs.Hands.{won_of}
 use Rattle.fapp_workers.specs.declared.job.Done.{Done}
 use Rattle.fapp_workers.specs.Jobs.{held}
-use Rattle.fapp_workers.specs.Places.{IsWorkOf}
+use Rattle.fapp_workers.specs.WorkerPlaces.{IsWorkOf}
 use Rattle.fapp_workers.specs.Rows.{IsRowsClause}
 use Rattle.fapp_workers.specs.SharedBounds.{least_offer}
 use Rattle.fapp_workers.specs.Works.{IsJobDone, IsHandClause, IsLogClause, branches_in, ids_of}

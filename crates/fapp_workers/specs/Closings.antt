@@ -11,7 +11,7 @@ use Rattle.steal_ring.specs.Hands.{times_given}
 use Rattle.fapp_workers.specs.declared.job.Done.{Done}
 use Rattle.fapp_workers.specs.declared.place.Place.{Place}
 use Rattle.fapp_workers.specs.declared.closing.Work.{Work}
-use Rattle.fapp_workers.specs.Places.{hands_of, pool_seats_of, seats_of}
+use Rattle.fapp_workers.specs.WorkerPlaces.{hands_of, pool_seats_of, seats_of}
 
 -- the log and the jobs of a place, with what became of them
 abbrev pub kept_of : Place → LogState × Result (Vec Done) AllocError

@@ -9,7 +9,7 @@ pub mod States
 pub mod Jobs
 pub mod Works
 pub mod Rows
-pub mod Places
+pub mod WorkerPlaces
 pub mod Starts
 pub mod Closings
 pub mod Solved

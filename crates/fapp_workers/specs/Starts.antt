@@ -12,7 +12,7 @@ use Rattle.nogood.specs.declared.row.Row.{Row}
 use Rattle.pool_rows.specs.Copying.{all_known}
 use Rattle.search_log.specs.NumberedRows.{numbered_rows}
 use Rattle.fapp_workers.specs.FirstRows.{AreTwins}
-use Rattle.fapp_workers.specs.Places.{IsFreshPlace, hands_of, pool_seats_of, seats_of}
+use Rattle.fapp_workers.specs.WorkerPlaces.{IsFreshPlace, hands_of, pool_seats_of, seats_of}
 
 -- A ring of the plan's jobs, whose hands stand by their numbers; a word and a pool, whose shares are whole; a first seat of the
 -- pool that has published some rows, each under its place; and a place for each worker, at which nothing was done.

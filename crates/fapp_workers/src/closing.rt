@@ -5,7 +5,7 @@ ghost use Rattle.best_word.specs.Seats.{shares_of as seat_shares, IsSeatOf};
 ghost use Rattle.nogood_pool.specs.Dealt.{shares_of as pool_shares};
 ghost use Rattle.nogood_pool.specs.Seats.{view_of as pool_view, IsSeatOf as IsPoolSeatOf};
 ghost use Rattle.steal_ring.specs.Hands.{shares_of, IsDealt, IsHandOf};
-ghost use Rattle.fapp_workers.specs.Places.{IsFinished, hands_of, pool_seats_of, seats_of};
+ghost use Rattle.fapp_workers.specs.WorkerPlaces.{IsFinished, hands_of, pool_seats_of, seats_of};
 ghost use Rattle.fapp_workers.specs.Closings.{kept_by, kept_of, IsClosedRun};
 
 use crate::job::Done;

@@ -9,7 +9,7 @@ ghost use Rattle.nogood_pool.specs.Dealt.{shares_of as pool_shares};
 ghost use Rattle.nogood_pool.specs.Seats.{IsSeatOf as IsPoolSeatOf};
 ghost use Rattle.fapp_workers.specs.Begun.{IsFresh, OffersFirst};
 ghost use Rattle.fapp_workers.specs.FirstRows.{ArePublishable};
-ghost use Rattle.fapp_workers.specs.Places.{IsUnpublished, IsSeated, hands_of, pool_seats_of, seats_of};
+ghost use Rattle.fapp_workers.specs.WorkerPlaces.{IsUnpublished, IsSeated, hands_of, pool_seats_of, seats_of};
 ghost use Rattle.fapp_workers.specs.Starts.{IsDealtOut};
 
 use crate::first_rows::publish_first;

@@ -1,7 +1,7 @@
 // What a worker owns, which goes to a thread and comes back.
 ghost use Rattle.std.specs.Prelude.{◌≡◌, ℕ, ◌<◌, ◌≤◌, All, IfOk, length, slice_index_or};
 ghost use Rattle.fapp_model.specs.search.Jobs.{job_count};
-ghost use Rattle.fapp_workers.specs.Places.{IsTended, IsFreshPlace};
+ghost use Rattle.fapp_workers.specs.WorkerPlaces.{IsTended, IsFreshPlace};
 
 use crate::bound::SharedBound;
 use crate::job::Done;

@@ -6,7 +6,7 @@ ghost use Rattle.fapp_model.specs.Levels.{levels_of};
 ghost use Rattle.best_word.specs.Seats.{shares_of as seat_shares, view_of, IsSeatOf};
 ghost use Rattle.nogood_pool.specs.Dealt.{shares_of as pool_shares};
 ghost use Rattle.fapp_workers.specs.Begun.{IsBegun, IsFresh, OffersFirst};
-ghost use Rattle.fapp_workers.specs.Places.{IsSeated, hands_of, pool_seats_of, seats_of};
+ghost use Rattle.fapp_workers.specs.WorkerPlaces.{IsSeated, hands_of, pool_seats_of, seats_of};
 
 use crate::place::Place;
 use best_word::BestWord;

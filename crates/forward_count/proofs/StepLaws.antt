@@ -23,7 +23,7 @@ use Rattle.choice_counts.proofs.KeptLaws.{drop_can, drop_conflicts, drop_inside,
 use Rattle.choice_counts.proofs.RowMoves.{rows_are}
 use Rattle.choice_counts.proofs.Slots.{partial_drop, remove_is}
 use Rattle.forward_count.specs.Forwards.{IsForward}
-use Rattle.forward_count.specs.Steps.{CanCount, slots_after}
+use Rattle.forward_count.specs.SlotSteps.{CanCount, slots_after}
 
 -- what a step knows of its instance, level, literal and rows by equations
 pub same_step : (P : Bool → Instance → ℕ → Literal → List PathTallies → Type 0) (t u : Bool) (i j : Instance) (k l : ℕ) (a b : Literal) (rs ss : List PathTallies) → t ≡ u → i ≡ j → k ≡ l → a ≡ b → rs ≡ ss → P u j l b ss → P t i k a rs

@@ -1,5 +1,5 @@
 pub mod Forwards
-pub mod Steps
+pub mod SlotSteps
 pub mod Starts
 pub mod Standing
 pub mod Floors

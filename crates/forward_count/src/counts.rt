@@ -5,7 +5,7 @@ ghost use Rattle.choice_counts.specs.Totals.{AreRows, AreOpenPaths};
 ghost use Rattle.choice_counts.specs.Tallies.{tallies_at, tally_at};
 ghost use Rattle.choice_counts.specs.Tables.{tallies_at};
 ghost use Rattle.fapp_model.specs.Instances.{IsInstance};
-ghost use Rattle.forward_count.specs.Steps.{CanCount, slot_after, slots_after};
+ghost use Rattle.forward_count.specs.SlotSteps.{CanCount, slot_after, slots_after};
 ghost use Rattle.nogood.specs.Partials.{choice_given};
 
 use crate::moves::move_all;

@@ -16,7 +16,7 @@ use Rattle.record_reader.specs.Texts.{instance_of_contents, instance_of_lines, i
 use Rattle.record_reader.proofs.LawProofs.{valid_text}
 use Rattle.fapp_gen.specs.Lines.{falling, line_text, numbered}
 use Rattle.fapp_gen.specs.Generated.{domain_lines, path_line, distance_line, first_lines, fixed_by, disturbed_by, offset, stretch, is_odd, imperative_line, record_lines, network_lines, network_text}
-use Rattle.gen_laws.specs.Laws.{MadeNetworksAreInstances, MadeNetworksAreShort}
+use Rattle.gen_laws.specs.MadeLaws.{MadeNetworksAreInstances, MadeNetworksAreShort}
 use Rattle.gen_laws.proofs.Cutting.{IsField, IsLine, lines_again, decimal_field, decimal_fields, text_short}
 use Rattle.gen_laws.proofs.Says.{between, imperative_says, same_says, other_says, falling_count, falling_numbers, falling_falls}
 use Rattle.gen_laws.proofs.Passing.{Passes, passes_none, passes_both, passes_from}

@@ -5,7 +5,7 @@ use Rattle.std.proofs.lemmas.List.{map-append}
 use Rattle.fapp_model.specs.declared.level.TheConstants.{LEVELS}
 use Rattle.fapp_text.specs.declared.failure.LineFault.{LineFault}
 use Rattle.fapp_text.specs.Reading.{◌>>=◌, unless, at_line}
-use Rattle.fapp_text.proofs.Steps.{bind_ok, ok_is}
+use Rattle.fapp_text.proofs.ReadingSteps.{bind_ok, ok_is}
 use Rattle.record_reader.specs.declared.cause.Cause.{Cause}
 use Rattle.record_reader.specs.declared.entry.Entry.{Entry}
 use Rattle.record_reader.specs.Contents.{Contents}

@@ -8,7 +8,7 @@ use Rattle.fapp_model.specs.declared.level.TheConstants.{LEVELS}
 use Rattle.fapp_model.specs.Instances.{IsNumber}
 use Rattle.fapp_text.specs.Numbers.{number_of}
 use Rattle.fapp_text.specs.Reading.{◌>>=◌, or_fault}
-use Rattle.fapp_text.proofs.Steps.{or_fault_ok, refused_ok}
+use Rattle.fapp_text.proofs.ReadingSteps.{or_fault_ok, refused_ok}
 use Rattle.record_reader.specs.declared.cause.Cause.{Cause}
 use Rattle.record_reader.specs.declared.cause.Cause.TheVariants as causes
 use Rattle.record_reader.specs.declared.entry.Entry.{Entry}

@@ -1,4 +1,4 @@
-ghost use Rattle.gen_laws.specs.Laws.{MadeNetworksAreInstances, MadeNetworksAreShort};
+ghost use Rattle.gen_laws.specs.MadeLaws.{MadeNetworksAreInstances, MadeNetworksAreShort};
 
 /// The text of the network that a number makes is that of an instance, which has as many paths as were asked for, and four
 /// records for each path after the second, and two.

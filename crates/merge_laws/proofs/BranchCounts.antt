@@ -8,7 +8,7 @@ use Rattle.std.proofs.lemmas.Option.{get_or_from_slice_get, slice_get_within}
 use Rattle.fapp_model.proofs.Members.{at_front, behind, from-range}
 use Rattle.cert_lines.specs.declared.answer.Line.{Line}
 use Rattle.search_log.specs.declared.line.LogLine.{LogLine}
-use Rattle.search_log.proofs.Places.{get-take}
+use Rattle.search_log.proofs.ByPlace.{get-take}
 use Rattle.search_log.specs.LogStates.{LogState}
 use Rattle.search_log.specs.declared.piece.Piece.{Piece}
 use Rattle.merge_laws.specs.Certificates.{gathered}

@@ -32,11 +32,11 @@ use Rattle.search_log.specs.declared.line.Ref.{Ref}
 use Rattle.search_log.specs.Contents.{Cites, Content, KnownRow}
 use Rattle.search_log.specs.declared.job.Outcome.TheVariants.{Refuted}
 use Rattle.fapp_plan.specs.Outcomes.{IsPlacedFor, Placed, outcomes_at, settled_by}
-use Rattle.fapp_plan.specs.Steps.{prefix_paths}
+use Rattle.fapp_plan.specs.NamedPaths.{prefix_paths}
 use Rattle.fapp_plan.specs.VerdictRule.{IsVerdictOf, lower_code}
 use Rattle.fapp_plan.proofs.Rules.{prefix-partial, some-prefix}
 use Rattle.merge_laws.specs.Fates.{AreMarked, IsFate}
-use Rattle.merge_laws.specs.Laws.{IsSettledAt}
+use Rattle.merge_laws.specs.MergedLaws.{IsSettledAt}
 use Rattle.merge_laws.specs.Levels.{root_line}
 use Rattle.merge_laws.specs.Refuted.{number_by, prefix_number}
 use Rattle.fapp_plan.specs.Shown.{AreRefuted}

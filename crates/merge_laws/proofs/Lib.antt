@@ -1,5 +1,5 @@
 pub mod Clean
-pub mod Growing
+pub mod GrowingCertificates
 pub mod Beside
 pub mod WrittenLines
 pub mod Staged

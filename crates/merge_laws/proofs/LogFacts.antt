@@ -16,7 +16,7 @@ use Rattle.search_log.specs.declared.line.Segment.{Segment}
 use Rattle.search_log.specs.Contents.{Cites, KnownRow, content_of, known_row}
 use Rattle.search_log.specs.GoodLines.{IsGoodLine}
 use Rattle.search_log.specs.Segments.{CitesLowerRows, EndsAsRow, IsGoodLog}
-use Rattle.search_log.proofs.Places.{zip-left}
+use Rattle.search_log.proofs.ByPlace.{zip-left}
 use Rattle.search_log.specs.LogStates.{LogState}
 use Rattle.search_log.specs.declared.piece.Piece.{Piece}
 use Rattle.merge_laws.specs.GoodLogs.{AreByRow, AreGoodLogsAfter, IsPlacedIn}

@@ -37,7 +37,7 @@ use Rattle.search_log.specs.Contents.{Cites, Content, KnownRow}
 use Rattle.search_log.specs.LogStates.{LogState}
 use Rattle.fapp_plan.specs.Outcomes.{Placed}
 use Rattle.fapp_plan.specs.VerdictRule.{IsVerdictOf}
-use Rattle.fapp_plan.specs.Steps.{prefix_paths}
+use Rattle.fapp_plan.specs.NamedPaths.{prefix_paths}
 use Rattle.fapp_plan.proofs.Depths.{prefix_paths-in}
 use Rattle.search_log.specs.declared.piece.Piece.{Piece}
 use Rattle.merge_laws.specs.Certificates.{gathered}
@@ -46,7 +46,7 @@ use Rattle.merge_laws.specs.Fates.{IsFate, StandsAt}
 use Rattle.merge_laws.specs.GoodLogs.{AreByRow, AreGoodLogsAfter, IsPlacedIn}
 use Rattle.search_log.specs.GoodLogs.{AreGoodLogs, IsHomeRow, all_lines, lines_of, pieces_of}
 use Rattle.merge_laws.specs.OldRoots.{code_or_zero, is_enough, is_rooted, old_root}
-use Rattle.merge_laws.specs.Laws.{AreGathered}
+use Rattle.merge_laws.specs.MergedLaws.{AreGathered}
 use Rattle.merge_laws.specs.Levels.{level_line, emit_level, emit_prefixes, emit_tree, all_longer, prefix_line, root_line}
 use Rattle.merge_laws.specs.MergedLines.{IsBareLine, IsCertificate, IsCertificateAfter, IsCertificateAfterAt, IsCertificateAt, IsMerged, IsMergedAfter, IsOrderedAfter, branch_total}
 use Rattle.merge_laws.specs.Refuted.{prefix_number}
@@ -57,7 +57,7 @@ use Rattle.merge_laws.proofs.BranchCounts.{IsBounded, all-branches, gathered-bou
 use Rattle.merge_laws.proofs.Finishing.{empty-literals, first-settled, nothing-within, number, paths-apart, prefixes-settled, root-good}
 use Rattle.merge_laws.proofs.Gathering.{cited-fate, whole-stage}
 use Rattle.merge_laws.proofs.Clean.{passes-none}
-use Rattle.merge_laws.proofs.Growing.{AreFormed, formed-grows, good-grows, stands-last}
+use Rattle.merge_laws.proofs.GrowingCertificates.{AreFormed, formed-grows, good-grows, stands-last}
 use Rattle.merge_laws.proofs.LineCounts.{few-arcs, length-tree}
 use Rattle.merge_laws.proofs.LogFacts.{AreLogFacts, log-facts, placed_numbers}
 use Rattle.merge_laws.proofs.NoPaths.{none-fated}

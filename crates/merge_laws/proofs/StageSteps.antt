@@ -17,7 +17,7 @@ use Rattle.search_log.specs.declared.line.Ref.{Ref}
 use Rattle.search_log.specs.declared.line.Ref.TheVariants.{Own, Row}
 use Rattle.search_log.specs.Contents.{Cites, Content, KnownRow, content_of, known_row}
 use Rattle.search_log.specs.GoodLines.{IsGoodLine, PassesBy}
-use Rattle.search_log.proofs.Places.{get-take}
+use Rattle.search_log.proofs.ByPlace.{get-take}
 use Rattle.merge_laws.specs.Fates.{IsFate}
 use Rattle.search_log.specs.GoodLogs.{IsBare, lines_of}
 use Rattle.merge_laws.specs.Stages.{Merged, done_of, emit, emit_branch, emit_by, land, left_out, noted, merged_number, own_of}
@@ -25,7 +25,7 @@ use Rattle.merge_laws.specs.Written.{written}
 use Rattle.merge_laws.proofs.Staged.{IsDoneRow, IsStage}
 use Rattle.merge_laws.proofs.Beside.{same-some}
 use Rattle.search_log.proofs.BareLines.{left-out-dead, zip-none}
-use Rattle.merge_laws.proofs.Growing.{fate-grows, formed-grows, good-grows, marked-grows, stands-last}
+use Rattle.merge_laws.proofs.GrowingCertificates.{fate-grows, formed-grows, good-grows, marked-grows, stands-last}
 use Rattle.merge_laws.proofs.WrittenLines.{HaveFates, written-formed, written-good}
 
 -- ---- the numbers of lines after one more

@@ -38,7 +38,7 @@ use Rattle.accept_laws.proofs.Renumbering.{good-behind}
 use Rattle.merge_laws.specs.Conditions.{AreOld}
 use Rattle.merge_laws.specs.Fates.{AreMarked, IsFate}
 use Rattle.merge_laws.specs.GoodLogs.{IsPlacedIn}
-use Rattle.merge_laws.proofs.Growing.{stands-grows}
+use Rattle.merge_laws.proofs.GrowingCertificates.{stands-grows}
 use Rattle.merge_laws.proofs.LogFacts.{placed_numbers}
 use Rattle.merge_laws.proofs.Staged.{IsStage}
 

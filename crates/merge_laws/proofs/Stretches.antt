@@ -8,7 +8,7 @@ use Rattle.fapp_model.specs.Instances.{IsInstance}
 use Rattle.fapp_model.proofs.Members.{at_front, behind}
 use Rattle.search_log.specs.declared.line.LogLine.{LogLine}
 use Rattle.search_log.specs.Contents.{KnownRow, content_of, known_row}
-use Rattle.search_log.proofs.Places.{get-take}
+use Rattle.search_log.proofs.ByPlace.{get-take}
 use Rattle.search_log.specs.declared.piece.Piece.{Piece}
 use Rattle.merge_laws.specs.Pieces.{emit_piece, emit_pieces, emit_rest, emit_rests, left_to}
 use Rattle.merge_laws.specs.Stages.{Merged, done_of, emit, emit_all}

@@ -27,7 +27,7 @@ use Rattle.accept_laws.proofs.Having.{formed-partial}
 use Rattle.search_log.specs.Contents.{Content}
 use Rattle.merge_laws.specs.Fates.{AreMarked, IsFate, StandsAt}
 use Rattle.merge_laws.specs.Levels.{all_longer, level_line, children_from, cites_of, emit_level, emit_prefixes, longer, prefix_line}
-use Rattle.merge_laws.proofs.Growing.{AreFormed, fate-grows, formed-grows, good-grows, marked-grows, stands-grows, stands-last}
+use Rattle.merge_laws.proofs.GrowingCertificates.{AreFormed, fate-grows, formed-grows, good-grows, marked-grows, stands-grows, stands-last}
 use Rattle.merge_laws.proofs.TreeLines.{Serves, prefix-good, says, whole-branch-good}
 
 -- the lists have lines with numbers from one on

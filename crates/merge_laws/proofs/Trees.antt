@@ -21,7 +21,7 @@ use Rattle.accept_laws.specs.Lines.{AreGood}
 use Rattle.merge_laws.specs.Fates.{AreMarked, StandsAt}
 use Rattle.merge_laws.specs.Levels.{all_longer, emit_level, emit_prefixes, emit_tree, longer, prefix_line, level_line}
 use Rattle.merge_laws.proofs.BottomLists.{bottom}
-use Rattle.merge_laws.proofs.Growing.{AreFormed}
+use Rattle.merge_laws.proofs.GrowingCertificates.{AreFormed}
 use Rattle.merge_laws.proofs.Tree.{AreSettled, IsLevel, bottomed, level-good}
 use Rattle.merge_laws.proofs.TreeLines.{says}
 

@@ -6,7 +6,7 @@ use Rattle.fapp_model.specs.declared.tag.Tag.{Tag}
 use Rattle.cert_lines.specs.declared.answer.Line.{Line}
 use Rattle.search_log.specs.declared.line.LogLine.{LogLine}
 use Rattle.fapp_plan.specs.Outcomes.{Placed}
-use Rattle.fapp_plan.specs.Steps.{prefix_paths}
+use Rattle.fapp_plan.specs.NamedPaths.{prefix_paths}
 use Rattle.search_log.specs.declared.piece.Piece.{Piece}
 use Rattle.merge_laws.specs.Levels.{emit_tree, root_line}
 use Rattle.merge_laws.specs.Pieces.{emit_pieces, emit_rests}

@@ -9,4 +9,4 @@ pub mod Certificates
 pub mod OldRoots
 pub mod Conditions
 pub mod MergedLines
-pub mod Laws
+pub mod MergedLaws

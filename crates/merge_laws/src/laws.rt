@@ -1,4 +1,4 @@
-ghost use Rattle.merge_laws.specs.Laws.{GatheredLinesAreGood, MergedAnswerIsAccepted, MergedLinesAfterAreAccepted, MergedLinesAreAccepted, OneRootTag, RuleSettlesPrefixes, TreeLines};
+ghost use Rattle.merge_laws.specs.MergedLaws.{GatheredLinesAreGood, MergedAnswerIsAccepted, MergedLinesAfterAreAccepted, MergedLinesAreAccepted, OneRootTag, RuleSettlesPrefixes, TreeLines};
 
 /// The merged lines of good logs and of the jobs' outcomes are well formed and good, and end with a line without literals
 /// at the verdict's tag. A line of the tag (0, 0, 0) cites nothing. They are at most as many as the choices, the lists of

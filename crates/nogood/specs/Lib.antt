@@ -1,4 +1,4 @@
 pub mod Literals
 pub mod Partials
 pub mod Rows
-pub mod Laws
+pub mod LiteralLaws

@@ -1,4 +1,4 @@
-ghost use Rattle.nogood.specs.Laws.{JoinsAreBoth, LiteralsStay};
+ghost use Rattle.nogood.specs.LiteralLaws.{JoinsAreBoth, LiteralsStay};
 
 /// Law: two lists have one join, and a plan has its literals exactly where it has those of both.
 pub fn joins_are_both()

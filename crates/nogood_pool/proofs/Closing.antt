@@ -18,7 +18,7 @@ use Rattle.nogood.specs.declared.row.Row.{Row}
 use Rattle.nogood_pool.specs.declared.view.HeldRow.{HeldRow}
 use Rattle.nogood_pool.specs.declared.view.PoolView.{PoolView}
 use Rattle.nogood_pool.specs.Pool.{Words, IsPool, IsHeld, IsRowInWriting, FitsPool, cell, Live, is_spent, share_of, counter_of, times, written, once, held_row, first_view, kept_half, given_half, after_join, spent_view}
-use Rattle.nogood_pool.specs.Steps.{Mine, HasPart}
+use Rattle.nogood_pool.specs.PoolSteps.{Mine, HasPart}
 use Rattle.nogood_pool.specs.Ends.{IsWholePool, RowsAreImplied, RowsStay}
 use Rattle.nogood_pool.proofs.Cells.{once_same, times_live, not_below, below_most}
 use Rattle.nogood_pool.proofs.Views.{alone}

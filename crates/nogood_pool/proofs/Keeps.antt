@@ -19,7 +19,7 @@ use Rattle.nogood_pool.specs.declared.view.Content.{Content}
 use Rattle.nogood_pool.specs.declared.view.HeldRow.{HeldRow}
 use Rattle.nogood_pool.specs.declared.view.PoolView.{PoolView}
 use Rattle.nogood_pool.specs.Pool.{Words, IsPool, IsHeld, IsRowInWriting, IsPoolRow, AreShort, FitsPool, Live, cell, counter_of, times, below, written, once, held_row, content_of_row, pool_word_at, literal_word}
-use Rattle.nogood_pool.specs.Steps.{Mine, Counts, Draws, Stores, StoresTag, LoadsTag, ReadsTag, ReadsLiteral, IsOnlyContent, after_count, after_draw, after_miss, writing_at, after_publish, after_read}
+use Rattle.nogood_pool.specs.PoolSteps.{Mine, Counts, Draws, Stores, StoresTag, LoadsTag, ReadsTag, ReadsLiteral, IsOnlyContent, after_count, after_draw, after_miss, writing_at, after_publish, after_read}
 use Rattle.nogood_pool.proofs.Cells.{cell_here, cell_else, cell_counter, counter_else, once_same, Beside, helds_kept, fits_kept, times_live, past, one_more, not_below, below_most}
 use Rattle.nogood_pool.proofs.Views.{kept, alone}
 use Rattle.nogood_pool.proofs.Contents.{one_content}

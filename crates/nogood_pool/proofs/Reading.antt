@@ -6,7 +6,7 @@ use Rattle.nogood.specs.declared.row.Row.{Row}
 use Rattle.nogood_pool.specs.declared.view.Content.{Content}
 use Rattle.nogood_pool.specs.declared.view.PoolView.{PoolView}
 use Rattle.nogood_pool.specs.Pool.{IsPoolRow, AreShort, content, content_of_row, held_row}
-use Rattle.nogood_pool.specs.Steps.{ReadsTag, IsOnlyContent, after_read}
+use Rattle.nogood_pool.specs.PoolSteps.{ReadsTag, IsOnlyContent, after_read}
 
 pub tag_none : (v w : PoolView) (row n : ℕ) → ReadsTag v row n w → n ≡ 0 → (w ≡ after_read v row 0 []) × ((c : Content) → Contains v.published (held_row row c) ⊎ Contains v.seen (held_row row c) → ⊥)
 tag_none v w row n t z = ⊎_elim (λ h. (h.1 ∙ ap (λ (m : ℕ). after_read v row m []) z, h.2)) (λ h. let above = h.2.above in let is = h.1 in absurd (omega arith)) t

@@ -11,7 +11,7 @@ use Rattle.nogood_pool.specs.declared.view.PoolView.{PoolView}
 use Rattle.nogood_pool.specs.declared.seat.Pool.{Pool}
 use Rattle.nogood_pool.specs.declared.seat.PoolSeat.{PoolSeat}
 use Rattle.nogood_pool.specs.Pool.{IsPoolRow, content, content_of_row, held_row}
-use Rattle.nogood_pool.specs.Steps.{IsBehind, IsOnlyContent, after_count, after_draw, after_miss, after_publish, after_read}
+use Rattle.nogood_pool.specs.PoolSteps.{IsBehind, IsOnlyContent, after_count, after_draw, after_miss, after_publish, after_read}
 
 abbrev pub view_of : PoolSeat → PoolView
 view_of s = s.seat.me.0

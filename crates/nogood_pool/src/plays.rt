@@ -6,7 +6,7 @@ use nogood::Row;
 pub struct Count;
 
 impl Play<Row, PoolView> for Count {
-    ghost use Rattle.nogood_pool.specs.Steps.{Counts};
+    ghost use Rattle.nogood_pool.specs.PoolSteps.{Counts};
 
     ghost then = { Counts };
 }
@@ -14,7 +14,7 @@ impl Play<Row, PoolView> for Count {
 pub struct Draw;
 
 impl Play<Row, PoolView> for Draw {
-    ghost use Rattle.nogood_pool.specs.Steps.{Draws};
+    ghost use Rattle.nogood_pool.specs.PoolSteps.{Draws};
 
     ghost then = { Draws };
 }
@@ -22,7 +22,7 @@ impl Play<Row, PoolView> for Draw {
 pub struct StoreLiteral;
 
 impl Play<Row, PoolView> for StoreLiteral {
-    ghost use Rattle.nogood_pool.specs.Steps.{Stores};
+    ghost use Rattle.nogood_pool.specs.PoolSteps.{Stores};
 
     ghost then = { Stores };
 }
@@ -30,7 +30,7 @@ impl Play<Row, PoolView> for StoreLiteral {
 pub struct StoreTag;
 
 impl Play<Row, PoolView> for StoreTag {
-    ghost use Rattle.nogood_pool.specs.Steps.{StoresTag};
+    ghost use Rattle.nogood_pool.specs.PoolSteps.{StoresTag};
 
     ghost then = { StoresTag };
 }
@@ -38,7 +38,7 @@ impl Play<Row, PoolView> for StoreTag {
 pub struct ReadTag;
 
 impl Play<Row, PoolView> for ReadTag {
-    ghost use Rattle.nogood_pool.specs.Steps.{LoadsTag};
+    ghost use Rattle.nogood_pool.specs.PoolSteps.{LoadsTag};
 
     ghost then = { LoadsTag };
 }
@@ -46,7 +46,7 @@ impl Play<Row, PoolView> for ReadTag {
 pub struct ReadLiteral;
 
 impl Play<Row, PoolView> for ReadLiteral {
-    ghost use Rattle.nogood_pool.specs.Steps.{ReadsLiteral};
+    ghost use Rattle.nogood_pool.specs.PoolSteps.{ReadsLiteral};
 
     ghost then = { ReadsLiteral };
 }
@@ -54,7 +54,7 @@ impl Play<Row, PoolView> for ReadLiteral {
 pub struct Share;
 
 impl Play<Row, PoolView> for Share {
-    ghost use Rattle.nogood_pool.specs.Steps.{HasPart};
+    ghost use Rattle.nogood_pool.specs.PoolSteps.{HasPart};
 
     ghost then = { HasPart };
 }

@@ -3,7 +3,7 @@ ghost use Rattle.std.specs.Prelude.{◌≡◌, ◌≢◌, ℕ, ◌+◌, ◌*◌,
 ghost use Rattle.seat_laws.specs.declared.TheConstants.{WHOLE_SHARE};
 ghost use Rattle.nogood_pool.specs.Pool.{IsPoolRow, AreShort, content, content_of_row, held_row, first_view, pool_word_at};
 ghost use Rattle.nogood_pool.specs.declared.view.Content.{Content};
-ghost use Rattle.nogood_pool.specs.Steps.{ReadsTag, after_count, after_draw, after_miss, after_publish, writing_at, after_read};
+ghost use Rattle.nogood_pool.specs.PoolSteps.{ReadsTag, after_count, after_draw, after_miss, after_publish, writing_at, after_read};
 ghost use Rattle.nogood_pool.specs.Seats.{view_of, instance_seen, IsSeatOf, IsSameSeat, Loads, SeatPublishes, SeatReads, Gets};
 
 use crate::plays::{Count, Draw, ReadLiteral, ReadTag, StoreLiteral, StoreTag};

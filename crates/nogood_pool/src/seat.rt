@@ -1,6 +1,6 @@
 // The pool and a seat, as they are kept.
 ghost use Rattle.nogood_pool.specs.declared.seat.TheConstants.{MAX_ROWS};
-ghost use Rattle.nogood_pool.specs.Steps.{AreRowsApart};
+ghost use Rattle.nogood_pool.specs.PoolSteps.{AreRowsApart};
 ghost use Rattle.std.specs.Prelude.{◌≡◌, ◌+◌, ◌*◌, ◌≤◌, false, [], None};
 
 use crate::view::{Key, PoolRule, PoolView};

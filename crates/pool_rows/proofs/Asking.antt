@@ -17,7 +17,7 @@ use Rattle.nogood_pool.specs.declared.view.HeldRow.{HeldRow}
 use Rattle.nogood_pool.specs.declared.view.PoolView.{PoolView}
 use Rattle.nogood_pool.specs.Pool.{below, held_row, once}
 use Rattle.nogood_pool.specs.Seats.{Gets, SeatReads}
-use Rattle.nogood_pool.specs.Steps.{AreRowsApart}
+use Rattle.nogood_pool.specs.PoolSteps.{AreRowsApart}
 use Rattle.pool_rows.specs.Copying.{TakesRow, all_known, cite_of, held_known}
 
 -- ---- what a load answers

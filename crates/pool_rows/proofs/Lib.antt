@@ -1,5 +1,5 @@
 pub mod Asking
-pub mod Steps
+pub mod AskedRows
 pub mod Offering
 pub mod Reading
 pub mod Since

@@ -8,7 +8,7 @@ use Rattle.nogood_pool.specs.declared.view.PoolView.{PoolView}
 use Rattle.nogood_pool.specs.declared.view.TrailEntry.TheVariants.{Counted, Exchanged}
 use Rattle.nogood_pool.specs.Pool.{content, held_row}
 use Rattle.nogood_pool.specs.Seats.{IsSameSeat, SeatPublishes, view_of}
-use Rattle.nogood_pool.specs.Steps.{after_count}
+use Rattle.nogood_pool.specs.PoolSteps.{after_count}
 use Rattle.pool_rows.specs.declared.rows.PoolRows.{PoolRows}
 use Rattle.search_log.specs.declared.shared.Cite.{Cite}
 use Rattle.pool_rows.specs.Copying.{Grew, IsLookUp, Looked, read_of}

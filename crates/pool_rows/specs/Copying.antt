@@ -10,7 +10,7 @@ use Rattle.nogood_pool.specs.declared.view.TrailEntry.{TrailEntry}
 use Rattle.nogood_pool.specs.declared.view.TrailEntry.TheVariants.{Counted, Exchanged, Read}
 use Rattle.nogood_pool.specs.Pool.{IsPoolRow, below, content_of_row, held_row, once}
 use Rattle.nogood_pool.specs.Seats.{Loads}
-use Rattle.nogood_pool.specs.Steps.{IsOnlyContent, after_read}
+use Rattle.nogood_pool.specs.PoolSteps.{IsOnlyContent, after_read}
 use Rattle.row_copies.specs.Filed.{known_cites}
 
 -- a row that a seat saw or published, as logs cite it

@@ -21,7 +21,7 @@ use Rattle.record_reader.specs.Instances.{put_entry, frequencies, paths_of, cons
 use Rattle.record_reader.specs.LineReading.{read_entry}
 use Rattle.record_reader.specs.Readers.{ReaderHolds, AddsFrequency, frequencies_in}
 use Rattle.record_reader.proofs.LinkLists.{paths_append, constraints_append}
-use Rattle.record_reader.proofs.Places.{places_push}
+use Rattle.record_reader.proofs.PathPositions.{places_push}
 use Rattle.record_reader.proofs.Frequencies.{frequencies_push}
 
 -- the contents that an entry leads to, held by a reader

@@ -10,7 +10,7 @@ use Rattle.std.proofs.lemmas.List.Sums.{fold_push}
 use Rattle.record_reader.specs.declared.entry.DomainEntry.{DomainEntry}
 use Rattle.record_reader.specs.Instances.{put, put_entry, frequencies}
 use Rattle.record_reader.specs.Readers.{frequencies_in, keys_of}
-use Rattle.record_reader.proofs.Places.{at_eq}
+use Rattle.record_reader.proofs.PathPositions.{at_eq}
 
 by_order : (n m : ℕ) (less same more : List ℕ) → cond (ltb n m) less (cond (eqb n m) same more) ≡ match_ordering (nat_cmp n m) less same more
 by_order n m less same more = grind (arith, nat_tests)

@@ -14,8 +14,8 @@ use Rattle.fapp_text.specs.Reading.{◌>>=◌, at_line}
 use Rattle.record_reader.specs.Fields.{carriage_return, without_return, fields_of}
 use Rattle.record_reader.specs.Instances.{put, put_entry, frequencies}
 use Rattle.record_reader.specs.Texts.{instance_of_contents, instance_of_lines}
-use Rattle.record_reader.specs.Laws.{OneInstance, ValidInstance, FirstRefusal, LinkRefusal, LineFeedMore, CarriageReturnMore, Ascending, OwnFrequencies}
-use Rattle.fapp_text.proofs.Steps.{bind_ok, bind_err, bind_same}
+use Rattle.record_reader.specs.TextLaws.{OneInstance, ValidInstance, FirstRefusal, LinkRefusal, LineFeedMore, CarriageReturnMore, Ascending, OwnFrequencies}
+use Rattle.fapp_text.proofs.ReadingSteps.{bind_ok, bind_err, bind_same}
 use Rattle.record_reader.proofs.ValidContents.{lines_valid, nothing_valid}
 use Rattle.record_reader.proofs.ValidTexts.{links_valid}
 use Rattle.record_reader.proofs.Ascents.{ascends}

@@ -1,7 +1,7 @@
 pub mod Rises
 pub mod Distances
 pub mod LinkLists
-pub mod Places
+pub mod PathPositions
 pub mod Frequencies
 pub mod Additions
 pub mod Ascents

@@ -10,7 +10,7 @@ use Rattle.std.proofs.lemmas.List.Sums.{fails_before_first, prefix_len-le-length
 use Rattle.fapp_model.specs.declared.level.TheConstants.{LEVELS}
 use Rattle.fapp_model.specs.declared.limits.TheConstants.{MAX_PATHS, MAX_RECORDS, MAX_DOMAIN_RECORDS, MAX_DOMAIN_FREQUENCIES}
 use Rattle.fapp_text.specs.Reading.{at_line}
-use Rattle.fapp_text.proofs.Steps.{bind_ok, unless_ok, at_line_ok, no_fault}
+use Rattle.fapp_text.proofs.ReadingSteps.{bind_ok, unless_ok, at_line_ok, no_fault}
 use Rattle.record_reader.specs.declared.cause.Cause.TheVariants as causes
 use Rattle.record_reader.specs.declared.entry.DomainEntry.{DomainEntry}
 use Rattle.record_reader.specs.declared.entry.PathEntry.{PathEntry}

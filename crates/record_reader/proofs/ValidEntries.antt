@@ -13,7 +13,7 @@ use Rattle.fapp_text.specs.declared.numeral.NumFault.TheVariants.{NotDigits, Too
 use Rattle.fapp_text.specs.Numbers.{is_numeral, value, bounded, number_of}
 use Rattle.fapp_text.specs.Reading.{◌>>=◌}
 use Rattle.fapp_text.specs.Signs.{IsSign, sign_of}
-use Rattle.fapp_text.proofs.Steps.{ok_is, bind_ok, or_fault_ok, refused_ok, required_ok}
+use Rattle.fapp_text.proofs.ReadingSteps.{ok_is, bind_ok, or_fault_ok, refused_ok, required_ok}
 use Rattle.fapp_text.proofs.SignLemmas.{sign_taken}
 use Rattle.record_reader.specs.declared.cause.Cause.{Cause}
 use Rattle.record_reader.specs.declared.cause.Cause.TheVariants as causes

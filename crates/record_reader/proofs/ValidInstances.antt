@@ -14,7 +14,7 @@ use Rattle.fapp_model.specs.Records.{first_path, second_path}
 use Rattle.fapp_model.specs.Instances.{IsPath, IsRecord, HasNumbers, IsInstance}
 use Rattle.fapp_model.proofs.LevelNumbers.{levels-are}
 use Rattle.fapp_text.specs.declared.failure.LineFault.{LineFault}
-use Rattle.fapp_text.proofs.Steps.{no_fault}
+use Rattle.fapp_text.proofs.ReadingSteps.{no_fault}
 use Rattle.record_reader.specs.declared.cause.Cause.{Cause}
 use Rattle.record_reader.specs.declared.cause.Cause.TheVariants as causes
 use Rattle.record_reader.specs.declared.entry.PathEntry.{PathEntry}

@@ -7,7 +7,7 @@ use Rattle.fapp_model.specs.Instances.{IsInstance}
 use Rattle.fapp_text.specs.declared.failure.Failure.{Failure}
 use Rattle.fapp_text.specs.declared.failure.LineFault.{LineFault}
 use Rattle.fapp_text.specs.Reading.{Gives}
-use Rattle.fapp_text.proofs.Steps.{unless_ok}
+use Rattle.fapp_text.proofs.ReadingSteps.{unless_ok}
 use Rattle.record_reader.specs.declared.cause.Cause.{Cause}
 use Rattle.record_reader.specs.declared.entry.Pending.{Pending}
 use Rattle.record_reader.specs.declared.reader.Reader.{Reader}

@@ -9,4 +9,4 @@ pub mod Readers
 pub mod Validity
 pub mod Drafts
 pub mod Causes
-pub mod Laws
+pub mod TextLaws

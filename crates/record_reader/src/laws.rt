@@ -1,4 +1,4 @@
-ghost use Rattle.record_reader.specs.Laws.{OneInstance, ValidInstance, FirstRefusal, LinkRefusal, LineFeedMore, CarriageReturnMore, Ascending, OwnFrequencies};
+ghost use Rattle.record_reader.specs.TextLaws.{OneInstance, ValidInstance, FirstRefusal, LinkRefusal, LineFeedMore, CarriageReturnMore, Ascending, OwnFrequencies};
 
 /// A text that is not refused has one instance, which is valid.
 pub fn one_instance_law()

@@ -22,13 +22,13 @@ use Rattle.fapp_run.specs.declared.command.Command.TheVariants.{Solve}
 use Rattle.fapp_run.specs.declared.outcome.Solution.TheVariants.{Refused, Answered}
 use Rattle.fapp_run.specs.declared.outcome.TheConstants.{MAX_INPUT}
 use Rattle.fapp_run.specs.Answers.{Answers, Solves, status_of}
-use Rattle.fapp_run.specs.Outcomes.{IsOutcomeOf}
+use Rattle.fapp_run.specs.Replies.{IsReplyOf}
 use Rattle.fapp_run.specs.Runs.{IsAnswer}
 use Rattle.fapp_run.proofs.RunEnds.{solution_ends}
 use Rattle.fapp_run.proofs.Told.{refused_answers, told_answers}
 use Rattle.relay_cli.specs.Words.{ReadsRelay}
-use Rattle.relay_cli.specs.Runs.{CompletesRelay, IsEnoughForRelay, IsRelayOutcome, IsRelayOutcomeFor, IsRelayRun, NamesRelay, ReadsRelayFront}
-use Rattle.relay_cli.specs.Steps.{IsRunBy, IsSolutionOf, IsWriting}
+use Rattle.relay_cli.specs.Runs.{CompletesRelay, IsEnoughForRelay, IsRelayReply, IsRelayReplyFor, IsRelayRun, NamesRelay, ReadsRelayFront}
+use Rattle.relay_cli.specs.RelaySteps.{IsRunBy, IsSolutionOf, IsWriting}
 
 -- ---- what was read
 
@@ -46,7 +46,7 @@ module _ (options : SolveOptions) (source source' : SourceMoment) where
   refused_whole status h = (h.0, h.1, refused_answers options h.0 status (refusal_line status) h.2 refl)
 
   -- a refusal is the outcome of `solve`
-  pub refused_outcome : (status : Status) → IsSolutionOf options source source' (Refused status) → IsOutcomeOf (Solve options) source source' status (refusal_line status)
+  pub refused_outcome : (status : Status) → IsSolutionOf options source source' (Refused status) → IsReplyOf (Solve options) source source' status (refusal_line status)
   refused_outcome ReadFault h = (h.0, h.1, refl)
   refused_outcome TooLong h = (h, refl)
   refused_outcome (BadInput bad) h = refused_whole (BadInput bad) h
@@ -63,7 +63,7 @@ module _ (options : SolveOptions) (source source' : SourceMoment) where
   refused_outcome NoMemory h = refused_whole NoMemory h
 
   -- an answer is the outcome of `solve`
-  pub answered_outcome : (instance : Instance) (answer : Answer) → options.answer_only ≡ false → IsSolutionOf options source source' (Answered instance answer) → IsOutcomeOf (Solve options) source source' (status_of answer.verdict) (answer_text instance answer)
+  pub answered_outcome : (instance : Instance) (answer : Answer) → options.answer_only ≡ false → IsSolutionOf options source source' (Answered instance answer) → IsReplyOf (Solve options) source source' (status_of answer.verdict) (answer_text instance answer)
   answered_outcome instance answer whole h = by_verdict answer.verdict refl
     where
       text_is : answer_text instance answer ≡ written_text instance answer options.answer_only
@@ -72,7 +72,7 @@ module _ (options : SolveOptions) (source source' : SourceMoment) where
       told : (status : Status) → status ≡ status_of answer.verdict → (bytes : List ℕ) × IsAllOf source.left source'.left bytes × Answers options bytes status (answer_text instance answer)
       told status e = (h.0, h.1, told_answers options h.0 instance answer status (answer_text instance answer) h.2 e text_is)
 
-      by_verdict : (v : Verdict) → answer.verdict ≡ v → IsOutcomeOf (Solve options) source source' (status_of v) (answer_text instance answer)
+      by_verdict : (v : Verdict) → answer.verdict ≡ v → IsReplyOf (Solve options) source source' (status_of v) (answer_text instance answer)
       by_verdict (verdicts.Best t) e = told Best (ap status_of (sym e))
       by_verdict verdicts.NoneFeasible e = told NoneFeasible (ap status_of (sym e))
       by_verdict (verdicts.Open best lower level prefix) e = told Open (ap status_of (sym e))
@@ -91,15 +91,15 @@ no_verdict_want (verdicts.Open best lower level prefix) e = cc
 
 module _ (words : List (String Global)) (source source' : SourceMoment) (sink sink' : SinkMoment) where
   -- no outcome is a fault of the sink, nor want of memory
-  no_fault : (text : List ℕ) (asked : Option SolveOptions) → IsRelayOutcomeFor asked source source' WriteFault text → ⊥
+  no_fault : (text : List ℕ) (asked : Option SolveOptions) → IsRelayReplyFor asked source source' WriteFault text → ⊥
   no_fault text None h = let e = h.1 in cc
   no_fault text (Some options) h = no_verdict_fault h.2.3.answer.verdict h.2.3.status_is
 
-  no_want : (text : List ℕ) (asked : Option SolveOptions) → IsRelayOutcomeFor asked source source' NoMemory text → ⊥
+  no_want : (text : List ℕ) (asked : Option SolveOptions) → IsRelayReplyFor asked source source' NoMemory text → ⊥
   no_want text None h = let e = h.1 in cc
   no_want text (Some options) h = no_verdict_want h.2.3.answer.verdict h.2.3.status_is
 
-  whole_run : (text : List ℕ) (status : Status) → IsRelayOutcome words source source' status text → BytesGrow sink.taken sink'.taken text → IsRelayRun words source source' sink sink' status
+  whole_run : (text : List ℕ) (status : Status) → IsRelayReply words source source' status text → BytesGrow sink.taken sink'.taken text → IsRelayRun words source source' sink sink' status
   whole_run text Best out takes = (text, out, takes)
   whole_run text NoneFeasible out takes = (text, out, takes)
   whole_run text Open out takes = (text, out, takes)
@@ -116,7 +116,7 @@ module _ (words : List (String Global)) (source source' : SourceMoment) (sink si
   whole_run text NoMemory out takes = absurd (no_want text out.0 out.2)
 
   -- an outcome whose text was written
-  pub written_run : (text : List ℕ) (status end : Status) → IsRelayOutcome words source source' status text → ReadsRelayFront words source source' → IsWriting status text sink sink' end → IsRelayRun words source source' sink sink' end
+  pub written_run : (text : List ℕ) (status end : Status) → IsRelayReply words source source' status text → ReadsRelayFront words source source' → IsWriting status text sink sink' end → IsRelayRun words source source' sink sink' end
   written_run text status end out reads writing = elim writing [
     | inl whole ↦ subst (IsRelayRun words source source' sink sink') (sym whole.0) (whole_run text status out whole.1)
     | inr (inl fault) ↦ subst (IsRelayRun words source source' sink sink') (sym fault.0) (fault.1, (status, text, out, fault.2))
@@ -125,7 +125,7 @@ module _ (words : List (String Global)) (source source' : SourceMoment) (sink si
     where
       wanted : (sink' ≡ sink) ⊎ ((verdict : Verdict) × (status ≡ status_of verdict) × GrowsByFront sink.taken sink'.taken text) → IsRelayRun words source source' sink sink' NoMemory
       wanted (inl same) = inl (reads, same)
-      wanted (inr (verdict, told, front)) = inr (verdict, text, subst (λ s. IsRelayOutcome words source source' s text) told out, front)
+      wanted (inr (verdict, told, front)) = inr (verdict, text, subst (λ s. IsRelayReply words source source' s text) told out, front)
 
   -- a run by the options that the words name
   pub named_run : (options : SolveOptions) (end : Status) → NamesRelay words options → DropsUpTo source.left source'.left (MAX_INPUT + 1) → IsRunBy options source source' sink sink' end → IsRelayRun words source source' sink sink' end
@@ -137,7 +137,7 @@ module _ (words : List (String Global)) (source source' : SourceMoment) (sink si
   -- ---- how a run ends where nothing fails
 
   abbrev IsEnd : Status → Type 0
-  IsEnd end = (end ≡ NoMemory) ⊎ (Rose sink.faults sink'.faults ⊎ ((text : List ℕ) × IsRelayOutcome words source source' end text))
+  IsEnd end = (end ≡ NoMemory) ⊎ (Rose sink.faults sink'.faults ⊎ ((text : List ℕ) × IsRelayReply words source source' end text))
 
   end_of : (end : Status) → IsRelayRun words source source' sink sink' end → IsEnd end
   end_of Best h = inr (inr (h.0, h.1))
@@ -167,7 +167,7 @@ module _ (words : List (String Global)) (source source' : SourceMoment) (sink si
   ]
     where
       by_asked : (bytes : List ℕ) (instance : Instance) (options : SolveOptions) → NamesRelay words options → source.left ≡ Some bytes → length bytes ≤ MAX_INPUT → instance_of_text bytes ≡ Ok instance → (Rose source.faults source'.faults → ⊥) →
-          (text : List ℕ) (asked : Option SolveOptions) → ReadsRelay (map string_bytes words) asked → IsRelayOutcomeFor asked source source' end text → IsAnswer end × (IsEnoughForRelay words instance → end ≢ Open)
+          (text : List ℕ) (asked : Option SolveOptions) → ReadsRelay (map string_bytes words) asked → IsRelayReplyFor asked source source' end text → IsAnswer end × (IsEnoughForRelay words instance → end ≢ Open)
       by_asked bytes instance options named left short read sound text None reads out = absurd (reads options named)
       by_asked bytes instance options named left short read sound text (Some other) reads out =
           let ends = solution_ends source source' bytes instance end text left other short read sound out in

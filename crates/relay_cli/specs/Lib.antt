@@ -1,3 +1,3 @@
 pub mod Words
 pub mod Runs
-pub mod Steps
+pub mod RelaySteps

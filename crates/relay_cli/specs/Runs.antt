@@ -17,7 +17,7 @@ use Rattle.fapp_workers.specs.VerdictLaws.{IsEnough}
 use Rattle.fapp_run.specs.declared.command.Command.TheVariants.{Solve}
 use Rattle.fapp_run.specs.declared.outcome.TheConstants.{MAX_INPUT}
 use Rattle.fapp_run.specs.Answers.{fuel_of, status_of}
-use Rattle.fapp_run.specs.Outcomes.{IsOutcomeOf}
+use Rattle.fapp_run.specs.Replies.{IsReplyOf}
 use Rattle.fapp_run.specs.Runs.{IsAnswer, IsUnfailing}
 use Rattle.relay_cli.specs.Words.{AreRelayWords, ReadsRelay}
 
@@ -26,26 +26,26 @@ abbrev pub NamesRelay : List (String Global) → SolveOptions → Type 0
 NamesRelay words options = AreRelayWords (map string_bytes words) options
 
 -- Usage where nothing is asked for, and then nothing is read; or the outcome of `solve` with the options for the input
-abbrev pub IsRelayOutcomeFor : Option SolveOptions → SourceMoment → SourceMoment → Status → List ℕ → Type 0
-IsRelayOutcomeFor None source source' status text = (source' ≡ source) × (status ≡ Usage) × (text ≡ refusal_line Usage)
-IsRelayOutcomeFor (Some options) source source' status text = IsOutcomeOf (Solve options) source source' status text
+abbrev pub IsRelayReplyFor : Option SolveOptions → SourceMoment → SourceMoment → Status → List ℕ → Type 0
+IsRelayReplyFor None source source' status text = (source' ≡ source) × (status ≡ Usage) × (text ≡ refusal_line Usage)
+IsRelayReplyFor (Some options) source source' status text = IsReplyOf (Solve options) source source' status text
 
 -- the status and the text for the words
-abbrev pub IsRelayOutcome : List (String Global) → SourceMoment → SourceMoment → Status → List ℕ → Type 0
-IsRelayOutcome words source source' status text =
+abbrev pub IsRelayReply : List (String Global) → SourceMoment → SourceMoment → Status → List ℕ → Type 0
+IsRelayReply words source source' status text =
     (asked : Option SolveOptions) × ReadsRelay (map string_bytes words) asked
-    × IsRelayOutcomeFor asked source source' status text
+    × IsRelayReplyFor asked source source' status text
 
 -- a front of some outcome's text was taken, short of the whole
-abbrev pub IsCutOutcome : List (String Global) → SourceMoment → SourceMoment → SinkMoment → SinkMoment → Type 0
-IsCutOutcome words source source' sink sink' =
-    (status : Status) × (text : List ℕ) × IsRelayOutcome words source source' status text
+abbrev pub IsCutReply : List (String Global) → SourceMoment → SourceMoment → SinkMoment → SinkMoment → Type 0
+IsCutReply words source source' sink sink' =
+    (status : Status) × (text : List ℕ) × IsRelayReply words source source' status text
     × GrowsByFront sink.taken sink'.taken text
 
 -- a front of an answer's text was taken, short of the whole
 abbrev pub IsCutAnswer : List (String Global) → SourceMoment → SourceMoment → SinkMoment → SinkMoment → Type 0
 IsCutAnswer words source source' sink sink' =
-    (verdict : Verdict) × (text : List ℕ) × IsRelayOutcome words source source' (status_of verdict) text
+    (verdict : Verdict) × (text : List ℕ) × IsRelayReply words source source' (status_of verdict) text
     × GrowsByFront sink.taken sink'.taken text
 
 -- nothing was read, or on promised words a front, up to one byte past the limit
@@ -60,9 +60,9 @@ abbrev pub IsRelayRun : List (String Global) → SourceMoment → SourceMoment �
 IsRelayRun words source source' sink sink' NoMemory =
     (ReadsRelayFront words source source' × (sink' ≡ sink)) ⊎ IsCutAnswer words source source' sink sink'
 IsRelayRun words source source' sink sink' WriteFault =
-    Rose sink.faults sink'.faults × IsCutOutcome words source source' sink sink'
+    Rose sink.faults sink'.faults × IsCutReply words source source' sink sink'
 IsRelayRun words source source' sink sink' status =
-    (text : List ℕ) × IsRelayOutcome words source source' status text × BytesGrow sink.taken sink'.taken text
+    (text : List ℕ) × IsRelayReply words source source' status text × BytesGrow sink.taken sink'.taken text
 
 -- each job of one level that decides has tries within the fuel that the words name
 abbrev pub IsEnoughForRelay : List (String Global) → Instance → Type 0

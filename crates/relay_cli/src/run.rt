@@ -7,7 +7,7 @@ ghost use Rattle.cert_lines.specs.WellFormed.{IsWellFormed};
 ghost use Rattle.answer_writer.specs.Refusals.{refusal_line};
 ghost use Rattle.fapp_run.specs.Answers.{AreOptions, status_of};
 ghost use Rattle.relay_cli.specs.Runs.{IsRelayRun, CompletesRelay};
-ghost use Rattle.relay_cli.specs.Steps.{IsRunBy, IsSolutionOf, IsWriting};
+ghost use Rattle.relay_cli.specs.RelaySteps.{IsRunBy, IsSolutionOf, IsWriting};
 
 use crate::options::relay_options;
 use answer_writer::refusal_text;

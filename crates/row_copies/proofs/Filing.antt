@@ -7,7 +7,7 @@ use Rattle.std.proofs.lemmas.Bool.{cases_order}
 use Rattle.std.proofs.lemmas.List.{get_or_append_left, get_or_push, get_or-set_same, get_or-set_other, length-append, length-set}
 use Rattle.std.proofs.lemmas.List.Elements.{All-nil, All-push, All-weaker}
 use Rattle.fapp_model.specs.declared.literal.Literal.{Literal}
-use Rattle.search_log.proofs.Places.{front-or-last, get-front, last-is}
+use Rattle.search_log.proofs.ByPlace.{front-or-last, get-front, last-is}
 use Rattle.search_log.specs.declared.shared.Cite.{Cite}
 use Rattle.row_copies.specs.Filed.{AreFiled, IsBucketFor, literals_of}
 

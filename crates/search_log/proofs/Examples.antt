@@ -25,7 +25,7 @@ use Rattle.search_log.specs.Segments.{CitesLowerRows, EndsAsRow, IsGoodLog}
 use Rattle.fapp_model.specs.InstanceTags.{IsTagFor}
 use Rattle.fapp_model.specs.Levels.{levels_of}
 use Rattle.search_log.proofs.Implying.{lits-partial}
-use Rattle.search_log.proofs.Places.{zip-left}
+use Rattle.search_log.proofs.ByPlace.{zip-left}
 use Rattle.search_log.proofs.Segmenting.{Follows}
 
 -- ---- what is known of the rows and lines

@@ -30,7 +30,7 @@ use Rattle.search_log.specs.Contents.{Cites, Content, KnownRow, content_of, know
 use Rattle.search_log.specs.GoodLines.{AreGoodLines, IsBranch, IsChildOf, IsCount, IsGoodLine, PassesBy, is_ruled_out}
 use Rattle.search_log.specs.LogLaws.{IsContentImplied}
 use Rattle.search_log.proofs.CodeOrder.{codes-at_most}
-use Rattle.search_log.proofs.Places.{get-take, zip-left, zip-right}
+use Rattle.search_log.proofs.ByPlace.{get-take, zip-left, zip-right}
 
 -- ---- lists that have literals
 

@@ -1,7 +1,7 @@
-pub mod Places
+pub mod ByPlace
 pub mod CodeOrder
 pub mod Implying
-pub mod Growing
+pub mod MoreLines
 pub mod Segmenting
 pub mod Examples
 pub mod Ended

@@ -13,8 +13,8 @@ use Rattle.search_log.specs.Contents.{Cites, KnownRow, content_of, known_row}
 use Rattle.search_log.specs.GoodLines.{IsGoodLine}
 use Rattle.search_log.specs.LogLaws.{IsPublishedEnd}
 use Rattle.search_log.specs.Segments.{CitesLowerRows, EndsAsRow, IsGoodLog, ended}
-use Rattle.search_log.proofs.Growing.{lines-cut, lines-more, lines-push}
-use Rattle.search_log.proofs.Places.{get-append, get-front, get-take, take-get, zip-left}
+use Rattle.search_log.proofs.MoreLines.{lines-cut, lines-more, lines-push}
+use Rattle.search_log.proofs.ByPlace.{get-append, get-front, get-take, take-get, zip-left}
 
 abbrev pub Follows : Segment → Segment → Type 0
 Follows s t = (s.last < t.last) × (s.row < t.row)

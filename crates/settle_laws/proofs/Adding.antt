@@ -10,7 +10,7 @@ use Rattle.std.proofs.lemmas.Option.{slice_get_within}
 use Rattle.fapp_model.specs.declared.instance.Instance.{Instance}
 use Rattle.fapp_model.specs.InstanceTags.{IsTagFor}
 use Rattle.search_log.specs.Contents.{content_of}
-use Rattle.search_log.proofs.Places.{front-or-last, get-front, last-is}
+use Rattle.search_log.proofs.ByPlace.{front-or-last, get-front, last-is}
 use Rattle.search_log.specs.Shares.{IsServedContent}
 use Rattle.settle_laws.specs.Worlds.{AreServed, Gains, IsPlain}
 

@@ -12,7 +12,7 @@ pub mod Tried
 pub mod Fewer
 pub mod Ends
 pub mod Ahead
-pub mod Steps
+pub mod OneMoreChoice
 pub mod Opening
 pub mod Lining
 pub mod Passing

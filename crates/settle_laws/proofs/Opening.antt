@@ -13,7 +13,7 @@ use Rattle.settle_laws.specs.Trying.{Trying}
 use Rattle.settle_laws.specs.Worlds.{Keeps, World}
 use Rattle.settle_laws.proofs.Keeping.{keeps-trans}
 use Rattle.settle_laws.proofs.NextPaths.{next-prefix}
-use Rattle.settle_laws.proofs.Steps.{ends}
+use Rattle.settle_laws.proofs.OneMoreChoice.{ends}
 
 module _ (instance : Instance) (level : ℕ) where
   -- a node whose choice is pushed, and what is so inside of it

@@ -40,7 +40,7 @@ use Rattle.settle_laws.proofs.Adding.{has-same, has-trans}
 use Rattle.settle_laws.proofs.Ends.{TryingAny, any-branch-searched}
 use Rattle.settle_laws.proofs.NextPaths.{next-apart, next-small}
 use Rattle.settle_laws.proofs.Passing.{ticks-later}
-use Rattle.settle_laws.proofs.Steps.{ends-unnoted, goes-on, without-choice}
+use Rattle.settle_laws.proofs.OneMoreChoice.{ends-unnoted, goes-on, without-choice}
 use Rattle.settle_laws.proofs.TagCodes.{implied-lower}
 
 -- each choice has the reference

@@ -8,7 +8,7 @@ use Rattle.fapp_model.specs.Costs.{cost}
 use Rattle.fapp_model.specs.Tags.{code_of}
 use Rattle.fapp_model.proofs.Members.{All-from_members, at_front, behind, front_or_behind, no_member}
 use Rattle.search_log.specs.declared.line.LogLine.{LogLine}
-use Rattle.search_log.proofs.Places.{get-append}
+use Rattle.search_log.proofs.ByPlace.{get-append}
 use Rattle.search_log.specs.Bounds.{BoundState, floor, lowest}
 use Rattle.search_log.specs.Shares.{SharedState, known}
 use Rattle.settle_laws.specs.Stops.{AreStops, ComesAfter, ComesBefore, IsUndecided, IsWholePrefix, Precedes, Stop, prefixes_of}

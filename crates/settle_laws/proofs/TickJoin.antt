@@ -15,7 +15,7 @@ use Rattle.fapp_model.specs.search.Prefixes.{GoesOn, IsPrefix}
 use Rattle.tries_laws.specs.TriesLaws.{AreTried}
 use Rattle.fapp_model.proofs.Members.{All-from_members, at_front}
 use Rattle.search_log.specs.Contents.{KnownRow}
-use Rattle.search_log.proofs.Places.{get-front}
+use Rattle.search_log.proofs.ByPlace.{get-front}
 use Rattle.search_log.specs.Bounds.{BoundState}
 use Rattle.settle_laws.specs.Stops.{AreStops, ComesAfter, ComesBefore, IsUndecided, stop_at}
 use Rattle.settle_laws.specs.Ticks.{HaveCountLines, AreOffered, IsEarlier, OffersCost, StandBehind, Ticks, TicksBelow}

@@ -22,7 +22,7 @@ use Rattle.search_log.specs.declared.line.Ref.{Ref}
 use Rattle.search_log.specs.declared.line.Ref.TheVariants.{Own, Row}
 use Rattle.search_log.specs.Contents.{Cites, Content, KnownRow, known_row}
 use Rattle.search_log.specs.GoodLines.{IsSettled}
-use Rattle.search_log.proofs.Places.{get-append}
+use Rattle.search_log.proofs.ByPlace.{get-append}
 use Rattle.settle_laws.specs.Founds.{IsRefuted}
 use Rattle.settle_laws.specs.Noted.{by_choice}
 use Rattle.settle_laws.specs.Trying.{AreTriedChoices, IsTriedChild}

@@ -1,5 +1,5 @@
 pub mod Jobs
-pub mod Steps
+pub mod RingSteps
 pub mod Lists
 pub mod Seats
 pub mod Hands

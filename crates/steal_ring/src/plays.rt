@@ -6,7 +6,7 @@ use atomic_table::{Join, Play, Split};
 pub struct Take;
 
 impl Play<(), RingView> for Take {
-    ghost use Rattle.steal_ring.specs.Steps.{TakesJob};
+    ghost use Rattle.steal_ring.specs.RingSteps.{TakesJob};
 
     ghost then = { TakesJob };
 }
@@ -15,7 +15,7 @@ impl Play<(), RingView> for Take {
 pub struct Share;
 
 impl Play<(), RingView> for Share {
-    ghost use Rattle.steal_ring.specs.Steps.{HasPart};
+    ghost use Rattle.steal_ring.specs.RingSteps.{HasPart};
 
     ghost then = { HasPart };
 }

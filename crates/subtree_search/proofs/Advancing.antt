@@ -36,9 +36,9 @@ use Rattle.settle_laws.proofs.Opening.{Passing, open-end, open-kept, open-map, o
 use Rattle.settle_laws.specs.Passed.{Passes}
 use Rattle.settle_laws.proofs.Keeping.{keeps-same, keeps-trans}
 use Rattle.settle_laws.proofs.RowClosing.{row-closes, row-served}
-use Rattle.settle_laws.proofs.Steps.{ends, ends-unnoted, goes-on, jumps}
+use Rattle.settle_laws.proofs.OneMoreChoice.{ends, ends-unnoted, goes-on, jumps}
 use Rattle.subtree_search.specs.Walks.{work_left}
-use Rattle.subtree_search.specs.Steps.{ComesTo, IsAdvanced, IsBack, IsNoted, IsVisited}
+use Rattle.subtree_search.specs.SearchSteps.{ComesTo, IsAdvanced, IsBack, IsNoted, IsVisited}
 
 pub snoc-same : {X : Type 0} → (xs ys : List X) (x y : X) → xs ++ x ∷ [] ≡ ys ++ y ∷ [] → (xs ≡ ys) × (x ≡ y)
 snoc-same [] [] x y e = (refl, cc)

@@ -11,7 +11,7 @@ use Rattle.settle_laws.specs.Founds.{Searched}
 use Rattle.settle_laws.specs.OpenNodes.{IsTrying}
 use Rattle.settle_laws.specs.Worlds.{World}
 use Rattle.subtree_search.specs.declared.walk.Walk.{Walk}
-use Rattle.subtree_search.specs.Steps.{ComesTo, Opens}
+use Rattle.subtree_search.specs.SearchSteps.{ComesTo, Opens}
 use Rattle.subtree_search.specs.Walks.{BeginsAt, IsReady}
 
 pub err-any : {E F : Type 0} → (instance : Instance) (level : ℕ) (literals : List Literal) (old new : World) (e : E) → Searched instance level literals old new (Err e) → (f : F) → Searched instance level literals old new (Err f)

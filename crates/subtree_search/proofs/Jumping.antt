@@ -17,7 +17,7 @@ use Rattle.settle_laws.specs.declared.found.Found.TheVariants.{Settled}
 use Rattle.settle_laws.specs.declared.node.Node.{Node}
 use Rattle.settle_laws.specs.Worlds.{World}
 use Rattle.subtree_search.specs.declared.walk.Walk.{Walk}
-use Rattle.subtree_search.specs.Steps.{ComesTo}
+use Rattle.subtree_search.specs.SearchSteps.{ComesTo}
 use Rattle.subtree_search.specs.Walks.{IsReady, work_left}
 use Rattle.subtree_search.proofs.Advancing.{fewer-nodes, front-of, jumps-over, some-pushed}
 

@@ -21,7 +21,7 @@ use Rattle.fapp_tables.specs.Measures.{pair_code}
 use Rattle.dead_laws.proofs.DeadLower.{IsPairAtMost-trans}
 use Rattle.dead_laws.proofs.DeadMore.{free-fewer}
 use Rattle.dead_laws.proofs.DeadTests.{arcs-of}
-use Rattle.dead_laws.proofs.Growing.{added-grows, names-more, pair-grows}
+use Rattle.dead_laws.proofs.MoreLiterals.{added-grows, names-more, pair-grows}
 use Rattle.dead_laws.proofs.PairSums.{parts-at_most}
 use Rattle.dead_laws.proofs.Picks.{head-not-named}
 use Rattle.choice_counts.specs.CountedSums.{IsCountedSum, IsCalm, IsLeastAt, IsLeastSum}

@@ -18,7 +18,7 @@ use Rattle.settle_laws.specs.declared.node.Node.{Node}
 use Rattle.settle_laws.specs.Founds.{Searched}
 use Rattle.settle_laws.specs.Worlds.{World}
 use Rattle.settle_laws.proofs.NextPaths.{next-small}
-use Rattle.subtree_search.specs.Steps.{IsVisited}
+use Rattle.subtree_search.specs.SearchSteps.{IsVisited}
 
 pub visited-err : {E : Type 0} → (instance : Instance) (level : ℕ) (literals : List Literal) (nodes after : List Node) (old new : World) (result : Result (Option Found) E) → IsErr result →
     ((e : E) → Searched instance level literals old new (Err e)) → IsVisited instance level literals nodes after old new result

@@ -4,5 +4,5 @@ pub mod Looking
 pub mod Entries
 pub mod Plans
 pub mod Walks
-pub mod Steps
+pub mod SearchSteps
 pub mod Closings

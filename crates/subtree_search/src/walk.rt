@@ -11,7 +11,7 @@ ghost use Rattle.settle_laws.specs.Founds.{Searched};
 ghost use Rattle.settle_laws.specs.OpenNodes.{IsTrying};
 ghost use Rattle.settle_laws.specs.Worlds.{World, world};
 ghost use Rattle.subtree_search.specs.Walks.{BeginsAt, IsReady, work_left};
-ghost use Rattle.subtree_search.specs.Steps.{ComesTo, IsAdvanced, IsBack, IsNoted, IsVisited, Lightens, NotesLess};
+ghost use Rattle.subtree_search.specs.SearchSteps.{ComesTo, IsAdvanced, IsBack, IsNoted, IsVisited, Lightens, NotesLess};
 
 use crate::ahead::look_ahead;
 use crate::by_row::add_by_row;

@@ -1,6 +1,6 @@
 use Rattle.std.proofs.Common.{◌≡◌, ◌≤◌, ◌*◌, take}
 use Rattle.fapp_model.specs.search.Weights.{bad_before, bad_further}
-use Rattle.cert_check.specs.Places.{added_at}
+use Rattle.cert_check.specs.RecordsNamed.{added_at}
 use Rattle.cert_check.specs.Weights.{pair_most}
 use Rattle.cert_check.proofs.between.added.Given as goal
 

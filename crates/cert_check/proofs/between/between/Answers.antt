@@ -4,8 +4,8 @@ use Rattle.fapp_model.specs.declared.record.Record.{Record}
 use Rattle.fapp_model.specs.search.Clashes.{joins}
 use Rattle.fapp_model.specs.search.Partials.{choice_of}
 use Rattle.fapp_model.specs.search.Weights.{bad_before, bad_further}
-use Rattle.cert_check.specs.Places.{record_at}
-use Rattle.cert_check.proofs.Steps.{sum_more}
+use Rattle.cert_check.specs.RecordsNamed.{record_at}
+use Rattle.cert_check.proofs.OneMoreNumber.{sum_more}
 use Rattle.cert_check.proofs.between.between.Goals as goal
 
 pub loop-place-preserved : goal.loop-place-preserved

@@ -1,7 +1,7 @@
 use Rattle.std.proofs.Common.{◌≡◌, ◌≤◌, ◌*◌, take}
 use Rattle.fapp_model.specs.declared.level.TheConstants.{MAX_LEVELS}
 use Rattle.fapp_model.specs.search.Weights.{bad_before, bad_further}
-use Rattle.cert_check.specs.Places.{between_at}
+use Rattle.cert_check.specs.RecordsNamed.{between_at}
 use Rattle.cert_check.proofs.between.between.Given as goal
 
 -- the records so far

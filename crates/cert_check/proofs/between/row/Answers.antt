@@ -4,8 +4,8 @@ use Rattle.fapp_model.specs.declared.literal.Literal.{Literal}
 use Rattle.fapp_model.specs.declared.record.Record.{Record}
 use Rattle.fapp_model.specs.search.Partials.{literal}
 use Rattle.fapp_model.specs.search.Weights.{bad_before, bad_further}
-use Rattle.cert_check.specs.Places.{between_at}
-use Rattle.cert_check.proofs.Steps.{sum_more}
+use Rattle.cert_check.specs.RecordsNamed.{between_at}
+use Rattle.cert_check.proofs.OneMoreNumber.{sum_more}
 use Rattle.cert_check.proofs.between.row.Goals as goal
 
 pub loop-b-preserved : goal.loop-b-preserved

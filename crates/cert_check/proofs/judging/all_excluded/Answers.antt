@@ -1,7 +1,7 @@
 use Rattle.std.proofs.Common.{ℕ, ◌<◌, sym, ◌∙◌, arith}
 use Rattle.fapp_model.specs.search.Partials.{literal}
 use Rattle.cert_check.specs.Scenes.{excluded_by}
-use Rattle.cert_check.proofs.Steps.{all_range_step, fails_at_range}
+use Rattle.cert_check.proofs.OneMoreNumber.{all_range_step, fails_at_range}
 use Rattle.fapp_model.specs.Assignments.{count_at}
 use Rattle.cert_check.proofs.judging.all_excluded.Goals as goal
 

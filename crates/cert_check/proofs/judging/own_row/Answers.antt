@@ -1,6 +1,6 @@
 use Rattle.std.proofs.Common.{length, ap, sym, ◌∙◌, subst, arith}
 use Rattle.fapp_model.specs.search.Weights.{bad_before, bad_further}
-use Rattle.cert_check.specs.Places.{ArePlaces}
+use Rattle.cert_check.specs.RecordsNamed.{ArePlaces}
 use Rattle.cert_check.proofs.Ties.{clashes_with-at, row-at, ties-small, ties-few}
 use Rattle.cert_check.proofs.judging.own_row.Goals as goal
 

@@ -7,7 +7,7 @@ use Rattle.fapp_model.specs.declared.choice.Choice.{Choice}
 use Rattle.fapp_model.specs.declared.literal.Literal.{Literal}
 use Rattle.fapp_model.specs.declared.record.Record.{Record}
 use Rattle.cert_check.specs.Weighed.{IsWeighedRow}
-use Rattle.cert_check.proofs.Steps.{none_more, sum_more}
+use Rattle.cert_check.proofs.OneMoreNumber.{none_more, sum_more}
 use Rattle.cert_check.proofs.judging.own_weight.Goals as goal
 
 pub returns-in-None : goal.returns-in-None

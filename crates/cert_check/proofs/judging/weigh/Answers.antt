@@ -4,7 +4,7 @@ use Rattle.fapp_model.proofs.Anys.{any-member}
 use Rattle.fapp_model.proofs.Members.{in-range}
 use Rattle.std.specs.List.{range_with_len}
 use Rattle.cert_check.specs.Weighed.{IsStep, near_at, stuck_by, least_by}
-use Rattle.cert_check.proofs.Steps.{none_range, sum_range_step}
+use Rattle.cert_check.proofs.OneMoreNumber.{none_range, sum_range_step}
 use Rattle.cert_check.proofs.judging.weigh.Goals as goal
 
 pub returns-in-None : goal.returns-in-None

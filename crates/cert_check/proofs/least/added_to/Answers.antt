@@ -1,7 +1,7 @@
 use Rattle.std.proofs.Common.{ℕ, length, ap, sym, ◌∙◌, subst, arith}
 use Rattle.fapp_model.specs.search.Pairs.{Pair}
 use Rattle.fapp_model.specs.search.Weights.{bad_before, bad_further}
-use Rattle.cert_check.specs.Places.{ArePlaces}
+use Rattle.cert_check.specs.RecordsNamed.{ArePlaces}
 use Rattle.cert_check.proofs.Ties.{added-at, ties-small, ties-few}
 use Rattle.cert_check.proofs.least.added_to.Goals as goal
 

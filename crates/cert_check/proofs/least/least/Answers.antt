@@ -7,7 +7,7 @@ use Rattle.fapp_model.specs.search.Pairs.{Pair}
 use Rattle.fapp_model.specs.declared.instance.Path.{Path}
 use Rattle.cert_lines.specs.acceptance.Judged.{with_choice, least_pair}
 use Rattle.cert_check.specs.Scenes.{excluded_by}
-use Rattle.cert_check.proofs.Steps.{fold_range}
+use Rattle.cert_check.proofs.OneMoreNumber.{fold_range}
 use Rattle.cert_check.proofs.least.least.Goals as goal
 
 pub loop-index-preserved : goal.loop-index-preserved

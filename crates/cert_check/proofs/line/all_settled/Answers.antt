@@ -1,7 +1,7 @@
 use Rattle.std.proofs.Common.{◌<◌, take, sym, ◌∙◌, arith}
 use Rattle.fapp_model.specs.Assignments.{count_at}
 use Rattle.cert_lines.specs.acceptance.LineFaults.{is_settled}
-use Rattle.cert_check.proofs.Steps.{all_range_step, fails_at_range}
+use Rattle.cert_check.proofs.OneMoreNumber.{all_range_step, fails_at_range}
 use Rattle.cert_check.proofs.line.all_settled.Goals as goal
 
 pub returns-then-not-branch : goal.returns-then-not-branch

@@ -3,7 +3,7 @@ use Rattle.std.proofs.lemmas.List.{take_all}
 use Rattle.std.proofs.lemmas.List.Elements.{All-more}
 use Rattle.fapp_model.specs.declared.literal.Literal.{Literal}
 use Rattle.fapp_model.specs.search.Partials.{literal}
-use Rattle.cert_check.specs.Places.{ArePlaces, record_at, touches}
+use Rattle.cert_check.specs.RecordsNamed.{ArePlaces, record_at, touches}
 use Rattle.cert_check.proofs.NearPaths.{IsClear, no-ties}
 use Rattle.cert_check.proofs.Ties.{places-small}
 use Rattle.cert_check.proofs.near.mark_near.Goals as goal

@@ -4,7 +4,7 @@ use Rattle.fapp_model.specs.Assignments.{path_at, no_path}
 use Rattle.fapp_model.specs.declared.instance.Instance.{Instance}
 use Rattle.fapp_model.specs.declared.instance.Path.{Path}
 use Rattle.cert_lines.specs.acceptance.PlanFaults.{is_offered, shown_at}
-use Rattle.cert_check.proofs.Steps.{all_range_step, fails_at_range}
+use Rattle.cert_check.proofs.OneMoreNumber.{all_range_step, fails_at_range}
 use Rattle.cert_check.proofs.plan.all_offered.Goals as goal
 
 own_path : (instance : Instance) (slice : List Path) (position : ℕ) (path : Path) → slice ≡ instance.paths → path ≡ slice_index_or slice position path → position < length slice → path ≡ path_at instance position

@@ -4,7 +4,7 @@ use Rattle.fapp_model.specs.Choices.{choice, choices, no_choice}
 use Rattle.fapp_model.specs.declared.choice.Choice.{Choice}
 use Rattle.cert_lines.specs.acceptance.PlanFaults.{is_same_choice}
 use Rattle.cert_check.proofs.Filters.{any-places}
-use Rattle.cert_check.proofs.Steps.{none_range}
+use Rattle.cert_check.proofs.OneMoreNumber.{none_range}
 use Rattle.cert_check.proofs.plan.is_offered.Goals as goal
 
 pub loop-index-preserved : goal.loop-index-preserved

@@ -3,7 +3,7 @@ use Rattle.std.specs.List.{list_any, range_with_len}
 use Rattle.fapp_model.specs.Assignments.{count_at}
 use Rattle.cert_check.specs.Scenes.{excluded_by}
 use Rattle.cert_check.proofs.Spent.{kept, some-left, none-left}
-use Rattle.cert_check.proofs.Steps.{none_range}
+use Rattle.cert_check.proofs.OneMoreNumber.{none_range}
 use Rattle.cert_check.proofs.stuck.is_spent.Goals as goal
 
 pub returns-then-remains : goal.returns-then-remains

@@ -1,6 +1,6 @@
 use Rattle.std.proofs.Common.{ℕ, ◌<◌, ◌&&◌, length, sym, ◌∙◌, arith}
 use Rattle.cert_check.specs.Weighed.{near_at, stuck_by}
-use Rattle.cert_check.proofs.Steps.{any_at_range, none_range}
+use Rattle.cert_check.proofs.OneMoreNumber.{any_at_range, none_range}
 use Rattle.cert_check.proofs.stuck.near_stuck.Goals as goal
 
 pub returns-then-branch : goal.returns-then-branch

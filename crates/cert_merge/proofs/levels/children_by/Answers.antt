@@ -1,5 +1,5 @@
 use Rattle.std.proofs.Common.{◌+◌, []}
-use Rattle.cert_merge.proofs.Growing.{mapped-more}
+use Rattle.cert_merge.proofs.GrowingLists.{mapped-more}
 use Rattle.cert_merge.proofs.levels.children_by.Goals as goal
 
 pub loop-index-preserved : goal.loop-index-preserved

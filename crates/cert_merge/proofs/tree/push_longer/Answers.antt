@@ -1,6 +1,6 @@
 use Rattle.std.proofs.Common.{[], ◌∷◌, ◌++◌, ap, ◌∙◌}
 use Rattle.fapp_model.specs.search.Partials.{literal}
-use Rattle.cert_merge.proofs.Growing.{mapped-more}
+use Rattle.cert_merge.proofs.GrowingLists.{mapped-more}
 use Rattle.cert_merge.proofs.tree.push_longer.Goals as goal
 
 pub loop-index-preserved : goal.loop-index-preserved

@@ -1,5 +1,5 @@
 use Rattle.std.proofs.Common.{[], ◌∷◌, All, sym, ap, ◌∙◌, subst}
-use Rattle.fapp_plan.specs.Steps.{prefix_paths}
+use Rattle.fapp_plan.specs.NamedPaths.{prefix_paths}
 use Rattle.merge_laws.specs.Levels.{emit_tree}
 use Rattle.merge_laws.specs.Refuted.{prefix_number}
 use Rattle.merge_laws.specs.Stages.{Merged}

@@ -3,7 +3,7 @@ use Rattle.crossbeam_queue.specs.Passes.{view}
 use Rattle.cert_relay.specs.declared.rule.Hand.{Hand}
 use Rattle.cert_relay.specs.Jobs.{job_of}
 use Rattle.cert_relay.specs.Queue.{left_at, right_at}
-use Rattle.cert_relay.proofs.Steps.{cuts}
+use Rattle.cert_relay.proofs.QueueSteps.{cuts}
 use Rattle.cert_relay.proofs.writer.run.Goals as goal
 
 pub another-requires-clause-rule : goal.another-requires-clause-rule

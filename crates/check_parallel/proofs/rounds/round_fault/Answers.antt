@@ -3,7 +3,7 @@ use Rattle.cert_lines.specs.acceptance.LineFaults.{fault_at}
 use Rattle.check_parallel.specs.Slices.{edge, slice_fault}
 use Rattle.check_parallel.proofs.Between.{first_in, none-more, some-more, empty}
 use Rattle.check_parallel.proofs.Edges.{edge-first, edge-rises}
-use Rattle.check_parallel.proofs.Places.{fault_is, judged_length}
+use Rattle.check_parallel.proofs.SliceFaults.{fault_is, judged_length}
 use Rattle.check_parallel.proofs.rounds.round_fault.Goals as goal
 
 pub loop-k-init : goal.loop-k-init

@@ -1,5 +1,5 @@
 use Rattle.std.proofs.Common.{◌/◌, refl, ap, ◌∙◌}
-use Rattle.fapp_plan.specs.Steps.{steps_along}
+use Rattle.fapp_plan.specs.NamedPaths.{steps_along}
 use Rattle.fapp_plan.proofs.Depths.{steps-more, ways-behind}
 use Rattle.fapp_plan.proofs.steps.steps_along.Goals as goal
 

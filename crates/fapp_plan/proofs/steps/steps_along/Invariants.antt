@@ -1,6 +1,6 @@
 use Rattle.std.proofs.Common.{◌≡◌, ◌++◌, drop}
 use Rattle.fapp_model.specs.search.Jobs.{ways}
-use Rattle.fapp_plan.specs.Steps.{steps_along}
+use Rattle.fapp_plan.specs.NamedPaths.{steps_along}
 use Rattle.fapp_plan.proofs.steps.steps_along.Given as goal
 
 abbrev pub invariant-loop-path : goal.invariant-loop-path

@@ -4,7 +4,7 @@ use Rattle.record_reader.specs.Texts.{instance_of_text}
 use Rattle.fapp_text.specs.Reading.{Fails}
 use Rattle.fapp_gen.specs.Generated.{network_text}
 use Rattle.gen_laws.proofs.Networks.{made_instances, made_short}
-use Rattle.fapp_run.specs.declared.outcome.Outcome.{Outcome}
+use Rattle.fapp_run.specs.declared.outcome.Reply.{Reply}
 use Rattle.fapp_run.specs.Made.{Demonstrates, IsDemonstrated}
 use Rattle.fapp_run.proofs.made.demonstrated.Goals as goal
 
@@ -29,5 +29,5 @@ returns-in-Ok g c =
     let made = network_text c.args.seed.number c.args.seed.paths in
     let instance = c.in-Ok.instance in
     let read = subst (λ bytes. instance_of_text bytes ≡ Ok instance) c.in_ok-bytes.ensures (subst (λ bytes. instance_of_text bytes ≡ Ok instance) c.deref.ensures.value c.in-Ok.ensures.reads) in
-    IfOk-weaker c.shown_verdict.result (λ (o : Outcome). IsDemonstrated instance o.status o.text.items) (λ (o : Outcome). Demonstrates made o.status o.text.items)
+    IfOk-weaker c.shown_verdict.result (λ (o : Reply). IsDemonstrated instance o.status o.text.items) (λ (o : Reply). Demonstrates made o.status o.text.items)
     (λ o h. record { instance = instance; read = read; shown = h }) c.shown_verdict.ensures

@@ -2,7 +2,7 @@ use Rattle.std.proofs.Common.{◌≡◌, ◌<◌, length, map, ap, ◌∙◌, ar
 use Rattle.std.specs.List.{range_with_len}
 use Rattle.std.proofs.lemmas.List.FromFn.{length-map-range_with_len}
 use Rattle.fapp_model.specs.search.WorkOrder.{degree}
-use Rattle.fapp_tables.specs.Places.{place_of}
+use Rattle.fapp_tables.specs.PathDegrees.{place_of}
 use Rattle.fapp_tables.proofs.PlaceLaws.{places_more}
 use Rattle.fapp_tables.proofs.order.places_of.Goals as goal
 

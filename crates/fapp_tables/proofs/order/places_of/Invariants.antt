@@ -1,6 +1,6 @@
 use Rattle.std.proofs.Common.{◌≡◌, map}
 use Rattle.std.specs.List.{range_with_len}
-use Rattle.fapp_tables.specs.Places.{place_of}
+use Rattle.fapp_tables.specs.PathDegrees.{place_of}
 use Rattle.fapp_tables.proofs.order.places_of.Given as goal
 
 abbrev pub invariant-loop-path : goal.invariant-loop-path

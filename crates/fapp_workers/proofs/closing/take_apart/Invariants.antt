@@ -1,6 +1,6 @@
 use Rattle.std.proofs.Common.{◌≡◌, map}
 use Rattle.fapp_workers.specs.Closings.{kept_by, kept_of}
-use Rattle.fapp_workers.specs.Places.{hands_of, pool_seats_of, seats_of}
+use Rattle.fapp_workers.specs.WorkerPlaces.{hands_of, pool_seats_of, seats_of}
 use Rattle.fapp_workers.proofs.closing.take_apart.Given as goal
 
 -- the places so far are taken apart

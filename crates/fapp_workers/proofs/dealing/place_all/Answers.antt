@@ -15,7 +15,7 @@ use Rattle.search_log.specs.Logs.{empty_log}
 use Rattle.search_log.specs.LogStates.{LogState}
 use Rattle.fapp_workers.specs.declared.place.Place.{Place}
 use Rattle.fapp_workers.specs.Begun.{IsFresh}
-use Rattle.fapp_workers.specs.Places.{IsSeated, IsUnpublished, hands_of, pool_seats_of, seats_of}
+use Rattle.fapp_workers.specs.WorkerPlaces.{IsSeated, IsUnpublished, hands_of, pool_seats_of, seats_of}
 use Rattle.fapp_workers.proofs.dealing.place_all.Goals as goal
 
 -- an empty log keeps what a new seat offered, which is nothing

@@ -4,7 +4,7 @@ use Rattle.best_word.specs.Seats.{view_of, shares_of, IsNewSeat, IsSeatOf}
 use Rattle.nogood_pool.specs.Dealt.{shares_of as pool_shares}
 use Rattle.nogood_pool.specs.Seats.{IsSeatOf as IsPoolSeatOf}
 use Rattle.fapp_workers.specs.Begun.{IsFresh}
-use Rattle.fapp_workers.specs.Places.{IsSeated, IsUnpublished, hands_of, pool_seats_of, seats_of}
+use Rattle.fapp_workers.specs.WorkerPlaces.{IsSeated, IsUnpublished, hands_of, pool_seats_of, seats_of}
 use Rattle.fapp_workers.proofs.dealing.place_all.Given as goal
 
 -- the places so far, and the seats that are left

@@ -4,7 +4,7 @@ use Rattle.nogood_pool.specs.Seats.{view_of as pool_view}
 use Rattle.steal_ring.specs.Hands.{IsDealt}
 use Rattle.search_log.specs.NumberedRows.{numbered_rows}
 use Rattle.fapp_workers.specs.Closings.{IsClosedRun}
-use Rattle.fapp_workers.specs.Places.{hands_of}
+use Rattle.fapp_workers.specs.WorkerPlaces.{hands_of}
 use Rattle.fapp_workers.specs.Solved.{works_logs}
 use Rattle.fapp_workers.proofs.Ending.{count-same}
 use Rattle.fapp_workers.proofs.Beginning.{if-some}

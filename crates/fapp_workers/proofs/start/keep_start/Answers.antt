@@ -2,7 +2,7 @@ use Rattle.std.proofs.Common.{set, sym, subst}
 use Rattle.std.specs.Option.{IfSome}
 use Rattle.fapp_model.specs.Instances.{IsInstance}
 use Rattle.fapp_workers.specs.Begun.{OffersFirst}
-use Rattle.fapp_workers.specs.Places.{IsSeated}
+use Rattle.fapp_workers.specs.WorkerPlaces.{IsSeated}
 use Rattle.fapp_workers.proofs.Beginning.{all-first, offers-first, seated-begun}
 use Rattle.fapp_workers.proofs.start.keep_start.Goals as goal
 

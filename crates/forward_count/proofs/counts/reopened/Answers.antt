@@ -6,7 +6,7 @@ use Rattle.choice_counts.specs.declared.rows.TheConstants.{HARD}
 use Rattle.choice_counts.specs.Totals.{AreOpenPaths}
 use Rattle.choice_counts.specs.Tallies.{least_part, stuck_part}
 use Rattle.choice_counts.proofs.OpenSums.{least_most, open_freed, open_most, open_part, open_taken, stuck_most}
-use Rattle.forward_count.specs.Steps.{slots_after}
+use Rattle.forward_count.specs.SlotSteps.{slots_after}
 use Rattle.forward_count.proofs.counts.reopened.Goals as goal
 
 pub with-requires-clause-stuck : goal.with-requires-clause-stuck

@@ -10,7 +10,7 @@ use Rattle.choice_counts.specs.Moves.{CanMoveAll, moved, rows_with}
 use Rattle.choice_counts.specs.Totals.{AreRows}
 use Rattle.choice_counts.proofs.DeadByBound.{level_few}
 use Rattle.choice_counts.proofs.KeptLaws.{own_tally}
-use Rattle.forward_count.specs.Steps.{CanCount, slots_after}
+use Rattle.forward_count.specs.SlotSteps.{CanCount, slots_after}
 use Rattle.forward_count.proofs.StepLaws.{IsCounted, forward_rows, pushes, pushes_can, pushes_fit, pushes_slot, same_step}
 use Rattle.forward_count.proofs.TakeLaws.{forward_take, fresh_at}
 use Rattle.forward_count.proofs.recount.count_all.Goals as goal

@@ -2,7 +2,7 @@ use Rattle.std.proofs.Common.{inr, subst}
 use Rattle.cert_lines.specs.Spelling.{answer_text}
 use Rattle.answer_writer.specs.Refusals.{refusal_line}
 use Rattle.fapp_run.specs.Answers.{status_of}
-use Rattle.relay_cli.specs.Steps.{IsSolutionOf}
+use Rattle.relay_cli.specs.RelaySteps.{IsSolutionOf}
 use Rattle.relay_cli.proofs.RelayRuns.{answered_outcome, refused_outcome}
 use Rattle.relay_cli.proofs.run.solve_and_relay.Goals as goal
 

@@ -6,7 +6,7 @@ use Rattle.settle_laws.specs.Founds.{Searched}
 use Rattle.settle_laws.specs.Lines.{IsLined}
 use Rattle.settle_laws.specs.Worlds.{world}
 use Rattle.settle_laws.proofs.Lining.{dead-lined, lined-by, not-dead}
-use Rattle.subtree_search.specs.Steps.{IsBack}
+use Rattle.subtree_search.specs.SearchSteps.{IsBack}
 use Rattle.subtree_search.proofs.job.search_prefix.Goals as goal
 
 pub returns-in-Dead-clause-lined : goal.returns-in-Dead-clause-lined

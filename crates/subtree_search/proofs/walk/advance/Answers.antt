@@ -8,7 +8,7 @@ use Rattle.settle_laws.specs.Explained.{AreCitesCopied}
 use Rattle.settle_laws.specs.Worlds.{world}
 use Rattle.settle_laws.proofs.Fewer.{copied-contents}
 use Rattle.subtree_search.specs.declared.seen.SeenRows.{SeenRows}
-use Rattle.subtree_search.specs.Steps.{ComesTo, IsAdvanced, Lightens}
+use Rattle.subtree_search.specs.SearchSteps.{ComesTo, IsAdvanced, Lightens}
 use Rattle.subtree_search.specs.Walks.{work_left}
 use Rattle.subtree_search.proofs.Advancing.{advanced-err, comes-as, comes-ending}
 use Rattle.subtree_search.proofs.Exploring.{err-any}

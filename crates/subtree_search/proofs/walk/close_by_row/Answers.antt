@@ -8,7 +8,7 @@ use Rattle.search_log.specs.LogStates.{LogState}
 use Rattle.settle_laws.specs.declared.found.Found.TheVariants.{Settled}
 use Rattle.settle_laws.specs.RowLines.{IsLinedByRow}
 use Rattle.settle_laws.specs.Worlds.{world}
-use Rattle.subtree_search.specs.Steps.{ComesTo}
+use Rattle.subtree_search.specs.SearchSteps.{ComesTo}
 use Rattle.subtree_search.proofs.Advancing.{closes-by-row, comes-still, count-few, passed-free, some-pushed}
 use Rattle.subtree_search.proofs.walk.close_by_row.Goals as goal
 

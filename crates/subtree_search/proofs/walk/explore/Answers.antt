@@ -9,7 +9,7 @@ use Rattle.subtree_search.specs.declared.seen.SeenRows.{SeenRows}
 use Rattle.choice_counts.specs.ForwardStates.{ForwardState, with_literals}
 use Rattle.settle_laws.specs.OpenNodes.{IsTrying}
 use Rattle.settle_laws.specs.Worlds.{world}
-use Rattle.subtree_search.specs.Steps.{IsAdvanced, IsNoted, IsVisited, Lightens, NotesLess}
+use Rattle.subtree_search.specs.SearchSteps.{IsAdvanced, IsNoted, IsVisited, Lightens, NotesLess}
 use Rattle.subtree_search.specs.Walks.{work_left}
 use Rattle.subtree_search.proofs.Exploring.{comes-back, comes-here, err-any, fronted-on, opened-trying, prefix-here, ready-here, same-instance, searched-back, searched-err, trying-back, trying-here}
 use Rattle.subtree_search.proofs.Serving.{serves-trans}

@@ -8,7 +8,7 @@ use Rattle.std.specs.declared.alloc.AllocError.{AllocError}
 use Rattle.tries_laws.proofs.PrefixParts.{prefix-is_partial}
 use Rattle.settle_laws.proofs.TagCodes.{tag-small}
 use Rattle.settle_laws.proofs.NextPaths.{next-apart, next-prefix, next-small}
-use Rattle.subtree_search.specs.Steps.{ComesTo, IsAdvanced, IsVisited}
+use Rattle.subtree_search.specs.SearchSteps.{ComesTo, IsAdvanced, IsVisited}
 use Rattle.subtree_search.proofs.Advancing.{advanced-err, closes-ending, closes-to, innermost, passed-by, trying-at, visits}
 use Rattle.subtree_search.proofs.walk.try_next.Goals as goal
 

@@ -10,7 +10,7 @@ use Rattle.settle_laws.proofs.Fewer.{copied-noted}
 use Rattle.settle_laws.proofs.Keeping.{keeps-same}
 use Rattle.settle_laws.proofs.NextPaths.{next-short}
 use Rattle.subtree_search.specs.Looking.{LooksAhead}
-use Rattle.subtree_search.specs.Steps.{IsVisited, Opens}
+use Rattle.subtree_search.specs.SearchSteps.{IsVisited, Opens}
 use Rattle.subtree_search.proofs.Looking.{ahead-found}
 use Rattle.subtree_search.proofs.Visited.{full-length, next-at, path-count, path-valid, path-within, visited-err, written-length}
 use Rattle.subtree_search.proofs.walk.visit.Goals as goal

@@ -1,5 +1,5 @@
 use Rattle.std.proofs.Common.{◌<◌, length, ◌∙◌, arith}
-use Rattle.cert_merge.proofs.Growing.{way-end, way-more, way-short, way-start}
+use Rattle.cert_merge.proofs.GrowingLists.{way-end, way-more, way-short, way-start}
 use Rattle.cert_merge.proofs.Numbers.{room-one, room-same}
 use Rattle.cert_merge.proofs.merged.Certificate.write_lines.Goals as goal
 

@@ -1,6 +1,6 @@
 use Rattle.std.proofs.Common.{◌<◌, length}
 use Rattle.cert_merge.specs.Growth.{IsSameRoom}
-use Rattle.cert_merge.proofs.Growing.{IsOnTheWay}
+use Rattle.cert_merge.proofs.GrowingLists.{IsOnTheWay}
 use Rattle.cert_merge.proofs.merged.Certificate.write_lines.Given as goal
 
 abbrev pub invariant-loop : goal.invariant-loop

@@ -10,7 +10,7 @@ use Rattle.cert_relay.specs.declared.rule.Job.{Job}
 use Rattle.cert_relay.specs.Jobs.{job_of}
 use Rattle.cert_relay.specs.Queue.{AreTaken, writer_hand}
 use Rattle.cert_relay.specs.Writing.{IsDesk, IsWrittenTo}
-use Rattle.cert_relay.proofs.Steps.{takes}
+use Rattle.cert_relay.proofs.QueueSteps.{takes}
 use Rattle.cert_relay.proofs.Taken.{all_written, all_taken, last_below, told_of}
 use Rattle.cert_relay.proofs.Wrote.{wrote_more, relayed}
 use Rattle.cert_relay.proofs.writer.Writer.write_pieces.Goals as goal

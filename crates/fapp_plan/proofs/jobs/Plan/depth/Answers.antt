@@ -1,7 +1,7 @@
 use Rattle.std.proofs.Common.{◌≡◌, length, ap, arith, ◌∙◌}
 use Rattle.fapp_model.specs.search.Jobs.{depth}
 use Rattle.fapp_plan.specs.Plans.{Split}
-use Rattle.fapp_plan.specs.Steps.{prefix_paths}
+use Rattle.fapp_plan.specs.NamedPaths.{prefix_paths}
 use Rattle.fapp_plan.proofs.Depths.{depth-few, prefix_paths-length, steps_along-length}
 use Rattle.fapp_plan.proofs.jobs.Plan.depth.Goals as goal
 

@@ -1,6 +1,6 @@
 use Rattle.std.proofs.Common.{◌≡◌, take, ap, sym, ◌∙◌}
 use Rattle.fapp_model.specs.search.WorkOrder.{work_order}
-use Rattle.fapp_plan.specs.Steps.{steps_along}
+use Rattle.fapp_plan.specs.NamedPaths.{steps_along}
 use Rattle.fapp_plan.proofs.Depths.{prefix_paths-in, prefix_paths-length, prefixes-count}
 use Rattle.fapp_plan.proofs.jobs.Plan.new.Goals as goal
 

@@ -5,9 +5,9 @@ use Rattle.fapp_model.specs.Instances.{IsInstance}
 use Rattle.fapp_model.specs.search.Jobs.{prefixes, ways}
 use Rattle.fapp_plan.specs.declared.steps.Step.{Step}
 use Rattle.fapp_plan.specs.Plans.{Split, split_of}
-use Rattle.fapp_plan.specs.Steps.{prefix_paths, steps_along}
+use Rattle.fapp_plan.specs.NamedPaths.{prefix_paths, steps_along}
 use Rattle.fapp_plan.proofs.Depths.{prefix_paths-in, prefixes-count, steps_along-length}
-use Rattle.fapp_plan.proofs.Places.{IsReached, reached-all, reached-next, small-choice, some-ways, steps-at}
+use Rattle.fapp_plan.proofs.ChoicesAtPlace.{IsReached, reached-all, reached-next, small-choice, some-ways, steps-at}
 use Rattle.fapp_plan.proofs.jobs.Plan.prefix.Goals as goal
 
 abbrev no_step : Step

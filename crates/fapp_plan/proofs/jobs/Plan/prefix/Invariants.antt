@@ -2,8 +2,8 @@ use Rattle.std.proofs.Common.{◌≡◌, ℕ, ◌<◌, List, length, All}
 use Rattle.fapp_model.specs.declared.instance.Instance.{Instance}
 use Rattle.fapp_model.specs.Instances.{IsInstance}
 use Rattle.fapp_model.specs.search.Jobs.{ways}
-use Rattle.fapp_plan.specs.Steps.{steps_along}
-use Rattle.fapp_plan.proofs.Places.{IsReached}
+use Rattle.fapp_plan.specs.NamedPaths.{steps_along}
+use Rattle.fapp_plan.proofs.ChoicesAtPlace.{IsReached}
 use Rattle.fapp_plan.proofs.jobs.Plan.prefix.Given as goal
 
 abbrev pub invariant-loop-step : goal.invariant-loop-step

@@ -1,8 +1,8 @@
 use Rattle.std.proofs.Common.{◌≡◌, ◌≤◌, List, All, sym, ◌∙◌, subst}
 use Rattle.fapp_plan.specs.declared.steps.Step.{Step}
-use Rattle.fapp_plan.specs.Steps.{prefix_paths, steps_along}
+use Rattle.fapp_plan.specs.NamedPaths.{prefix_paths, steps_along}
 use Rattle.fapp_plan.proofs.Depths.{prefix_paths-in}
-use Rattle.fapp_plan.proofs.Places.{steps-few}
+use Rattle.fapp_plan.proofs.ChoicesAtPlace.{steps-few}
 use Rattle.fapp_plan.proofs.jobs.Plan.steps.Goals as goal
 
 pub returns-clause-few : goal.returns-clause-few

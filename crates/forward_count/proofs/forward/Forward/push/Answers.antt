@@ -16,7 +16,7 @@ use Rattle.choice_counts.proofs.Bounds.{distinct_push, few_literals}
 use Rattle.choice_counts.proofs.DeadByBound.{level_few}
 use Rattle.choice_counts.proofs.KeptLaws.{own_tally}
 use Rattle.forward_count.specs.Forwards.{IsForward}
-use Rattle.forward_count.specs.Steps.{CanCount, slots_after}
+use Rattle.forward_count.specs.SlotSteps.{CanCount, slots_after}
 use Rattle.forward_count.proofs.StepLaws.{IsCounted, forward_rows, home_of, pushes, pushes_can, pushes_fit, pushes_slot, same_step, unset_of}
 use Rattle.forward_count.proofs.forward.Forward.push.Goals as goal
 

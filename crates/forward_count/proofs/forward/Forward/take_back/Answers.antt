@@ -11,7 +11,7 @@ use Rattle.choice_counts.specs.Totals.{AreRows}
 use Rattle.choice_counts.proofs.DeadByBound.{level_few}
 use Rattle.choice_counts.proofs.KeptLaws.{own_tally}
 use Rattle.forward_count.specs.Forwards.{IsForward}
-use Rattle.forward_count.specs.Steps.{CanCount, slots_after}
+use Rattle.forward_count.specs.SlotSteps.{CanCount, slots_after}
 use Rattle.forward_count.proofs.StepLaws.{IsCounted, drops, drops_can, drops_fit, drops_slot, forward_rows, placed, same_step}
 use Rattle.forward_count.proofs.forward.Forward.take_back.Goals as goal
 

@@ -5,7 +5,7 @@ use Rattle.pool_rows.specs.Copying.{AreSeatCopies, AreRowsAskedFor, IsRead, Look
 use Rattle.pool_rows.proofs.Offering.{implied, looks, none-later}
 use Rattle.pool_rows.proofs.Reading.{read-all}
 use Rattle.pool_rows.proofs.Since.{rows-on, view-looked}
-use Rattle.pool_rows.proofs.Steps.{copied-counted}
+use Rattle.pool_rows.proofs.AskedRows.{copied-counted}
 use Rattle.pool_rows.proofs.calls.PoolRowsShared.lookup.Goals as goal
 
 pub ask_missing-requires-clause-copied : goal.ask_missing-requires-clause-copied

@@ -6,7 +6,7 @@ use Rattle.steal_ring.specs.declared.hand.Hand.{Hand}
 use Rattle.steal_ring.specs.Jobs.{times, once}
 use Rattle.steal_ring.specs.Seats.{view_of}
 use Rattle.steal_ring.specs.Hands.{won_of, found_of, IsHandOf, IsHandDone, IsDealt}
-use Rattle.steal_ring.proofs.Steps.{stands}
+use Rattle.steal_ring.proofs.RingRule.{stands}
 use Rattle.steal_ring.proofs.seat.Ring.close.Goals as goal
 
 popped : (f : Hand → ℕ) (hands rest : List Hand) (h : Hand) → hands ≡ rest ++ h ∷ [] → sum_by f hands ≡ sum_by f rest + f h

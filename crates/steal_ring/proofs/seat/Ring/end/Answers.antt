@@ -1,4 +1,4 @@
-use Rattle.steal_ring.proofs.Steps.{closes}
+use Rattle.steal_ring.proofs.RingRule.{closes}
 use Rattle.steal_ring.proofs.seat.Ring.end.Goals as goal
 
 pub returns : goal.returns

@@ -1,5 +1,5 @@
 use Rattle.std.proofs.Common.{rules, arith, ap}
-use Rattle.steal_ring.proofs.Steps.{joins, has_part}
+use Rattle.steal_ring.proofs.RingRule.{joins, has_part}
 use Rattle.steal_ring.proofs.seat.Ring.join.Goals as goal
 
 pub join_seat-requires : goal.join_seat-requires

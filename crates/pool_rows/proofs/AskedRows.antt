@@ -13,9 +13,9 @@ use Rattle.nogood_pool.specs.declared.view.HeldRow.{HeldRow}
 use Rattle.nogood_pool.specs.declared.view.PoolView.{PoolView}
 use Rattle.nogood_pool.specs.declared.view.TrailEntry.TheVariants.{Read}
 use Rattle.nogood_pool.specs.Pool.{IsPoolRow, content_of_row, held_row, once}
-use Rattle.nogood_pool.specs.Steps.{IsOnlyContent, after_count, after_read}
+use Rattle.nogood_pool.specs.PoolSteps.{IsOnlyContent, after_count, after_read}
 use Rattle.row_copies.specs.Filed.{known_cite, known_cites}
-use Rattle.nogood_pool.specs.Steps.{AreRowsApart}
+use Rattle.nogood_pool.specs.PoolSteps.{AreRowsApart}
 use Rattle.pool_rows.specs.Copying.{AreSeatCopies, AreRowsAskedFor, Looked, NonePublished, TakesRow, all_known, cite_of, held_known, in_missing, is_refusal}
 use Rattle.pool_rows.proofs.Asking.{below-next, below-past, below-zero, apart-one, from-drop, from-map, one-more}
 

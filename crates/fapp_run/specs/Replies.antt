@@ -29,9 +29,9 @@ abbrev pub Asks : List (String Global) → Option Request → Type 0
 Asks words asked = ReadsWords (map string_bytes words) asked
 
 -- the most bytes of a command's input
-abbrev pub limit_of : Command → ℕ
-limit_of (Solve options) = MAX_INPUT
-limit_of (Check options) = MAX_CHECK_INPUT
+abbrev pub input_limit : Command → ℕ
+input_limit (Solve options) = MAX_INPUT
+input_limit (Check options) = MAX_CHECK_INPUT
 
 -- options in their ranges
 abbrev pub AreGiven : Command → Type 0
@@ -45,31 +45,31 @@ AnswersTo (Check options) bytes status text = Judges bytes status text
 
 -- The status and the text for a command and what the source had left. A fault stops within the limit, and an input
 -- that is too long is read to one byte past it. Each other was read to its end.
-abbrev pub IsOutcomeOf : Command → SourceMoment → SourceMoment → Status → List ℕ → Type 0
-IsOutcomeOf command source source' Usage text = ⊥
-IsOutcomeOf command source source' ReadFault text =
-    Rose source.faults source'.faults × DropsUpTo source.left source'.left (limit_of command)
+abbrev pub IsReplyOf : Command → SourceMoment → SourceMoment → Status → List ℕ → Type 0
+IsReplyOf command source source' Usage text = ⊥
+IsReplyOf command source source' ReadFault text =
+    Rose source.faults source'.faults × DropsUpTo source.left source'.left (input_limit command)
     × (text ≡ refusal_line ReadFault)
-IsOutcomeOf command source source' TooLong text =
-    Drops source.left source'.left (limit_of command + 1) × (text ≡ refusal_line TooLong)
-IsOutcomeOf command source source' status text =
+IsReplyOf command source source' TooLong text =
+    Drops source.left source'.left (input_limit command + 1) × (text ≡ refusal_line TooLong)
+IsReplyOf command source source' status text =
     (bytes : List ℕ) × IsAllOf source.left source'.left bytes × AnswersTo command bytes status text
 
 -- The status and the text for what the words ask for: Usage where they ask for nothing, a made network, the verdict on
 -- one, and for these three nothing is read; or the outcome of a command for the input.
-abbrev pub IsOutcomeFor : Option Request → SourceMoment → SourceMoment → Status → List ℕ → Type 0
-IsOutcomeFor None source source' status text = (source' ≡ source) × (status ≡ Usage) × (text ≡ refusal_line Usage)
-IsOutcomeFor (Some (requests.Gen seed)) source source' status text =
+abbrev pub IsReplyFor : Option Request → SourceMoment → SourceMoment → Status → List ℕ → Type 0
+IsReplyFor None source source' status text = (source' ≡ source) × (status ≡ Usage) × (text ≡ refusal_line Usage)
+IsReplyFor (Some (requests.Gen seed)) source source' status text =
     (source' ≡ source) × (status ≡ Written) × (text ≡ network_text seed.number seed.paths)
-IsOutcomeFor (Some (requests.Demo seed)) source source' status text =
+IsReplyFor (Some (requests.Demo seed)) source source' status text =
     (source' ≡ source) × Demonstrates (network_text seed.number seed.paths) status text
-IsOutcomeFor (Some (requests.Solve options)) source source' status text = IsOutcomeOf (Solve options) source source' status text
-IsOutcomeFor (Some (requests.Check options)) source source' status text = IsOutcomeOf (Check options) source source' status text
+IsReplyFor (Some (requests.Solve options)) source source' status text = IsReplyOf (Solve options) source source' status text
+IsReplyFor (Some (requests.Check options)) source source' status text = IsReplyOf (Check options) source source' status text
 
 -- the status and the text for the words
-abbrev pub IsOutcome : List (String Global) → SourceMoment → SourceMoment → Status → List ℕ → Type 0
-IsOutcome words source source' status text =
-    (asked : Option Request) × Asks words asked × IsOutcomeFor asked source source' status text
+abbrev pub IsReply : List (String Global) → SourceMoment → SourceMoment → Status → List ℕ → Type 0
+IsReply words source source' status text =
+    (asked : Option Request) × Asks words asked × IsReplyFor asked source source' status text
 
 -- where there was no memory: a front was read, up to one byte past the command's limit, and nothing for what reads none
 abbrev pub ReadsFor : Request → SourceMoment → SourceMoment → Type 0

@@ -13,7 +13,7 @@ use Rattle.fapp_run.specs.declared.outcome.Solution.{Solution}
 use Rattle.fapp_run.specs.declared.outcome.Solution.TheVariants.{Refused}
 use Rattle.fapp_run.specs.declared.outcome.TheConstants.{MAX_INPUT}
 use Rattle.fapp_run.specs.Answers.{Solves, status_of}
-use Rattle.fapp_run.specs.Outcomes.{IsOutcomeOf}
+use Rattle.fapp_run.specs.Replies.{IsReplyOf}
 
 -- what a source is solved to: that it failed, that it has more than the limit, or what its bytes are solved to
 abbrev pub IsSolutionOf : SolveOptions → SourceMoment → SourceMoment → Solution → Type 0
@@ -36,5 +36,5 @@ IsWriting status text sink sink' end =
 abbrev pub IsRunBy : SolveOptions → SourceMoment → SourceMoment → SinkMoment → SinkMoment → Status → Type 0
 IsRunBy options source source' sink sink' end =
     ((end ≡ NoMemory) × (sink' ≡ sink))
-    ⊎ ((status : Status) × (text : List ℕ) × IsOutcomeOf (Solve options) source source' status text
+    ⊎ ((status : Status) × (text : List ℕ) × IsReplyOf (Solve options) source source' status text
     × IsWriting status text sink sink' end)

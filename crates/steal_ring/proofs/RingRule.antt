@@ -17,7 +17,7 @@ use Rattle.seat_laws.proofs.Views.{each_set, each_split, each_join, shared_set, 
 use Rattle.seat_laws.proofs.Sums.{sum_set, sum_more, one_within}
 use Rattle.steal_ring.specs.declared.view.RingView.{RingView}
 use Rattle.steal_ring.specs.Jobs.{Words, IsRing, word, is_spent, share_of, once, times, wins, kept_half, given_half, after_join, spent_view, after_win, after_miss}
-use Rattle.steal_ring.specs.Steps.{TakesJob, HasPart}
+use Rattle.steal_ring.specs.RingSteps.{TakesJob, HasPart}
 use Rattle.steal_ring.specs.Seats.{IsWholeRing}
 
 -- how often a live seat won a job

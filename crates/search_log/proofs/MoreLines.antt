@@ -8,7 +8,7 @@ use Rattle.search_log.specs.declared.line.Ref.{Ref}
 use Rattle.search_log.specs.declared.line.Ref.TheVariants.{Own, Row}
 use Rattle.search_log.specs.Contents.{Cites, Content, KnownRow, known_row}
 use Rattle.search_log.specs.GoodLines.{AreGoodLines, IsGoodLine}
-use Rattle.search_log.proofs.Places.{front-or-last, get-front, get-take, last-is, take-fewer, take-front, take-whole, zip-weaker}
+use Rattle.search_log.proofs.ByPlace.{front-or-last, get-front, get-take, last-is, take-fewer, take-front, take-whole, zip-weaker}
 
 cites-more : (rows more : List KnownRow) (earlier : List LogLine) → All (Contains more) rows → (ref : Ref) (content : Content) → Cites rows earlier ref content → Cites more earlier ref content
 cites-more rows more earlier has (Own n) content h = h

@@ -14,7 +14,7 @@ use Rattle.fapp_model.specs.search.Partials.{literal}
 use Rattle.fapp_model.specs.search.Prefixes.{choice_lists}
 use Rattle.tries_laws.proofs.ListPlaces.{list_at_place, some_ways}
 use Rattle.fapp_plan.specs.declared.steps.Step.{Step}
-use Rattle.fapp_plan.specs.Steps.{steps_along}
+use Rattle.fapp_plan.specs.NamedPaths.{steps_along}
 use Rattle.fapp_plan.proofs.Depths.{ways-from}
 
 abbrev pub list_at : Instance → List ℕ → ℕ → List Literal
