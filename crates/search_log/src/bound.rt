@@ -3,6 +3,7 @@ ghost use Rattle.search_log.specs.Bounds.{Offers, Tells, lowest, with_offer};
 ghost use Rattle.search_log.specs.PlainBounds.{code_of_offer};
 
 use fapp_model::Tag;
+use std::marker::Model;
 
 /// The least cost that any job has found, as far as this holder knows.
 pub trait Bound {
@@ -27,8 +28,8 @@ pub trait Bound {
         ensures since { (was : Self) → since was self.old → since was self.new };
 }
 
-/// A bound of one holder, which nobody else lowers.
-#[derive(Clone, Copy, Debug, PartialEq, Eq)]
+/// A bound of one holder, which nobody else lowers. Contracts see its state.
+#[derive(Debug, Drop)]
 pub struct PlainBound {
     began: Tag,
     tag: Tag,
@@ -38,13 +39,18 @@ pub struct PlainBound {
     ghost lowest_is: { tag.code ≡ lowest began.code (code_of_offer least) },
 }
 
+impl Model for PlainBound {
+    ghost use Rattle.search_log.specs.Bounds.{BoundState};
+
+    ghost Value = { BoundState };
+
+    ghost view = { λ bound. record { began = bound.began.code; told = bound.told.code; least = code_of_offer bound.least } };
+}
+
 impl PlainBound {
     /// A bound that begins with this tag.
     pub fn new(tag: Tag) -> PlainBound
-        ensures began { result.began ≡ tag }
-        ensures tag { result.tag ≡ tag }
-        ensures told { result.told ≡ tag }
-        ensures least { result.least ≡ None }
+        ensures { result ≡ record { began = tag.code; told = tag.code; least = None } }
     {
         PlainBound {
             began: tag,
@@ -56,33 +62,34 @@ impl PlainBound {
 
     /// The least of the tag that it began with and of what was offered. It is at most what was told last.
     pub fn lowest(&self) -> Tag
-        ensures lowest { result.code ≡ lowest (⟦<PlainBound as Bound>⟧.state self.now).began (⟦<PlainBound as Bound>⟧.state self.now).least }
-        ensures told { result.code ≤ (⟦<PlainBound as Bound>⟧.state self.now).told }
+        ensures lowest { result.code ≡ lowest self.now.began self.now.least }
+        ensures told { result.code ≤ self.now.told }
     {
         self.tag
     }
 }
 
 impl Bound for PlainBound {
-    ghost state = { λ bound. record { began = bound.began.code; told = bound.told.code; least = code_of_offer bound.least } };
+    ghost use Rattle.search_log.specs.Bounds.{BoundState};
+
+    ghost state = { λ bound. bound };
 
     ghost since = { λ _ _. Unit {0} };
 
     /// The tag that it began with, or the least that was offered since where that is less.
     fn now(&mut self) -> Tag
-        ensures tells { Tells (⟦<PlainBound as Bound>⟧.state self.old) (⟦<PlainBound as Bound>⟧.state self.new) result.code }
-        ensures since { (was : PlainBound) → ⟦<PlainBound as Bound>⟧.since was self.old → ⟦<PlainBound as Bound>⟧.since was self.new }
-        ensures kept { (result ≡ self.old.tag) × (self.new.tag ≡ self.old.tag) }
+        ensures tells { Tells self.old self.new result.code }
+        ensures since { (was : BoundState) → ⟦<PlainBound as Bound>⟧.since was self.old → ⟦<PlainBound as Bound>⟧.since was self.new }
+        ensures kept { result.code ≡ lowest self.old.began self.old.least }
     {
         self.told = self.tag;
         self.tag
     }
 
     fn offer(&mut self, tag: Tag)
-        requires { tag.code ≤ (⟦<PlainBound as Bound>⟧.state self.old).told }
-        ensures offers { Offers (⟦<PlainBound as Bound>⟧.state self.old) (⟦<PlainBound as Bound>⟧.state self.new) tag.code }
-        ensures since { (was : PlainBound) → ⟦<PlainBound as Bound>⟧.since was self.old → ⟦<PlainBound as Bound>⟧.since was self.new }
-        ensures lowered { self.new.tag.code ≡ min self.old.tag.code tag.code }
+        requires { tag.code ≤ self.old.told }
+        ensures offers { Offers self.old self.new tag.code }
+        ensures since { (was : BoundState) → ⟦<PlainBound as Bound>⟧.since was self.old → ⟦<PlainBound as Bound>⟧.since was self.new }
     {
         self.tag = lesser(self.tag, tag);
         self.least = Some(least_offer(self.least, tag));

@@ -6,19 +6,29 @@ ghost use Rattle.search_log.specs.NumberedRows.{IsFitting, numbered_rows};
 use crate::shared::{Cite, Shared};
 use fapp_model::{Items, Literal, Tag};
 use nogood::{Partial, Published, Row};
+use std::marker::Model;
 
-/// Rows that were stated, numbered from 0 in their order.
+/// Rows that were stated, numbered from 0 in their order. Contracts see the list.
 #[derive(Debug, Drop)]
 pub struct MemRows {
     rows: Items<Row>,
     ghost few: { length rows ≤ 2 ^ 32 },
 }
 
+impl Model for MemRows {
+    ghost use Rattle.std.specs.Prelude.{List};
+    ghost use Rattle.nogood.specs.declared.row.Row.{Row};
+
+    ghost Value = { List Row };
+
+    ghost view = { λ shared. shared.rows };
+}
+
 impl MemRows {
     /// These rows, at most 2^32 of them.
     pub fn new(rows: Vec<Row>) -> MemRows
         requires { length rows.items ≤ 2 ^ 32 }
-        ensures { result.rows ≡ rows.items }
+        ensures { result ≡ rows.items }
     {
         MemRows {
             rows: Items::from_vec(rows),
@@ -27,11 +37,12 @@ impl MemRows {
 }
 
 impl Shared for MemRows {
+    ghost use Rattle.std.specs.Prelude.{List};
     ghost use Rattle.search_log.specs.NumberedRows.{numbered-one};
 
-    ghost state = { λ shared. record { copied = numbered_rows shared.rows; published = []; takes = false; refusals = 0 } };
+    ghost state = { λ shared. record { copied = numbered_rows shared; published = []; takes = false; refusals = 0 } };
 
-    ghost serves = { λ shared instance. All (λ row. IsServedContent instance (row_content row)) shared.rows };
+    ghost serves = { λ shared instance. All (λ row. IsServedContent instance (row_content row)) shared };
 
     ghost since = { λ _ _. Unit {0} };
 
@@ -39,8 +50,8 @@ impl Shared for MemRows {
         ensures looks { LooksUp (⟦<MemRows as Shared>⟧.state self.old) (⟦<MemRows as Shared>⟧.state self.new) part.now target.code result }
         ensures serves { (instance : Instance) → ⟦<MemRows as Shared>⟧.serves self.old instance ↔ ⟦<MemRows as Shared>⟧.serves self.new instance }
         ensures implied { (instance : Instance) → ⟦<MemRows as Shared>⟧.serves self.old instance → IsCiteOf instance result }
-        ensures since { (was : MemRows) → ⟦<MemRows as Shared>⟧.since was self.old → ⟦<MemRows as Shared>⟧.since was self.new }
-        ensures held { self.new.rows ≡ self.old.rows }
+        ensures since { (was : List Row) → ⟦<MemRows as Shared>⟧.since was self.old → ⟦<MemRows as Shared>⟧.since was self.new }
+        ensures held { self.new ≡ self.old }
     {
         let rows = self.rows.as_slice();
         match first_fitting(rows, part, target) {
@@ -56,8 +67,8 @@ impl Shared for MemRows {
         requires { (instance : Instance) × ⟦<MemRows as Shared>⟧.serves self.old instance × IsOffer instance lits.now tag.code }
         ensures offered { OffersRow (⟦<MemRows as Shared>⟧.state self.old) (⟦<MemRows as Shared>⟧.state self.new) lits.now tag.code result }
         ensures serves { (instance : Instance) → ⟦<MemRows as Shared>⟧.serves self.old instance ↔ ⟦<MemRows as Shared>⟧.serves self.new instance }
-        ensures since { (was : MemRows) → ⟦<MemRows as Shared>⟧.since was self.old → ⟦<MemRows as Shared>⟧.since was self.new }
-        ensures held { self.new.rows ≡ self.old.rows }
+        ensures since { (was : List Row) → ⟦<MemRows as Shared>⟧.since was self.old → ⟦<MemRows as Shared>⟧.since was self.new }
+        ensures held { self.new ≡ self.old }
     {
         if lits.len() > 8 {
             Published::TooLong
@@ -66,7 +77,7 @@ impl Shared for MemRows {
         }
     }
 
-    ghost one_content = { λ shared. numbered-one shared.rows };
+    ghost one_content = { λ shared. numbered-one shared };
 }
 
 /// The place of the first row that fits.

@@ -44,8 +44,8 @@ pub fn enter<B: Bound, H: Shared>(
     ensures shared { (was : H) → H.since was shared.old → H.since was shared.new }
     ensures serves { (instance : Instance) → H.serves shared.old instance ↔ H.serves shared.new instance }
     ensures copied { (cites : List SomeCite) → AreCitesCopied (H.state shared.old).copied cites → AreCitesCopied (H.state shared.new).copied cites }
-    ensures entry { (log : LogState) → IsArrival forward.now.instance level forward.now.pushed (world fuel.old.amount (B.state bound.old) (H.state shared.old) log)
-        (world fuel.new.amount (B.state bound.new) (H.state shared.new) log) result }
+    ensures entry { (log : LogState) → IsArrival forward.now.instance level forward.now.pushed (world fuel.old (B.state bound.old) (H.state shared.old) log)
+        (world fuel.new (B.state bound.new) (H.state shared.new) log) result }
 {
     let seen = bound.now();
     if seen <= level_tag(level) {

@@ -41,8 +41,8 @@ fn search_prefix<B: Bound, H: Shared>(
     ensures shared { (was : H) → H.since was shared.old → H.since was shared.new }
     ensures serves { (instance : Instance) → H.serves shared.old instance ↔ H.serves shared.new instance }
     ensures front { forward.new ≡ with_literals forward.old forward.new.pushed }
-    ensures lined { Lined forward.old.instance walk.old.level forward.old.pushed (world fuel.old.amount (B.state bound.old) (H.state shared.old) log.old)
-        (world fuel.new.amount (B.state bound.new) (H.state shared.new) log.new) result }
+    ensures lined { Lined forward.old.instance walk.old.level forward.old.pushed (world fuel.old (B.state bound.old) (H.state shared.old) log.old)
+        (world fuel.new (B.state bound.new) (H.state shared.new) log.new) result }
 {
     let alloc = walk.alloc;
     match explore(walk, forward, fuel, bound, shared, log)? {
@@ -121,8 +121,8 @@ pub fn settle<B: Bound, H: Shared>(
     ensures serves { (instance : Instance) → H.serves shared.old instance ↔ H.serves shared.new instance }
     ensures ok { OnOk result (forward.new ≡ at_level forward.old job.now.level) }
     ensures err { OnErr result (forward.new ≡ forward.old) }
-    ensures settles { Settles forward.old.instance job.now.level job.now.prefix (world fuel.old.amount (B.state bound.old) (H.state shared.old) log.old)
-        (world fuel.new.amount (B.state bound.new) (H.state shared.new) log.new) result }
+    ensures settles { Settles forward.old.instance job.now.level job.now.prefix (world fuel.old (B.state bound.old) (H.state shared.old) log.old)
+        (world fuel.new (B.state bound.new) (H.state shared.new) log.new) result }
 {
     let from = log.len();
     let mut walk = Walk::new(

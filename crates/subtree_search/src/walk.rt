@@ -91,7 +91,7 @@ fn visit<B: Bound, H: Shared>(
     ensures serves { (instance : Instance) → H.serves shared.old instance ↔ H.serves shared.new instance }
     ensures held { AreCitesCopied (H.state shared.old).copied walk.old.seen.cites.items → AreCitesCopied (H.state shared.new).copied walk.new.seen.cites.items }
     ensures visited { IsVisited forward.old.instance walk.old.level forward.old.pushed walk.old.nodes.items walk.new.nodes.items
-        (world fuel.old.amount (B.state bound.old) (H.state shared.old) log.old) (world fuel.new.amount (B.state bound.new) (H.state shared.new) log.new) result }
+        (world fuel.old (B.state bound.old) (H.state shared.old) log.old) (world fuel.new (B.state bound.new) (H.state shared.new) log.new) result }
 {
     let target = match enter(walk.level, forward, fuel, bound, shared) {
         Arrival::Decided(found) => return Ok(Some(found)),
@@ -153,7 +153,7 @@ fn try_next<B: Bound, H: Shared>(
     requires serves { H.serves shared.old forward.old.instance }
     requires held { AreCitesCopied (H.state shared.old).copied walk.old.seen.cites.items }
     requires trying { (root : List Literal) × (from : World) × IsPrefix forward.old.instance root × BeginsAt walk.old from × IsTrying forward.old.instance walk.old.level root from walk.old.nodes.items forward.old.pushed
-        (world fuel.old.amount (B.state bound.old) (H.state shared.old) log.old) }
+        (world fuel.old (B.state bound.old) (H.state shared.old) log.old) }
     ensures bound { (was : B) → B.since was bound.old → B.since was bound.new }
     ensures ready { IsReady forward.old.instance walk.new }
     ensures level { walk.new.level ≡ walk.old.level }
@@ -163,9 +163,9 @@ fn try_next<B: Bound, H: Shared>(
     ensures front { forward.new ≡ with_literals forward.old forward.new.pushed }
     ensures held { AreCitesCopied (H.state shared.new).copied walk.new.seen.cites.items }
     ensures advanced { (root : List Literal) (from : World) → IsPrefix forward.old.instance root → BeginsAt walk.old from → IsTrying forward.old.instance walk.old.level root from walk.old.nodes.items forward.old.pushed
-        (world fuel.old.amount (B.state bound.old) (H.state shared.old) log.old) → IsAdvanced forward.old.instance walk.old.level root from walk.new.nodes.items forward.new.pushed
-        (world fuel.new.amount (B.state bound.new) (H.state shared.new) log.new) result }
-    ensures lighter { Lightens (work_left fuel.old.amount walk.old.nodes.items) (work_left fuel.new.amount walk.new.nodes.items) result }
+        (world fuel.old (B.state bound.old) (H.state shared.old) log.old) → IsAdvanced forward.old.instance walk.old.level root from walk.new.nodes.items forward.new.pushed
+        (world fuel.new (B.state bound.new) (H.state shared.new) log.new) result }
+    ensures lighter { Lightens (work_left fuel.old walk.old.nodes.items) (work_left fuel.new walk.new.nodes.items) result }
 {
     let Some(mut node) = walk.nodes.pop() else {
         unreachable!()
@@ -298,7 +298,7 @@ fn advance<B: Bound, H: Shared>(
     requires serves { H.serves shared.old forward.old.instance }
     requires held { AreCitesCopied (H.state shared.old).copied walk.old.seen.cites.items }
     requires trying { (root : List Literal) × (from : World) × IsPrefix forward.old.instance root × BeginsAt walk.old from × IsTrying forward.old.instance walk.old.level root from walk.old.nodes.items forward.old.pushed
-        (world fuel.old.amount (B.state bound.old) (H.state shared.old) log.old) }
+        (world fuel.old (B.state bound.old) (H.state shared.old) log.old) }
     ensures bound { (was : B) → B.since was bound.old → B.since was bound.new }
     ensures ready { IsReady forward.old.instance walk.new }
     ensures level { walk.new.level ≡ walk.old.level }
@@ -308,9 +308,9 @@ fn advance<B: Bound, H: Shared>(
     ensures front { forward.new ≡ with_literals forward.old forward.new.pushed }
     ensures held { AreCitesCopied (H.state shared.new).copied walk.new.seen.cites.items }
     ensures advanced { (root : List Literal) (from : World) → IsPrefix forward.old.instance root → BeginsAt walk.old from → IsTrying forward.old.instance walk.old.level root from walk.old.nodes.items forward.old.pushed
-        (world fuel.old.amount (B.state bound.old) (H.state shared.old) log.old) → IsAdvanced forward.old.instance walk.old.level root from walk.new.nodes.items forward.new.pushed
-        (world fuel.new.amount (B.state bound.new) (H.state shared.new) log.new) result }
-    ensures lighter { Lightens (work_left fuel.old.amount walk.old.nodes.items) (work_left fuel.new.amount walk.new.nodes.items) result }
+        (world fuel.old (B.state bound.old) (H.state shared.old) log.old) → IsAdvanced forward.old.instance walk.old.level root from walk.new.nodes.items forward.new.pushed
+        (world fuel.new (B.state bound.new) (H.state shared.new) log.new) result }
+    ensures lighter { Lightens (work_left fuel.old walk.old.nodes.items) (work_left fuel.new walk.new.nodes.items) result }
 {
     let Some(found) = try_next(walk, forward, fuel, bound, shared, log)? else {
         return Ok(None);
@@ -367,8 +367,8 @@ pub fn explore<B: Bound, H: Shared>(
     ensures serves { (instance : Instance) → H.serves shared.old instance ↔ H.serves shared.new instance }
     ensures front { forward.new ≡ with_literals forward.old forward.new.pushed }
     ensures back { IfOk result (λ found. IsBack found forward.old.pushed forward.new.pushed) }
-    ensures searched { Searched forward.old.instance walk.old.level forward.old.pushed (world fuel.old.amount (B.state bound.old) (H.state shared.old) log.old)
-        (world fuel.new.amount (B.state bound.new) (H.state shared.new) log.new) result }
+    ensures searched { Searched forward.old.instance walk.old.level forward.old.pushed (world fuel.old (B.state bound.old) (H.state shared.old) log.old)
+        (world fuel.new (B.state bound.new) (H.state shared.new) log.new) result }
 {
     if let Some(found) = visit(walk, forward, fuel, bound, shared, log)? {
         return Ok(found);

@@ -19,7 +19,7 @@ pub level_tag-requires-2 : goal.level_tag-requires-2
 level_tag-requires-2 g c = omega (arith, (levels-few c.args.forward.now.instance).1)
 
 pub returns-then-le-clause-entry : goal.returns-then-le-clause-entry
-returns-then-le-clause-entry g c = λ log. moot-found c.args.forward.now.instance c.args.level c.args.forward.now.pushed c.args.fuel.now.amount (g.B.Bound.state c.args.bound.now) (g.B.Bound.state c.now-seen.new.self) (g.H.Shared.state c.args.shared.now) c.now-seen.result c.now-seen.ensures.tells log
+returns-then-le-clause-entry g c = λ log. moot-found c.args.forward.now.instance c.args.level c.args.forward.now.pushed c.args.fuel.now (g.B.Bound.state c.args.bound.now) (g.B.Bound.state c.now-seen.new.self) (g.H.Shared.state c.args.shared.now) c.now-seen.result c.now-seen.ensures.tells log
     (omega (arith, at-most-by c.le.result c.now-seen.result.code c.level_tag.result.code c.le.ensures c.if-le.true, c.level_tag.ensures))
 
 pub returns-in-Some-clause-entry : goal.returns-in-Some-clause-entry
@@ -29,7 +29,7 @@ returns-in-Some-clause-entry g c =
     let at_is : c.lesser-target.result.code ≡ min c.now-seen.result.code (level_code (c.args.level + 1)) = c.lesser-target.ensures ∙ ap (λ n. min c.now-seen.result.code n) c.level_tag-2.ensures in
     let looks = subst (λ o. LooksUp (g.H.Shared.state c.args.shared.now) (g.H.Shared.state c.lookup.new.self) c.partial.result.now c.lesser-target.result.code o) c.in-Some.is c.lookup.ensures.looks in
     λ log. (
-      row-found f.instance c.args.level f.pushed c.args.fuel.now.amount (g.B.Bound.state c.args.bound.now) (g.B.Bound.state c.now-seen.new.self) (g.H.Shared.state c.args.shared.now) c.now-seen.result c.now-seen.ensures.tells log
+      row-found f.instance c.args.level f.pushed c.args.fuel.now (g.B.Bound.state c.args.bound.now) (g.B.Bound.state c.now-seen.new.self) (g.H.Shared.state c.args.shared.now) c.now-seen.result c.now-seen.ensures.tells log
           low c.lesser-target.result at_is c.partial.result.now (g.H.Shared.state c.lookup.new.self) (λ a. (c.partial.ensures.given a).0) c.in-Some.cite
           looks
           (subst (λ o. IsCiteOf f.instance o) c.in-Some.is (c.lookup.ensures.implied f.instance c.requires.serves)),
@@ -45,7 +45,7 @@ returns-then-is_dead-clause-entry g c =
     let f = c.args.forward.now in
     let low : level_code c.args.level < c.now-seen.result.code = omega (arith, above-by c.le.result c.now-seen.result.code c.level_tag.result.code c.le.ensures c.if-le.false, c.level_tag.ensures) in
     let at_is : c.lesser-target.result.code ≡ min c.now-seen.result.code (level_code (c.args.level + 1)) = c.lesser-target.ensures ∙ ap (λ n. min c.now-seen.result.code n) c.level_tag-2.ensures in
-    λ log. dead-found f.instance c.args.level f.pushed c.args.fuel.now.amount (g.B.Bound.state c.args.bound.now) (g.B.Bound.state c.now-seen.new.self) (g.H.Shared.state c.args.shared.now) c.now-seen.result c.now-seen.ensures.tells log
+    λ log. dead-found f.instance c.args.level f.pushed c.args.fuel.now (g.B.Bound.state c.args.bound.now) (g.B.Bound.state c.now-seen.new.self) (g.H.Shared.state c.args.shared.now) c.now-seen.result c.now-seen.ensures.tells log
     low c.lesser-target.result at_is c.partial.result.now (g.H.Shared.state c.lookup.new.self)
     (subst (λ o. LooksUp (g.H.Shared.state c.args.shared.now) (g.H.Shared.state c.lookup.new.self) c.partial.result.now c.lesser-target.result.code o) c.in_default.is c.lookup.ensures.looks)
     (λ a. (c.partial.ensures.given a).1) (c.is_dead.ensures.0 c.if-is_dead.true)
@@ -56,11 +56,11 @@ returns-then-not-take-clause-entry g c =
     let low : level_code c.args.level < c.now-seen.result.code = omega (arith, above-by c.le.result c.now-seen.result.code c.level_tag.result.code c.le.ensures c.if-le.false, c.level_tag.ensures) in
     let at_is : c.lesser-target.result.code ≡ min c.now-seen.result.code (level_code (c.args.level + 1)) = c.lesser-target.ensures ∙ ap (λ n. min c.now-seen.result.code n) c.level_tag-2.ensures in
     let alive : Dead f.instance (triple_from c.lesser-target.result.code) f.pushed → ⊥ = λ dead. true≢false (sym (c.is_dead.ensures.1 dead) ∙ c.if-is_dead.false) in
-    let taken : TakesTick c.args.fuel.now.amount c.take.new.self.amount false = subst (λ b. TakesTick c.args.fuel.now.amount c.take.new.self.amount b) c.if-not-take.true c.take.ensures in
-    λ log. spent-found f.instance c.args.level f.pushed c.args.fuel.now.amount (g.B.Bound.state c.args.bound.now) (g.B.Bound.state c.now-seen.new.self) (g.H.Shared.state c.args.shared.now) c.now-seen.result c.now-seen.ensures.tells log
+    let taken : TakesTick c.args.fuel.now c.take.new.self false = subst (λ b. TakesTick c.args.fuel.now c.take.new.self b) c.if-not-take.true c.take.ensures in
+    λ log. spent-found f.instance c.args.level f.pushed c.args.fuel.now (g.B.Bound.state c.args.bound.now) (g.B.Bound.state c.now-seen.new.self) (g.H.Shared.state c.args.shared.now) c.now-seen.result c.now-seen.ensures.tells log
     low c.lesser-target.result at_is c.partial.result.now (g.H.Shared.state c.lookup.new.self)
     (subst (λ o. LooksUp (g.H.Shared.state c.args.shared.now) (g.H.Shared.state c.lookup.new.self) c.partial.result.now c.lesser-target.result.code o) c.in_default.is c.lookup.ensures.looks)
-    (λ a. (c.partial.ensures.given a).1) c.requires.valid c.requires.level alive c.requires.prefix c.take.new.self.amount taken.0 taken.1
+    (λ a. (c.partial.ensures.given a).1) c.requires.valid c.requires.level alive c.requires.prefix c.take.new.self taken.0 taken.1
 
 pub returns-clause-entry : goal.returns-clause-entry
 returns-clause-entry g c =
@@ -68,11 +68,11 @@ returns-clause-entry g c =
     let low : level_code c.args.level < c.now-seen.result.code = omega (arith, above-by c.le.result c.now-seen.result.code c.level_tag.result.code c.le.ensures c.if-le.false, c.level_tag.ensures) in
     let at_is : c.lesser-target.result.code ≡ min c.now-seen.result.code (level_code (c.args.level + 1)) = c.lesser-target.ensures ∙ ap (λ n. min c.now-seen.result.code n) c.level_tag-2.ensures in
     let alive : Dead f.instance (triple_from c.lesser-target.result.code) f.pushed → ⊥ = λ dead. true≢false (sym (c.is_dead.ensures.1 dead) ∙ c.if-is_dead.false) in
-    let taken : TakesTick c.args.fuel.now.amount c.take.new.self.amount true = subst (λ b. TakesTick c.args.fuel.now.amount c.take.new.self.amount b) c.if-not-take.false c.take.ensures in
-    λ log. is-ticked f.instance c.args.level f.pushed c.args.fuel.now.amount (g.B.Bound.state c.args.bound.now) (g.B.Bound.state c.now-seen.new.self) (g.H.Shared.state c.args.shared.now) c.now-seen.result c.now-seen.ensures.tells log
+    let taken : TakesTick c.args.fuel.now c.take.new.self true = subst (λ b. TakesTick c.args.fuel.now c.take.new.self b) c.if-not-take.false c.take.ensures in
+    λ log. is-ticked f.instance c.args.level f.pushed c.args.fuel.now (g.B.Bound.state c.args.bound.now) (g.B.Bound.state c.now-seen.new.self) (g.H.Shared.state c.args.shared.now) c.now-seen.result c.now-seen.ensures.tells log
     low c.lesser-target.result at_is c.partial.result.now (g.H.Shared.state c.lookup.new.self)
     (subst (λ o. LooksUp (g.H.Shared.state c.args.shared.now) (g.H.Shared.state c.lookup.new.self) c.partial.result.now c.lesser-target.result.code o) c.in_default.is c.lookup.ensures.looks)
-    (λ a. (c.partial.ensures.given a).1) c.requires.valid c.requires.level alive c.take.new.self.amount taken
+    (λ a. (c.partial.ensures.given a).1) c.requires.valid c.requires.level alive c.take.new.self taken
 
 pub returns-in-Some-clause-copied : goal.returns-in-Some-clause-copied
 returns-in-Some-clause-copied g c = λ cites held. copied-more (g.H.Shared.state c.args.shared.now).copied (g.H.Shared.state c.lookup.new.self).copied cites c.lookup.ensures.looks.kept held

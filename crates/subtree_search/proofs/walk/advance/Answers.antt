@@ -17,7 +17,7 @@ use Rattle.subtree_search.proofs.walk.advance.Goals as goal
 pub close_by_row-requires-clause-coming : goal.close_by_row-requires-clause-coming
 close_by_row-requires-clause-coming g c =
     let t = c.requires.trying in
-    let now = world c.try_next.new.fuel.amount (g.B.Bound.state c.try_next.new.bound) (g.H.Shared.state c.try_next.new.shared) c.try_next.new.log in
+    let now = world c.try_next.new.fuel (g.B.Bound.state c.try_next.new.bound) (g.H.Shared.state c.try_next.new.shared) c.try_next.new.log in
     let came = subst (λ o. IsAdvanced {E = AllocError} c.args.forward.now.instance c.args.walk.now.level t.0 t.1 c.try_next.new.walk.nodes.items c.try_next.new.forward.pushed now (Ok o)) c.in-Some.is (c.in_ok-found.ensures.advanced t.0 t.1 t.2 t.3 t.4) in
     let at = ap (λ (s : ForwardState). s.instance) c.try_next.ensures.front in (
       t.0,
@@ -31,8 +31,8 @@ close_by_row-requires-clause-coming g c =
 pub jump-requires-clause-coming : goal.jump-requires-clause-coming
 jump-requires-clause-coming g c =
     let t = c.requires.trying in
-    let now = world c.try_next.new.fuel.amount (g.B.Bound.state c.try_next.new.bound) (g.H.Shared.state c.try_next.new.shared) c.try_next.new.log in
-    let then = world c.try_next.new.fuel.amount (g.B.Bound.state c.try_next.new.bound) (g.H.Shared.state c.try_next.new.shared) c.close_by_row.new.log in
+    let now = world c.try_next.new.fuel (g.B.Bound.state c.try_next.new.bound) (g.H.Shared.state c.try_next.new.shared) c.try_next.new.log in
+    let then = world c.try_next.new.fuel (g.B.Bound.state c.try_next.new.bound) (g.H.Shared.state c.try_next.new.shared) c.close_by_row.new.log in
     let came = subst (λ o. IsAdvanced {E = AllocError} c.args.forward.now.instance c.args.walk.now.level t.0 t.1 c.try_next.new.walk.nodes.items c.try_next.new.forward.pushed now (Ok o)) c.in-Some.is (c.in_ok-found.ensures.advanced t.0 t.1 t.2 t.3 t.4) in
     let at = ap (λ (s : ForwardState). s.instance) c.try_next.ensures.front in
     let after = ap (λ (s : ForwardState). s.instance) c.close_by_row.ensures.front in
@@ -56,8 +56,8 @@ returns-clause-held g c = subst (λ (seen : SeenRows). AreCitesCopied (g.H.Share
 
 pub returns-in_err-settled-clause-advanced : goal.returns-in_err-settled-clause-advanced
 returns-in_err-settled-clause-advanced g c = λ root from prefix begins trying.
-    let now = world c.try_next.new.fuel.amount (g.B.Bound.state c.try_next.new.bound) (g.H.Shared.state c.try_next.new.shared) c.try_next.new.log in
-    let then = world c.try_next.new.fuel.amount (g.B.Bound.state c.try_next.new.bound) (g.H.Shared.state c.try_next.new.shared) c.close_by_row.new.log in
+    let now = world c.try_next.new.fuel (g.B.Bound.state c.try_next.new.bound) (g.H.Shared.state c.try_next.new.shared) c.try_next.new.log in
+    let then = world c.try_next.new.fuel (g.B.Bound.state c.try_next.new.bound) (g.H.Shared.state c.try_next.new.shared) c.close_by_row.new.log in
     let came = subst (λ o. IsAdvanced {E = AllocError} c.args.forward.now.instance c.args.walk.now.level root from c.try_next.new.walk.nodes.items c.try_next.new.forward.pushed now (Ok o)) c.in-Some.is (c.in_ok-found.ensures.advanced root from prefix begins trying) in
     let at = ap (λ (s : ForwardState). s.instance) c.try_next.ensures.front in
     let contents = copied-contents (g.H.Shared.state c.try_next.new.shared) c.try_next.new.walk.seen.cites.items (g.met.H.Shared.one_content c.try_next.new.shared) c.try_next.ensures.held in
@@ -70,8 +70,8 @@ returns-in_err-settled-clause-advanced g c = λ root from prefix begins trying.
 
 pub returns-clause-advanced : goal.returns-clause-advanced
 returns-clause-advanced g c = λ root from prefix begins trying.
-    let now = world c.try_next.new.fuel.amount (g.B.Bound.state c.try_next.new.bound) (g.H.Shared.state c.try_next.new.shared) c.try_next.new.log in
-    let then = world c.try_next.new.fuel.amount (g.B.Bound.state c.try_next.new.bound) (g.H.Shared.state c.try_next.new.shared) c.close_by_row.new.log in
+    let now = world c.try_next.new.fuel (g.B.Bound.state c.try_next.new.bound) (g.H.Shared.state c.try_next.new.shared) c.try_next.new.log in
+    let then = world c.try_next.new.fuel (g.B.Bound.state c.try_next.new.bound) (g.H.Shared.state c.try_next.new.shared) c.close_by_row.new.log in
     let came = subst (λ o. IsAdvanced {E = AllocError} c.args.forward.now.instance c.args.walk.now.level root from c.try_next.new.walk.nodes.items c.try_next.new.forward.pushed now (Ok o)) c.in-Some.is (c.in_ok-found.ensures.advanced root from prefix begins trying) in
     let at = ap (λ (s : ForwardState). s.instance) c.try_next.ensures.front in
     let after = ap (λ (s : ForwardState). s.instance) c.close_by_row.ensures.front in
@@ -86,6 +86,6 @@ returns-clause-advanced g c = λ root from prefix begins trying.
 
 pub returns-clause-lighter : goal.returns-clause-lighter
 returns-clause-lighter g c =
-    let first : work_left c.try_next.new.fuel.amount c.try_next.new.walk.nodes.items ≤ work_left c.args.fuel.now.amount c.args.walk.now.nodes.items = subst (λ o. Lightens {E = AllocError} (work_left c.args.fuel.now.amount c.args.walk.now.nodes.items) (work_left c.try_next.new.fuel.amount c.try_next.new.walk.nodes.items) (Ok o)) c.in-Some.is c.in_ok-found.ensures.lighter in
-    let same : work_left c.try_next.new.fuel.amount c.remember.new.walk.nodes.items ≡ work_left c.try_next.new.fuel.amount c.jump.new.walk.nodes.items = ap (λ (ns : List Node). work_left c.try_next.new.fuel.amount ns) c.remember.ensures.nodes in
-    omega (arith, first, same, c.close_by_row.ensures.lighter c.try_next.new.fuel.amount, c.jump.ensures.lighter c.try_next.new.fuel.amount)
+    let first : work_left c.try_next.new.fuel c.try_next.new.walk.nodes.items ≤ work_left c.args.fuel.now c.args.walk.now.nodes.items = subst (λ o. Lightens {E = AllocError} (work_left c.args.fuel.now c.args.walk.now.nodes.items) (work_left c.try_next.new.fuel c.try_next.new.walk.nodes.items) (Ok o)) c.in-Some.is c.in_ok-found.ensures.lighter in
+    let same : work_left c.try_next.new.fuel c.remember.new.walk.nodes.items ≡ work_left c.try_next.new.fuel c.jump.new.walk.nodes.items = ap (λ (ns : List Node). work_left c.try_next.new.fuel ns) c.remember.ensures.nodes in
+    omega (arith, first, same, c.close_by_row.ensures.lighter c.try_next.new.fuel, c.jump.ensures.lighter c.try_next.new.fuel)

@@ -14,9 +14,9 @@ invariant-loop-found g l = record {
   serves : (instance : Instance) → g.H.Shared.serves l.fn.shared instance ↔ g.H.Shared.serves l.shared instance;
   held : AreCitesCopied (g.H.Shared.state l.shared).copied l.walk.seen.cites.items;
   exploring : Exploring l.fn.forward l.forward l.fn.walk.level
-      (world l.fn.fuel.amount (g.B.Bound.state l.fn.bound) (g.H.Shared.state l.fn.shared) l.fn.log)
-      (world l.fuel.amount (g.B.Bound.state l.bound) (g.H.Shared.state l.shared) l.log) l.walk;
+      (world l.fn.fuel (g.B.Bound.state l.fn.bound) (g.H.Shared.state l.fn.shared) l.fn.log)
+      (world l.fuel (g.B.Bound.state l.bound) (g.H.Shared.state l.shared) l.log) l.walk;
 }
 
 abbrev pub decreases-loop-found : goal.decreases-loop-found
-decreases-loop-found g l = work_left l.fuel.amount l.walk.nodes.items
+decreases-loop-found g l = work_left l.fuel l.walk.nodes.items

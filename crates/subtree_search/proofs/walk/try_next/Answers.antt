@@ -15,12 +15,12 @@ use Rattle.subtree_search.proofs.walk.try_next.Goals as goal
 pub returns-in_err-found-clause-advanced : goal.returns-in_err-found-clause-advanced
 returns-in_err-found-clause-advanced g c =
     let f = c.args.forward.now in
-    let now = world c.args.fuel.now.amount (g.B.Bound.state c.args.bound.now) (g.H.Shared.state c.args.shared.now) c.args.log.now in
+    let now = world c.args.fuel.now (g.B.Bound.state c.args.bound.now) (g.H.Shared.state c.args.shared.now) c.args.log.now in
     λ root from prefix begins trying.
     let h = passed-by f.instance c.args.walk.now.level root from prefix c.requires.ready.level c.pop.new.self.items c.in-Some.node c.pass_settled.new.node f.pushed now c.args.walk.now.recall.first begins c.pass_settled.ensures
     (trying-at f.instance c.args.walk.now.level root from prefix c.args.walk.now.nodes.items c.pop.new.self.items c.in-Some.node f.pushed now c.in-Some.ensures.items trying) in
     let inner = innermost f.instance c.args.walk.now.level root from prefix c.pop.new.self.items c.pass_settled.new.node f.pushed now h in
-    let after = world c.args.fuel.now.amount (g.B.Bound.state c.args.bound.now) (g.H.Shared.state c.args.shared.now) c.add_explained.new.log in
+    let after = world c.args.fuel.now (g.B.Bound.state c.args.bound.now) (g.H.Shared.state c.args.shared.now) c.add_explained.new.log in
     subst (λ (s : ForwardState). IsAdvanced f.instance c.args.walk.now.level root from c.pop.new.self.items s.pushed after c.from_residual.result) (sym c.in_err-found.ensures.front)
     (advanced-err f.instance c.args.walk.now.level root from c.pop.new.self.items f.pushed after c.from_residual.result c.from_residual.ensures.0
     (λ e. closes-ending f.instance c.args.walk.now.level root from prefix c.requires.ready.valid c.requires.ready.level c.pop.new.self.items c.pass_settled.new.node f.pushed now h (omega (arith, inner.trying.within, c.if-node.true)) c.add_explained.new.log (Err e) c.args.walk.now.seen.cites.items (copied-contents (g.H.Shared.state c.args.shared.now) c.args.walk.now.seen.cites.items (g.met.H.Shared.one_content c.args.shared.now) c.requires.held) c.in_err-found.ensures.lined.0 c.in_err-found.ensures.lined.1 c.in_err-found.ensures.lined.2 tt))
@@ -28,19 +28,19 @@ returns-in_err-found-clause-advanced g c =
 pub returns-then-node-clause-advanced : goal.returns-then-node-clause-advanced
 returns-then-node-clause-advanced g c =
     let f = c.args.forward.now in
-    let now = world c.args.fuel.now.amount (g.B.Bound.state c.args.bound.now) (g.H.Shared.state c.args.shared.now) c.args.log.now in
+    let now = world c.args.fuel.now (g.B.Bound.state c.args.bound.now) (g.H.Shared.state c.args.shared.now) c.args.log.now in
     λ root from prefix begins trying.
     let h = passed-by f.instance c.args.walk.now.level root from prefix c.requires.ready.level c.pop.new.self.items c.in-Some.node c.pass_settled.new.node f.pushed now c.args.walk.now.recall.first begins c.pass_settled.ensures
     (trying-at f.instance c.args.walk.now.level root from prefix c.args.walk.now.nodes.items c.pop.new.self.items c.in-Some.node f.pushed now c.in-Some.ensures.items trying) in
     let inner = innermost f.instance c.args.walk.now.level root from prefix c.pop.new.self.items c.pass_settled.new.node f.pushed now h in
-    let after = world c.args.fuel.now.amount (g.B.Bound.state c.args.bound.now) (g.H.Shared.state c.args.shared.now) c.add_explained.new.log in
+    let after = world c.args.fuel.now (g.B.Bound.state c.args.bound.now) (g.H.Shared.state c.args.shared.now) c.add_explained.new.log in
     subst (λ (s : ForwardState). ComesTo {E = AllocError} f.instance c.args.walk.now.level root from c.pop.new.self.items s.pushed after (Ok c.in_ok-found.found)) (sym c.in_ok-found.ensures.front)
     (closes-to f.instance c.args.walk.now.level root from prefix c.requires.ready.valid c.requires.ready.level c.pop.new.self.items c.pass_settled.new.node f.pushed now h (omega (arith, inner.trying.within, c.if-node.true)) c.add_explained.new.log (Ok c.in_ok-found.found) c.args.walk.now.seen.cites.items (copied-contents (g.H.Shared.state c.args.shared.now) c.args.walk.now.seen.cites.items (g.met.H.Shared.one_content c.args.shared.now) c.requires.held) c.in_ok-found.ensures.lined.0 c.in_ok-found.ensures.lined.1 c.in_ok-found.ensures.lined.2)
 
 pub overflow_cast-node : goal.overflow_cast-node
 overflow_cast-node g c =
     let f = c.args.forward.now in
-    let now = world c.args.fuel.now.amount (g.B.Bound.state c.args.bound.now) (g.H.Shared.state c.args.shared.now) c.args.log.now in
+    let now = world c.args.fuel.now (g.B.Bound.state c.args.bound.now) (g.H.Shared.state c.args.shared.now) c.args.log.now in
     let t = c.requires.trying in
     let h = passed-by f.instance c.args.walk.now.level t.0 t.1 t.2 c.requires.ready.level c.pop.new.self.items c.in-Some.node c.pass_settled.new.node f.pushed now c.args.walk.now.recall.first t.3 c.pass_settled.ensures
     (trying-at f.instance c.args.walk.now.level t.0 t.1 t.2 c.args.walk.now.nodes.items c.pop.new.self.items c.in-Some.node f.pushed now c.in-Some.ensures.items t.4) in
@@ -51,7 +51,7 @@ overflow_cast-node g c =
 pub push-requires-clause-path : goal.push-requires-clause-path
 push-requires-clause-path g c =
     let f = c.args.forward.now in
-    let now = world c.args.fuel.now.amount (g.B.Bound.state c.args.bound.now) (g.H.Shared.state c.args.shared.now) c.args.log.now in
+    let now = world c.args.fuel.now (g.B.Bound.state c.args.bound.now) (g.H.Shared.state c.args.shared.now) c.args.log.now in
     let t = c.requires.trying in
     let h = passed-by f.instance c.args.walk.now.level t.0 t.1 t.2 c.requires.ready.level c.pop.new.self.items c.in-Some.node c.pass_settled.new.node f.pushed now c.args.walk.now.recall.first t.3 c.pass_settled.ensures
     (trying-at f.instance c.args.walk.now.level t.0 t.1 t.2 c.args.walk.now.nodes.items c.pop.new.self.items c.in-Some.node f.pushed now c.in-Some.ensures.items t.4) in
@@ -61,7 +61,7 @@ push-requires-clause-path g c =
 pub push-requires-clause-choice : goal.push-requires-clause-choice
 push-requires-clause-choice g c =
     let f = c.args.forward.now in
-    let now = world c.args.fuel.now.amount (g.B.Bound.state c.args.bound.now) (g.H.Shared.state c.args.shared.now) c.args.log.now in
+    let now = world c.args.fuel.now (g.B.Bound.state c.args.bound.now) (g.H.Shared.state c.args.shared.now) c.args.log.now in
     let t = c.requires.trying in
     let h = passed-by f.instance c.args.walk.now.level t.0 t.1 t.2 c.requires.ready.level c.pop.new.self.items c.in-Some.node c.pass_settled.new.node f.pushed now c.args.walk.now.recall.first t.3 c.pass_settled.ensures
     (trying-at f.instance c.args.walk.now.level t.0 t.1 t.2 c.args.walk.now.nodes.items c.pop.new.self.items c.in-Some.node f.pushed now c.in-Some.ensures.items t.4) in
@@ -71,7 +71,7 @@ push-requires-clause-choice g c =
 pub push-requires-clause-free : goal.push-requires-clause-free
 push-requires-clause-free g c =
     let f = c.args.forward.now in
-    let now = world c.args.fuel.now.amount (g.B.Bound.state c.args.bound.now) (g.H.Shared.state c.args.shared.now) c.args.log.now in
+    let now = world c.args.fuel.now (g.B.Bound.state c.args.bound.now) (g.H.Shared.state c.args.shared.now) c.args.log.now in
     let t = c.requires.trying in
     let h = passed-by f.instance c.args.walk.now.level t.0 t.1 t.2 c.requires.ready.level c.pop.new.self.items c.in-Some.node c.pass_settled.new.node f.pushed now c.args.walk.now.recall.first t.3 c.pass_settled.ensures
     (trying-at f.instance c.args.walk.now.level t.0 t.1 t.2 c.args.walk.now.nodes.items c.pop.new.self.items c.in-Some.node f.pushed now c.in-Some.ensures.items t.4) in
@@ -81,7 +81,7 @@ push-requires-clause-free g c =
 pub visit-requires-clause-prefix : goal.visit-requires-clause-prefix
 visit-requires-clause-prefix g c =
     let f = c.args.forward.now in
-    let now = world c.args.fuel.now.amount (g.B.Bound.state c.args.bound.now) (g.H.Shared.state c.args.shared.now) c.args.log.now in
+    let now = world c.args.fuel.now (g.B.Bound.state c.args.bound.now) (g.H.Shared.state c.args.shared.now) c.args.log.now in
     let t = c.requires.trying in
     let h = passed-by f.instance c.args.walk.now.level t.0 t.1 t.2 c.requires.ready.level c.pop.new.self.items c.in-Some.node c.pass_settled.new.node f.pushed now c.args.walk.now.recall.first t.3 c.pass_settled.ensures
     (trying-at f.instance c.args.walk.now.level t.0 t.1 t.2 c.args.walk.now.nodes.items c.pop.new.self.items c.in-Some.node f.pushed now c.in-Some.ensures.items t.4) in
@@ -92,8 +92,8 @@ visit-requires-clause-prefix g c =
 pub returns-clause-advanced : goal.returns-clause-advanced
 returns-clause-advanced g c =
     let f = c.args.forward.now in
-    let now = world c.args.fuel.now.amount (g.B.Bound.state c.args.bound.now) (g.H.Shared.state c.args.shared.now) c.args.log.now in
-    let after = world c.visit.new.fuel.amount (g.B.Bound.state c.visit.new.bound) (g.H.Shared.state c.visit.new.shared) c.visit.new.log in
+    let now = world c.args.fuel.now (g.B.Bound.state c.args.bound.now) (g.H.Shared.state c.args.shared.now) c.args.log.now in
+    let after = world c.visit.new.fuel (g.B.Bound.state c.visit.new.bound) (g.H.Shared.state c.visit.new.shared) c.visit.new.log in
     let same : c.push.new.self.instance ≡ f.instance = ap (λ (s : ForwardState). s.instance) c.push.ensures in
     λ root from prefix begins trying.
     let h = passed-by f.instance c.args.walk.now.level root from prefix c.requires.ready.level c.pop.new.self.items c.in-Some.node c.pass_settled.new.node f.pushed now c.args.walk.now.recall.first begins c.pass_settled.ensures
@@ -106,7 +106,7 @@ returns-clause-advanced g c =
 pub add_explained-requires-clause-asked : goal.add_explained-requires-clause-asked
 add_explained-requires-clause-asked g c =
     let f = c.args.forward.now in
-    let now = world c.args.fuel.now.amount (g.B.Bound.state c.args.bound.now) (g.H.Shared.state c.args.shared.now) c.args.log.now in
+    let now = world c.args.fuel.now (g.B.Bound.state c.args.bound.now) (g.H.Shared.state c.args.shared.now) c.args.log.now in
     let t = c.requires.trying in
     let h = passed-by f.instance c.args.walk.now.level t.0 t.1 t.2 c.requires.ready.level c.pop.new.self.items c.in-Some.node c.pass_settled.new.node f.pushed now c.args.walk.now.recall.first t.3 c.pass_settled.ensures
     (trying-at f.instance c.args.walk.now.level t.0 t.1 t.2 c.args.walk.now.nodes.items c.pop.new.self.items c.in-Some.node f.pushed now c.in-Some.ensures.items t.4) in
@@ -123,7 +123,7 @@ add_explained-requires-clause-asked g c =
 pub add_explained-requires-clause-prefix : goal.add_explained-requires-clause-prefix
 add_explained-requires-clause-prefix g c =
     let f = c.args.forward.now in
-    let now = world c.args.fuel.now.amount (g.B.Bound.state c.args.bound.now) (g.H.Shared.state c.args.shared.now) c.args.log.now in
+    let now = world c.args.fuel.now (g.B.Bound.state c.args.bound.now) (g.H.Shared.state c.args.shared.now) c.args.log.now in
     let t = c.requires.trying in
     let h = passed-by f.instance c.args.walk.now.level t.0 t.1 t.2 c.requires.ready.level c.pop.new.self.items c.in-Some.node c.pass_settled.new.node f.pushed now c.args.walk.now.recall.first t.3 c.pass_settled.ensures
     (trying-at f.instance c.args.walk.now.level t.0 t.1 t.2 c.args.walk.now.nodes.items c.pop.new.self.items c.in-Some.node f.pushed now c.in-Some.ensures.items t.4) in
@@ -133,7 +133,7 @@ add_explained-requires-clause-prefix g c =
 pub add_explained-requires-clause-closed : goal.add_explained-requires-clause-closed
 add_explained-requires-clause-closed g c =
     let f = c.args.forward.now in
-    let now = world c.args.fuel.now.amount (g.B.Bound.state c.args.bound.now) (g.H.Shared.state c.args.shared.now) c.args.log.now in
+    let now = world c.args.fuel.now (g.B.Bound.state c.args.bound.now) (g.H.Shared.state c.args.shared.now) c.args.log.now in
     let t = c.requires.trying in
     let h = passed-by f.instance c.args.walk.now.level t.0 t.1 t.2 c.requires.ready.level c.pop.new.self.items c.in-Some.node c.pass_settled.new.node f.pushed now c.args.walk.now.recall.first t.3 c.pass_settled.ensures
     (trying-at f.instance c.args.walk.now.level t.0 t.1 t.2 c.args.walk.now.nodes.items c.pop.new.self.items c.in-Some.node f.pushed now c.in-Some.ensures.items t.4) in
@@ -143,7 +143,7 @@ add_explained-requires-clause-closed g c =
 pub pass_settled-requires-clause-asked : goal.pass_settled-requires-clause-asked
 pass_settled-requires-clause-asked g c =
     let f = c.args.forward.now in
-    let now = world c.args.fuel.now.amount (g.B.Bound.state c.args.bound.now) (g.H.Shared.state c.args.shared.now) c.args.log.now in
+    let now = world c.args.fuel.now (g.B.Bound.state c.args.bound.now) (g.H.Shared.state c.args.shared.now) c.args.log.now in
     let t = c.requires.trying in
     let h = trying-at f.instance c.args.walk.now.level t.0 t.1 t.2 c.args.walk.now.nodes.items c.pop.new.self.items c.in-Some.node f.pushed now c.in-Some.ensures.items t.4 in
     let inner = innermost f.instance c.args.walk.now.level t.0 t.1 t.2 c.pop.new.self.items c.in-Some.node f.pushed now h in
@@ -159,7 +159,7 @@ pass_settled-requires-clause-asked g c =
 pub pass_settled-requires-clause-within : goal.pass_settled-requires-clause-within
 pass_settled-requires-clause-within g c =
     let f = c.args.forward.now in
-    let now = world c.args.fuel.now.amount (g.B.Bound.state c.args.bound.now) (g.H.Shared.state c.args.shared.now) c.args.log.now in
+    let now = world c.args.fuel.now (g.B.Bound.state c.args.bound.now) (g.H.Shared.state c.args.shared.now) c.args.log.now in
     let t = c.requires.trying in
     let h = trying-at f.instance c.args.walk.now.level t.0 t.1 t.2 c.args.walk.now.nodes.items c.pop.new.self.items c.in-Some.node f.pushed now c.in-Some.ensures.items t.4 in
     let inner = innermost f.instance c.args.walk.now.level t.0 t.1 t.2 c.pop.new.self.items c.in-Some.node f.pushed now h in

@@ -21,18 +21,18 @@ returns-in-Decided-clause-visited g c = (refl, c.in-Decided.ensures.entry c.args
 pub conclude-requires-clause-alive : goal.conclude-requires-clause-alive
 conclude-requires-clause-alive g c =
     let ticked = c.in-Ticked.ensures.entry c.args.log.now in
-    let old = world c.args.fuel.now.amount (g.B.Bound.state c.args.bound.now) (g.H.Shared.state c.args.shared.now) c.args.log.now in
-    let now = world c.enter.new.fuel.amount (g.B.Bound.state c.enter.new.bound) (g.H.Shared.state c.enter.new.shared) c.args.log.now in
+    let old = world c.args.fuel.now (g.B.Bound.state c.args.bound.now) (g.H.Shared.state c.args.shared.now) c.args.log.now in
+    let now = world c.enter.new.fuel (g.B.Bound.state c.enter.new.bound) (g.H.Shared.state c.enter.new.shared) c.args.log.now in
     let judged = ticked-open c.args.forward.now.instance c.args.walk.now.level c.args.forward.now.pushed old now c.in-Ticked.target ticked in
     (c.in-Ticked.target, ticked.own, judged.0, judged.1)
 
 pub returns-in_err-found-clause-visited : goal.returns-in_err-found-clause-visited
 returns-in_err-found-clause-visited g c =
     let f = c.args.forward.now in
-    let old = world c.args.fuel.now.amount (g.B.Bound.state c.args.bound.now) (g.H.Shared.state c.args.shared.now) c.args.log.now in
-    let now = world c.enter.new.fuel.amount (g.B.Bound.state c.enter.new.bound) (g.H.Shared.state c.enter.new.shared) c.args.log.now in
+    let old = world c.args.fuel.now (g.B.Bound.state c.args.bound.now) (g.H.Shared.state c.args.shared.now) c.args.log.now in
+    let now = world c.enter.new.fuel (g.B.Bound.state c.enter.new.bound) (g.H.Shared.state c.enter.new.shared) c.args.log.now in
     let full = full-length f.instance f.pushed c.order-order.result.now c.pushed-depth.result.now (c.order-order.ensures ∙ ap work_order c.tables-tables.ensures) c.pushed-depth.ensures.literals (omega arith) in
-    visited-err f.instance c.args.walk.now.level f.pushed c.args.walk.now.nodes.items c.args.walk.now.nodes.items old (world c.enter.new.fuel.amount (g.B.Bound.state c.conclude.new.bound) (g.H.Shared.state c.enter.new.shared) c.conclude.new.log) c.from_residual.result c.from_residual.ensures.0
+    visited-err f.instance c.args.walk.now.level f.pushed c.args.walk.now.nodes.items c.args.walk.now.nodes.items old (world c.enter.new.fuel (g.B.Bound.state c.conclude.new.bound) (g.H.Shared.state c.enter.new.shared) c.conclude.new.log) c.from_residual.result c.from_residual.ensures.0
     (λ e. full-searched f.instance c.requires.ready.valid c.args.walk.now.level c.requires.ready.level f.pushed c.requires.prefix old now c.in-Ticked.target (c.in-Ticked.ensures.entry c.args.log.now)
     (prefix-is_partial f.instance f.pushed c.requires.prefix) full (g.B.Bound.state c.conclude.new.bound) c.conclude.new.log (Err e) c.in_err-found.ensures.concluded)
 
@@ -42,8 +42,8 @@ returns-then-depth-order-clause-ready g c = record { valid = c.requires.ready.va
 pub returns-then-depth-order-clause-visited : goal.returns-then-depth-order-clause-visited
 returns-then-depth-order-clause-visited g c =
     let f = c.args.forward.now in
-    let old = world c.args.fuel.now.amount (g.B.Bound.state c.args.bound.now) (g.H.Shared.state c.args.shared.now) c.args.log.now in
-    let now = world c.enter.new.fuel.amount (g.B.Bound.state c.enter.new.bound) (g.H.Shared.state c.enter.new.shared) c.args.log.now in
+    let old = world c.args.fuel.now (g.B.Bound.state c.args.bound.now) (g.H.Shared.state c.args.shared.now) c.args.log.now in
+    let now = world c.enter.new.fuel (g.B.Bound.state c.enter.new.bound) (g.H.Shared.state c.enter.new.shared) c.args.log.now in
     let full = full-length f.instance f.pushed c.order-order.result.now c.pushed-depth.result.now (c.order-order.ensures ∙ ap work_order c.tables-tables.ensures) c.pushed-depth.ensures.literals (omega arith) in (
       refl,
       full-searched f.instance c.requires.ready.valid c.args.walk.now.level c.requires.ready.level f.pushed c.requires.prefix old now c.in-Ticked.target (c.in-Ticked.ensures.entry c.args.log.now)
@@ -66,18 +66,18 @@ look_ahead-requires-clause-tag g c = (c.in-Ticked.ensures.entry c.args.log.now).
 pub returns-in_err-found-2-clause-visited : goal.returns-in_err-found-2-clause-visited
 returns-in_err-found-2-clause-visited g c =
     let f = c.args.forward.now in
-    let old = world c.args.fuel.now.amount (g.B.Bound.state c.args.bound.now) (g.H.Shared.state c.args.shared.now) c.args.log.now in
-    let now = world c.enter.new.fuel.amount (g.B.Bound.state c.enter.new.bound) (g.H.Shared.state c.enter.new.shared) c.args.log.now in
+    let old = world c.args.fuel.now (g.B.Bound.state c.args.bound.now) (g.H.Shared.state c.args.shared.now) c.args.log.now in
+    let now = world c.enter.new.fuel (g.B.Bound.state c.enter.new.bound) (g.H.Shared.state c.enter.new.shared) c.args.log.now in
     let same : c.look_ahead.new.log ≡ c.args.log.now = c.in_err-found-2.ensures.looks in
-    subst (λ (l : LogState). IsVisited f.instance c.args.walk.now.level f.pushed c.args.walk.now.nodes.items c.args.walk.now.nodes.items old (world c.enter.new.fuel.amount (g.B.Bound.state c.enter.new.bound) (g.H.Shared.state c.enter.new.shared) l) c.from_residual-in_err-found-2.result) (sym same)
+    subst (λ (l : LogState). IsVisited f.instance c.args.walk.now.level f.pushed c.args.walk.now.nodes.items c.args.walk.now.nodes.items old (world c.enter.new.fuel (g.B.Bound.state c.enter.new.bound) (g.H.Shared.state c.enter.new.shared) l) c.from_residual-in_err-found-2.result) (sym same)
     (visited-err f.instance c.args.walk.now.level f.pushed c.args.walk.now.nodes.items c.args.walk.now.nodes.items old now c.from_residual-in_err-found-2.result c.from_residual-in_err-found-2.ensures.0
     (λ e. tick-ends f.instance c.requires.ready.valid c.args.walk.now.level c.requires.ready.level f.pushed c.requires.prefix old now c.in-Ticked.target (c.in-Ticked.ensures.entry c.args.log.now) now (keeps-same f.instance now) refl refl (inl (c.in-Ticked.ensures.entry c.args.log.now).least) e))
 
 pub returns-in-Some-clause-visited : goal.returns-in-Some-clause-visited
 returns-in-Some-clause-visited g c =
     let f = c.args.forward.now in
-    let old = world c.args.fuel.now.amount (g.B.Bound.state c.args.bound.now) (g.H.Shared.state c.args.shared.now) c.args.log.now in
-    let now = world c.enter.new.fuel.amount (g.B.Bound.state c.enter.new.bound) (g.H.Shared.state c.enter.new.shared) c.args.log.now in
+    let old = world c.args.fuel.now (g.B.Bound.state c.args.bound.now) (g.H.Shared.state c.args.shared.now) c.args.log.now in
+    let now = world c.enter.new.fuel (g.B.Bound.state c.enter.new.bound) (g.H.Shared.state c.enter.new.shared) c.args.log.now in
     let next = next-at f.instance f.pushed c.order-order.result.now c.pushed-depth.result.now (c.order-order.ensures ∙ ap work_order c.tables-tables.ensures) c.pushed-depth.ensures.literals (omega arith) in (
       refl,
       ahead-found f.instance c.requires.ready.valid c.args.walk.now.level c.requires.ready.level f.pushed c.requires.prefix old now c.in-Ticked.target (c.in-Ticked.ensures.entry c.args.log.now)
@@ -88,23 +88,23 @@ returns-in-Some-clause-visited g c =
 pub returns-in_err-push-clause-visited : goal.returns-in_err-push-clause-visited
 returns-in_err-push-clause-visited g c =
     let f = c.args.forward.now in
-    let old = world c.args.fuel.now.amount (g.B.Bound.state c.args.bound.now) (g.H.Shared.state c.args.shared.now) c.args.log.now in
-    let now = world c.enter.new.fuel.amount (g.B.Bound.state c.enter.new.bound) (g.H.Shared.state c.enter.new.shared) c.args.log.now in
+    let old = world c.args.fuel.now (g.B.Bound.state c.args.bound.now) (g.H.Shared.state c.args.shared.now) c.args.log.now in
+    let now = world c.enter.new.fuel (g.B.Bound.state c.enter.new.bound) (g.H.Shared.state c.enter.new.shared) c.args.log.now in
     let same : c.look_ahead.new.log ≡ c.args.log.now = subst (λ o. LooksAhead {E = AllocError} f.instance f.pushed c.in-Ticked.target c.args.log.now c.look_ahead.new.log (Ok o)) c.in_default.is c.in_ok-found-2.ensures.looks in
-    subst (λ (l : LogState). IsVisited f.instance c.args.walk.now.level f.pushed c.args.walk.now.nodes.items c.push.new.self.items old (world c.enter.new.fuel.amount (g.B.Bound.state c.enter.new.bound) (g.H.Shared.state c.enter.new.shared) l) c.from_residual-in_err-push.result) (sym same)
+    subst (λ (l : LogState). IsVisited f.instance c.args.walk.now.level f.pushed c.args.walk.now.nodes.items c.push.new.self.items old (world c.enter.new.fuel (g.B.Bound.state c.enter.new.bound) (g.H.Shared.state c.enter.new.shared) l) c.from_residual-in_err-push.result) (sym same)
     (visited-err f.instance c.args.walk.now.level f.pushed c.args.walk.now.nodes.items c.push.new.self.items old now c.from_residual-in_err-push.result c.from_residual-in_err-push.ensures.0
     (λ e. tick-ends f.instance c.requires.ready.valid c.args.walk.now.level c.requires.ready.level f.pushed c.requires.prefix old now c.in-Ticked.target (c.in-Ticked.ensures.entry c.args.log.now) now (keeps-same f.instance now) refl refl (inl (c.in-Ticked.ensures.entry c.args.log.now).least) e))
 
 pub returns-clause-visited : goal.returns-clause-visited
 returns-clause-visited g c =
     let f = c.args.forward.now in
-    let old = world c.args.fuel.now.amount (g.B.Bound.state c.args.bound.now) (g.H.Shared.state c.args.shared.now) c.args.log.now in
-    let now = world c.enter.new.fuel.amount (g.B.Bound.state c.enter.new.bound) (g.H.Shared.state c.enter.new.shared) c.args.log.now in
+    let old = world c.args.fuel.now (g.B.Bound.state c.args.bound.now) (g.H.Shared.state c.args.shared.now) c.args.log.now in
+    let now = world c.enter.new.fuel (g.B.Bound.state c.enter.new.bound) (g.H.Shared.state c.enter.new.shared) c.args.log.now in
     let ticked = c.in-Ticked.ensures.entry c.args.log.now in
     let slice : c.as_slice.result.now ≡ f.instance.paths = c.as_slice.ensures ∙ ap (λ (i : Instance). i.paths) (c.instance.ensures.value ∙ c.tables-tables.ensures) in
     let within = path-within f.instance f.pushed c.order-order.result.now c.pushed-depth.result.now (c.order-order.ensures ∙ ap work_order c.tables-tables.ensures) c.pushed-depth.ensures.literals c.requires.prefix (omega arith) c.as_slice.result.now slice in
     let same : c.look_ahead.new.log ≡ c.args.log.now = subst (λ o. LooksAhead {E = AllocError} f.instance f.pushed c.in-Ticked.target c.args.log.now c.look_ahead.new.log (Ok o)) c.in_default.is c.in_ok-found-2.ensures.looks in
-    subst (λ (l : LogState). Opens f.instance c.args.walk.now.level f.pushed c.args.walk.now.nodes.items c.push.new.self.items old (world c.enter.new.fuel.amount (g.B.Bound.state c.enter.new.bound) (g.H.Shared.state c.enter.new.shared) l)) (sym same)
+    subst (λ (l : LogState). Opens f.instance c.args.walk.now.level f.pushed c.args.walk.now.nodes.items c.push.new.self.items old (world c.enter.new.fuel (g.B.Bound.state c.enter.new.bound) (g.H.Shared.state c.enter.new.shared) l)) (sym same)
     (record {
       node = record { tag = c.in-Ticked.target; path = get_or c.order-order.result.now (length c.pushed-depth.result.now) 0; choice = 0; count = c.choice_count-count.result; refs = c.new.result };
       added = c.in_ok-push.ensures.items;

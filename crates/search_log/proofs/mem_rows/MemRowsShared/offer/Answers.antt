@@ -7,5 +7,5 @@ returns-else-lits-gt8-clause-offered c = record {
   copied = refl;
   takes = refl;
   refusals = omega arith;
-  answers = ((refl, omega arith), (λ e. cc), (λ e. c.len.ensures ∙ sym (numbered-length c.args.self.now.rows)));
+  answers = ((refl, omega arith), (λ e. cc), (λ e. c.len.ensures ∙ sym (numbered-length c.args.self.now)));
 }
