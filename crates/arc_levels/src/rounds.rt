@@ -1,4 +1,5 @@
 ghost use Rattle.std.specs.Prelude.{◌≡◌, ◌<◌, ◌≤◌, false, length, slice_set, IfOk, OnOk};
+ghost use Rattle.fapp_model.specs.declared.limits.TheConstants.{MAX_PATH_CHOICES};
 ghost use Rattle.dead_laws.specs.ArcLaws.{IsArcs};
 ghost use Rattle.fapp_model.specs.declared.level.TheConstants.{MAX_LEVELS};
 ghost use Rattle.fapp_model.specs.Assignments.{count_at, path_at};
@@ -30,7 +31,7 @@ pub fn count(instance: &Instance, path: u16) -> u32
     requires instance { IsInstance instance.now }
     requires path { path < length instance.now.paths }
     ensures count { result ≡ count_at instance.now path }
-    ensures few { result ≤ 65536 }
+    ensures few { result ≤ MAX_PATH_CHOICES }
 {
     choice_count(path_at(instance, path))
 }

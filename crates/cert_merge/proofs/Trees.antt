@@ -14,6 +14,7 @@ use Rattle.merge_laws.specs.Levels.{all_longer, level_line, emit_level, emit_pre
 use Rattle.fapp_plan.specs.declared.steps.Step.{Step}
 use Rattle.merge_laws.specs.Stages.{Merged}
 use Rattle.cert_merge.specs.Growth.{AreOnPathsApart, AreStepsOf, AreWithSteps, IsStepOf, deepest, step_paths, with_out}
+use Rattle.fapp_model.specs.declared.limits.TheConstants.{MAX_PATH_CHOICES}
 
 -- ---- literals of different paths
 
@@ -77,7 +78,7 @@ tree-length instance t number (path ∷ paths) lists out =
 -- ---- one step
 
 abbrev IsFit : Instance → Step → Type 0
-IsFit instance step = IsStepOf instance step × (step.choices ≤ 65536)
+IsFit instance step = IsStepOf instance step × (step.choices ≤ MAX_PATH_CHOICES)
 
 pub step-head : (instance : Instance) (steps rest : List Step) (step : Step) → steps ≡ step ∷ rest → AreStepsOf instance steps → IsFit instance step × AreStepsOf instance rest
 step-head instance steps rest step is h =

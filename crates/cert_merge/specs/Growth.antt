@@ -15,6 +15,7 @@ use Rattle.merge_laws.specs.GoodLogs.{AreByRow}
 use Rattle.search_log.specs.GoodLogs.{all_lines, lines_of}
 use Rattle.merge_laws.specs.Levels.{all_longer}
 use Rattle.merge_laws.specs.Stages.{Merged, done_of}
+use Rattle.fapp_model.specs.declared.limits.TheConstants.{MAX_PATH_CHOICES}
 
 -- other lines, and the same numbers
 abbrev pub with_out : Merged → List Line → Merged
@@ -57,7 +58,7 @@ abbrev pub IsStepOf : Instance → Step → Type 0
 IsStepOf instance step = step.choices ≡ count_at instance step.path
 
 abbrev pub AreStepsOf : Instance → List Step → Type 0
-AreStepsOf instance steps = All (λ step. IsStepOf instance step × (step.choices ≤ 65536)) steps
+AreStepsOf instance steps = All (λ step. IsStepOf instance step × (step.choices ≤ MAX_PATH_CHOICES)) steps
 
 abbrev pub step_paths : List Step → List ℕ
 step_paths steps = map (λ step. step.path) steps

@@ -1,6 +1,7 @@
 // The lines of the lists of one length.
 ghost use Rattle.std.specs.Prelude.{◌≡◌, ◌+◌, ◌*◌, ◌<◌, ◌≤◌, length, map, All, IfOk, OnOk};
 ghost use Rattle.std.specs.List.{range_with_len};
+ghost use Rattle.fapp_model.specs.declared.limits.TheConstants.{MAX_PATH_CHOICES};
 ghost use Rattle.fapp_model.specs.declared.instance.Instance.{Instance as Network};
 ghost use Rattle.fapp_model.specs.declared.limits.TheConstants.{MAX_NUMBER};
 ghost use Rattle.merge_laws.specs.Levels.{level_line, emit_level};
@@ -14,7 +15,7 @@ use std::alloc::Global;
 
 /// Children for so many choices, which cite lines one after another, from one on.
 fn children_by(alloc: Global, choices: u32, next: u32) -> Result<Items<Child>, NoMemory>
-    requires choices { choices ≤ 65536 }
+    requires choices { choices ≤ MAX_PATH_CHOICES }
     requires next { next + choices ≤ MAX_NUMBER + 1 }
     ensures { IfOk result (λ children. children ≡ children_by choices next) }
 {
@@ -37,7 +38,7 @@ fn level_line(
     list: &[Literal],
 ) -> Result<Line, NoMemory>
     requires apart { AreOnPathsApart list.now }
-    requires choices { step.now.choices ≤ 65536 }
+    requires choices { step.now.choices ≤ MAX_PATH_CHOICES }
     requires next { next + step.now.choices ≤ MAX_NUMBER + 1 }
     ensures { (instance : Network) → IsStepOf instance step.now → IfOk result (λ line. line ≡ level_line instance tag step.now.path next list.now) }
 {
@@ -61,7 +62,7 @@ impl Certificate {
         lists: &[Items<Literal>],
     ) -> Result<(), NoMemory>
         requires apart { All AreOnPathsApart lists.now }
-        requires choices { step.now.choices ≤ 65536 }
+        requires choices { step.now.choices ≤ MAX_PATH_CHOICES }
         requires numbers { first + length lists.now * step.now.choices ≤ MAX_NUMBER + 1 }
         ensures { (instance : Network) → IsStepOf instance step.now → OnOk result (self.new ≡ with_out self.old
             (emit_level instance tag step.now.path first lists.now self.old.out)) }

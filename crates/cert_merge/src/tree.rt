@@ -1,5 +1,6 @@
 // The lines of the plan's tree, the longest lists first.
 ghost use Rattle.std.specs.Prelude.{◌≡◌, ◌≤◌, [], ◌∷◌, ◌++◌, length, map, flat_map, All, IfOk, OnOk};
+ghost use Rattle.fapp_model.specs.declared.limits.TheConstants.{MAX_PATH_CHOICES};
 ghost use Rattle.fapp_model.specs.declared.instance.Instance.{Instance as Network};
 ghost use Rattle.fapp_model.specs.search.Jobs.{job_count, prefixes};
 ghost use Rattle.merge_laws.specs.Levels.{emit_tree, longer};
@@ -32,7 +33,7 @@ fn push_longer(
     list: &[Literal],
     step: &Step,
 ) -> Result<(), NoMemory>
-    requires { step.now.choices ≤ 65536 }
+    requires { step.now.choices ≤ MAX_PATH_CHOICES }
     ensures { (instance : Network) → IsStepOf instance step.now → OnOk result (lists.new.items ≡ lists.old.items ++ longer instance step.now.path list.now) }
 {
     for index in 0..step.choices {
@@ -51,7 +52,7 @@ fn longer(
     lists: &[Items<Literal>],
     step: &Step,
 ) -> Result<Vec<Items<Literal>>, NoMemory>
-    requires { step.now.choices ≤ 65536 }
+    requires { step.now.choices ≤ MAX_PATH_CHOICES }
     ensures { (instance : Network) → IsStepOf instance step.now → IfOk result (λ more. more.items ≡ flat_map (longer instance step.now.path) lists.now) }
 {
     let mut more = Vec::new(alloc);

@@ -26,6 +26,7 @@ use Rattle.choice_counts.specs.Counts.{clash_pairs, clash_part, hard_of, outside
 use Rattle.choice_counts.proofs.Clash.{any_zero, flag, flag_most, itself_none}
 use Rattle.choice_counts.proofs.OneMore.{added_more, inside_more, one_pushed}
 use Rattle.choice_counts.proofs.OpenSums.{range_sum_more}
+use Rattle.fapp_model.specs.declared.level.TheConstants.{MAX_LEVELS, MOST_FURTHER}
 
 -- ---- no two literals of one path
 
@@ -217,24 +218,24 @@ one_most : (b : Bool) → cond b 1 0 ≤ 1
 one_most true = omega arith
 one_most false = omega arith
 
-pub coded_most : (level : ℕ) → level ≤ 11 → (r : Record) (x y : Choice) → coded_part level r x y ≤ S_SPAN + 10
+pub coded_most : (level : ℕ) → level ≤ MAX_LEVELS → (r : Record) (x y : Choice) → coded_part level r x y ≤ S_SPAN + MOST_FURTHER
 coded_most level within r x y =
     let before = one_most (is_bad (level - 1) r x y) in
     let further = count_by-le-length (λ m. is_bad m r x y) (range_with_len 0 (level - 1)) in
     omega (arith, length-range_with_len 0 (level - 1))
 
-pub further_most : (level : ℕ) → level ≤ 11 → (r : Record) (x y : Choice) → bad_further level r x y ≤ 10
+pub further_most : (level : ℕ) → level ≤ MAX_LEVELS → (r : Record) (x y : Choice) → bad_further level r x y ≤ MOST_FURTHER
 further_most level within r x y = omega (arith, count_by-le-length (λ m. is_bad m r x y) (range_with_len 0 (level - 1)), length-range_with_len 0 (level - 1))
 
 outside_most : (b : Bool) → cond b 0 1 ≤ 1
 outside_most true = omega arith
 outside_most false = omega arith
 
-module _ (instance : Instance) (valid : IsInstance instance) (level : ℕ) (within : level ≤ 11) where
+module _ (instance : Instance) (valid : IsInstance instance) (level : ℕ) (within : level ≤ MAX_LEVELS) where
   -- what a choice adds is below what a clash counts
   pub sum_small : (literals : List Literal) → AreDistinct literals → (a : Literal) → added instance (coded_part level) literals a < HARD
   sum_small literals distinct a =
-      let most = added_most (coded_part level) (S_SPAN + 10) (coded_most level within) instance valid literals distinct a in
+      let most = added_most (coded_part level) (S_SPAN + MOST_FURTHER) (coded_most level within) instance valid literals distinct a in
       omega (arith, most, valid.few_records)
 
   pub further_small : (literals : List Literal) → AreDistinct literals → (a : Literal) → added instance (bad_further level) literals a < S_SPAN
@@ -244,7 +245,7 @@ module _ (instance : Instance) (valid : IsInstance instance) (level : ℕ) (with
 
   pub inside_small : (literals : List Literal) → AreDistinct literals → inside instance (coded_part level) literals < HARD
   inside_small literals distinct =
-      let most = inside_total (coded_part level) (S_SPAN + 10) (coded_most level within) instance literals distinct in
+      let most = inside_total (coded_part level) (S_SPAN + MOST_FURTHER) (coded_most level within) instance literals distinct in
       omega (arith, most, valid.few_records)
 
   clash_most : (literals : List Literal) (a : Literal) → sum_by (clash_part instance level a) literals ≤ length literals * 1

@@ -27,6 +27,7 @@ use Rattle.choice_counts.proofs.Bounds.{further_small}
 use Rattle.choice_counts.proofs.Clash.{flag, flag_zero}
 use Rattle.choice_counts.proofs.Coded.{code, inside_code, same-pair, sum_by-code}
 use Rattle.choice_counts.proofs.Remaining.{away_zero, inside-kept, kept-inside, least-found, some-left, zero_away}
+use Rattle.fapp_model.specs.declared.level.TheConstants.{MAX_LEVELS}
 
 -- the pair that a number stands for
 abbrev pub pair_from : ℕ → Pair
@@ -92,7 +93,7 @@ module _ (instance : Instance) (level : ℕ) (arc : Literal → Bool) (arcs : Is
   abbrev pub least_sum : ℕ
   least_sum = over_open instance literals (λ path. least_part (least_tally path))
 
-  module _ (valid : IsInstance instance) (within : level ≤ 11) (partial : IsPartial instance literals) where
+  module _ (valid : IsInstance instance) (within : level ≤ MAX_LEVELS) (partial : IsPartial instance literals) where
     pub loose-low : stuck_paths ≡ 0 → (path : ℕ) → path < length instance.paths → names literals path ≡ false → least_tally path < HARD
     loose-low none path below free =
         let each = none-sum_by (λ p. cond (names literals p) 0 (stuck_part (least_tally p))) (range_with_len 0 (length instance.paths)) none in

@@ -29,6 +29,7 @@ use Rattle.choice_counts.proofs.Coded.{added_code}
 use Rattle.choice_counts.proofs.Remaining.{kept-inside, tally-sum}
 use Rattle.choice_counts.proofs.RowMoves.{row_is}
 use Rattle.choice_counts.proofs.Slots.{named}
+use Rattle.fapp_model.specs.declared.level.TheConstants.{MAX_LEVELS}
 
 -- ---- calm
 
@@ -63,7 +64,7 @@ twice_inside instance measure literals =
     let swap = sum_by-swap (λ a b. between instance measure b a) literals literals in
     omega (arith, each, parts, swap)
 
-module _ (instance : Instance) (level : ℕ) (arc : Literal → Bool) (arcs : IsArcs instance level arc) (valid : IsInstance instance) (within : level ≤ 11) (literals : List Literal) (partial : IsPartial instance literals) where
+module _ (instance : Instance) (level : ℕ) (arc : Literal → Bool) (arcs : IsArcs instance level arc) (valid : IsInstance instance) (within : level ≤ MAX_LEVELS) (literals : List Literal) (partial : IsPartial instance literals) where
   -- where the literals are calm, their tallies come to twice their sum
   pub tallies_inside : IsCalm instance level literals → sum_by (tally_of instance level arc literals) literals ≡ inside instance (coded_part level) literals * 2
   tallies_inside calm =
@@ -75,7 +76,7 @@ module _ (instance : Instance) (level : ℕ) (arc : Literal → Bool) (arcs : Is
 
 -- ---- by what is kept
 
-module _ (instance : Instance) (valid : IsInstance instance) (level : ℕ) (within : level ≤ 11) (literals : List Literal) (partial : IsPartial instance literals) (slots : List (Option ℕ)) (rows : List PathTallies) (totals : Totals)
+module _ (instance : Instance) (valid : IsInstance instance) (level : ℕ) (within : level ≤ MAX_LEVELS) (literals : List Literal) (partial : IsPartial instance literals) (slots : List (Option ℕ)) (rows : List PathTallies) (totals : Totals)
     (kept : AreKept instance level literals slots rows totals) where
   open_is : (f : ℕ → ℕ) → open_sum f slots rows ≡ over_open instance literals (λ p. f (least_of_tallies (tallies_of instance level kept.arc literals p)))
   open_is f =

@@ -30,6 +30,7 @@ use Rattle.choice_counts.proofs.Bounds.{further_most, open_part, total_most}
 use Rattle.choice_counts.proofs.Calm.{one_bound}
 use Rattle.choice_counts.proofs.Coded.{at_most-code, code-at_most}
 use Rattle.choice_counts.proofs.Remaining.{inside-kept}
+use Rattle.fapp_model.specs.declared.level.TheConstants.{MAX_LEVELS}
 
 -- ---- calm or dead
 
@@ -75,7 +76,7 @@ module _ (instance : Instance) (t : Triple) (literals : List Literal) (valid : I
 
 -- ---- the second part of the sum is small
 
-module _ (instance : Instance) (level : ℕ) (valid : IsInstance instance) (within : level ≤ 11) (literals : List Literal) (partial : IsPartial instance literals) (fewest : ℕ → Pair)
+module _ (instance : Instance) (level : ℕ) (valid : IsInstance instance) (within : level ≤ MAX_LEVELS) (literals : List Literal) (partial : IsPartial instance literals) (fewest : ℕ → Pair)
     (each : (path : ℕ) → path < length instance.paths → names literals path ≡ false → IsLeastAt instance level literals path (fewest path)) where
   abbrev choose : (path : ℕ) (b : Bool) → names literals path ≡ b → (path < length instance.paths) ⊎ (length instance.paths ≤ path) → ℕ
   choose path true e r = 0
@@ -107,7 +108,7 @@ fits_of : (levels : ℕ) (t : Triple) → TagShape levels t → t.s < S_SPAN
 fits_of levels t (limited some level small v s) = s
 fits_of levels t (plain v s small) = omega arith
 
-module _ (instance : Instance) (t : Triple) (literals : List Literal) (valid : IsInstance instance) (tag : IsTagOf instance t) (within : mode_level t ≤ 11) (partial : IsPartial instance literals) (n : ℕ)
+module _ (instance : Instance) (t : Triple) (literals : List Literal) (valid : IsInstance instance) (tag : IsTagOf instance t) (within : mode_level t ≤ MAX_LEVELS) (partial : IsPartial instance literals) (n : ℕ)
     (calm : IsCalm instance (mode_level t) literals) (bound : IsCountedSum instance (mode_level t) literals n) where
   fits : t.s < S_SPAN
   fits = fits_of (levels_of instance) t (shape_of instance t tag)
@@ -140,7 +141,7 @@ mode_few instance t tag = by_shape (shape_of instance t tag)
     by_shape (limited some level small v s) = omega (arith, mode-limited t some)
     by_shape (plain v s small) = omega (arith, mode-plain t v)
 
-pub level_few : (instance : Instance) (level : ℕ) → level ≤ levels_of instance → level ≤ 11
+pub level_few : (instance : Instance) (level : ℕ) → level ≤ levels_of instance → level ≤ MAX_LEVELS
 level_few instance level within = let few = levels-few instance in omega (arith, few.1)
 
 pub alive_is_calm : AliveIsCalm

@@ -27,12 +27,13 @@ use Rattle.choice_counts.proofs.OneMore.{IsOneMore, added_more, clashes_more, ha
 use Rattle.choice_counts.proofs.Remaining.{tally-high, tally-low}
 use Rattle.choice_counts.proofs.RowMoves.{can_add, can_take_back, rows_are, rows_back, rows_taken, tally_is}
 use Rattle.choice_counts.proofs.Slots.{blanks, named, one_dropped, open_none, partial_drop, slots_drop, slots_none, slots_push}
+use Rattle.fapp_model.specs.declared.level.TheConstants.{MAX_LEVELS}
 
 -- the tally of a literal's choice in its own row
 abbrev pub own_tally : List PathTallies → Literal → ℕ
 own_tally rows a = tally_at (tallies_at rows a.path).tallies a.choice
 
-module _ (instance : Instance) (valid : IsInstance instance) (level : ℕ) (within : level ≤ 11) (literals : List Literal) (partial : IsPartial instance literals) (slots : List (Option ℕ)) (rows : List PathTallies) (totals : Totals)
+module _ (instance : Instance) (valid : IsInstance instance) (level : ℕ) (within : level ≤ MAX_LEVELS) (literals : List Literal) (partial : IsPartial instance literals) (slots : List (Option ℕ)) (rows : List PathTallies) (totals : Totals)
     (kept : AreKept instance level literals slots rows totals) (a : Literal) (home : IsLiteral instance a) where
   pub kept_rows : AreRows instance rows
   kept_rows = subst (AreRows instance) (sym kept.counted.rows_are) (rows_are instance level kept.arc literals)

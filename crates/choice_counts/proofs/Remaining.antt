@@ -24,6 +24,7 @@ use Rattle.choice_counts.proofs.Clash.{any_zero, flag, flag_zero, zero_any}
 use Rattle.choice_counts.proofs.Coded.{added_code, at_most-code, code-at_most}
 use Rattle.choice_counts.proofs.Least.{Reached, least_below, least_reached}
 use Rattle.choice_counts.proofs.RowMoves.{tally_in, tally_count}
+use Rattle.fapp_model.specs.declared.level.TheConstants.{MAX_LEVELS}
 
 abbrev pub away : Bool → ℕ
 away b = cond b 0 1
@@ -60,7 +61,7 @@ module _ (instance : Instance) (level : ℕ) (arc : Literal → Bool) (arcs : Is
       let none = any_zero (clash_part instance level a) (clashes instance level a) (λ b e. ap flag e) literals r.free in
       omega (arith, away, none)
 
-  module _ (valid : IsInstance instance) (within : level ≤ 11) (literals : List Literal) (partial : IsPartial instance literals) where
+  module _ (valid : IsInstance instance) (within : level ≤ MAX_LEVELS) (literals : List Literal) (partial : IsPartial instance literals) where
     small : (a : Literal) → added instance (coded_part level) literals a < HARD
     small a = omega (arith, sum_small instance valid level within literals partial.distinct a)
 

@@ -18,6 +18,7 @@ use Rattle.choice_counts.specs.Tallies.{least_of_tallies, no_tallies, tallies_at
 use Rattle.choice_counts.proofs.Bounds.{tally_small}
 use Rattle.choice_counts.proofs.Clash.{none_apart, pair_turned}
 use Rattle.choice_counts.proofs.OneMore.{IsOneMore, tally_more}
+use Rattle.fapp_model.specs.declared.level.TheConstants.{MAX_LEVELS}
 
 map_same : {X : Type 0} (f g : ℕ → X) (n : ℕ) (d : X) → ((k : ℕ) → k < n → f k ≡ g k) → map f (range_with_len 0 n) ≡ map g (range_with_len 0 n)
 map_same f g n d same =
@@ -95,7 +96,7 @@ module _ (instance : Instance) (level : ℕ) (arc : Literal → Bool) where
         let small : index < count_at instance other = omega (arith, ap (λ (r : PathTallies). length r.tallies) (row_is more other below), tally_count more other) in
         omega (arith, tally_is more other index below small, tally_more instance less more now one level arc (literal other index))
 
-  pub can_add : IsInstance instance → level ≤ 11 → (literals : List Literal) → IsPartial instance literals → (now : Literal) → CanMoveAll false instance level now (rows_of instance level arc literals)
+  pub can_add : IsInstance instance → level ≤ MAX_LEVELS → (literals : List Literal) → IsPartial instance literals → (now : Literal) → CanMoveAll false instance level now (rows_of instance level arc literals)
   can_add valid within literals partial now other below index inside =
       let small : index < count_at instance other = omega (arith, ap (λ (r : PathTallies). length r.tallies) (row_is literals other below), tally_count literals other) in
       omega (arith, tally_is literals other index below small, tally_small instance valid level within arc literals partial (literal other index))

@@ -18,7 +18,7 @@ use std::marker::Model;
 const MOST_CELLS: usize = 32;
 
 /// So many cells for each record, and one more, are enough: a record has at most as many distances.
-const RECORD_CELLS: usize = 11;
+const RECORD_CELLS: usize = MAX_LEVELS as usize;
 
 /// The links of a path, one for each of its neighbours. Contracts see the list.
 #[derive(Debug, Drop)]

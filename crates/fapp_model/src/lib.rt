@@ -19,10 +19,11 @@ pub use counts::{ViolationCounts, add_violations, triple_of_counts};
 pub use instance::{Instance, Path};
 pub use items::Items;
 pub use laws::{codes_follow_tags, limits_are, literals_are_partial, one_work_order};
-pub use level::{LEVELS, MAX_LEVELS, levels};
+pub use level::{LEVELS, MAX_LEVELS, MOST_FURTHER, levels};
 pub use limits::{
-    MAX_CHOICES, MAX_DEPTH, MAX_DOMAIN_FREQUENCIES, MAX_DOMAIN_RECORDS, MAX_NUMBER, MAX_PATHS,
-    MAX_RECORDS, MAX_TEXT, S_SPAN, V_SPAN,
+    MAX_CHOICES, MAX_DEPTH, MAX_DOMAIN_FREQUENCIES, MAX_DOMAIN_RECORDS, MAX_FUEL, MAX_MADE_PATHS,
+    MAX_NUMBER, MAX_PATH_CHOICES, MAX_PATHS, MAX_POOL, MAX_RECORDS, MAX_SPLIT, MAX_TEXT,
+    MAX_WORKERS, S_SPAN, V_SPAN,
 };
 pub use literal::Literal;
 pub use record::Record;

@@ -27,3 +27,21 @@ pub const V_SPAN: u32 = 1 << 26;
 
 /// One more than the greatest sum of violations that a tag can name.
 pub const S_SPAN: u32 = 1 << 26;
+
+/// The most choices of a path.
+pub const MAX_PATH_CHOICES: u32 = 65_536;
+
+/// The most workers that search or judge side by side.
+pub const MAX_WORKERS: u32 = 32;
+
+/// The most ticks of a job.
+pub const MAX_FUEL: u32 = 1_000_000;
+
+/// The most prefixes that a search is split into.
+pub const MAX_SPLIT: u32 = 4096;
+
+/// The most rows of the pool of nogoods.
+pub const MAX_POOL: u32 = 65_536;
+
+/// The most paths of a made network.
+pub const MAX_MADE_PATHS: u32 = 2000;

@@ -16,6 +16,7 @@ use Rattle.tries_laws.proofs.ListPlaces.{list_at_place, some_ways}
 use Rattle.fapp_plan.specs.declared.steps.Step.{Step}
 use Rattle.fapp_plan.specs.NamedPaths.{steps_along}
 use Rattle.fapp_plan.proofs.Depths.{ways-from}
+use Rattle.fapp_model.specs.declared.limits.TheConstants.{MAX_PATH_CHOICES}
 
 abbrev pub list_at : Instance → List ℕ → ℕ → List Literal
 list_at instance paths place = get_or (choice_lists instance paths) place []
@@ -25,10 +26,10 @@ pub record IsReached (instance : Instance) (paths : List ℕ) (place n rest : �
   pub below : rest < ways instance (drop n paths)
   pub whole : literals ++ list_at instance (drop n paths) rest ≡ list_at instance paths place
 
-count-few : (instance : Instance) → IsInstance instance → (path : ℕ) → path < length instance.paths → count_at instance path ≤ 65536
+count-few : (instance : Instance) → IsInstance instance → (path : ℕ) → path < length instance.paths → count_at instance path ≤ MAX_PATH_CHOICES
 count-few instance valid path l = few_choices (path_at instance path) (valid.paths path no_path l)
   where
-    few_choices : (path : Path) → IsPath path → length (choices path) ≤ 65536
+    few_choices : (path : Path) → IsPath path → length (choices path) ≤ MAX_PATH_CHOICES
     few_choices path h = ⊎_elim
         (λ e. omega (arith, fixed_count path (inl e), h.few))
         (λ u. ⊎_elim
@@ -38,10 +39,10 @@ count-few instance valid path l = few_choices (path_at instance path) (valid.pat
         h.polarization
 
 -- steps have few choices
-pub steps-few : (instance : Instance) → IsInstance instance → (paths : List ℕ) → All (λ path. path < length instance.paths) paths → All (λ (step : Step). step.choices ≤ 65536) (steps_along instance paths)
-steps-few instance valid [] h = All-nil (λ (step : Step). step.choices ≤ 65536)
+pub steps-few : (instance : Instance) → IsInstance instance → (paths : List ℕ) → All (λ path. path < length instance.paths) paths → All (λ (step : Step). step.choices ≤ MAX_PATH_CHOICES) (steps_along instance paths)
+steps-few instance valid [] h = All-nil (λ (step : Step). step.choices ≤ MAX_PATH_CHOICES)
 steps-few instance valid (path ∷ paths) h =
-    All-cons (λ (step : Step). step.choices ≤ 65536) _ (steps_along instance paths)
+    All-cons (λ (step : Step). step.choices ≤ MAX_PATH_CHOICES) _ (steps_along instance paths)
     (count-few instance valid path (All-head (λ p. p < length instance.paths) path paths h))
     (steps-few instance valid paths (All-tail (λ p. p < length instance.paths) path paths h))
 

@@ -1,5 +1,6 @@
 // The plan of jobs: each level on each prefix.
 ghost use Rattle.std.specs.Prelude.{◌≡◌, ◌<◌, ◌≤◌, [], length, slice_index_or, All, IfOk};
+ghost use Rattle.fapp_model.specs.declared.limits.TheConstants.{MAX_PATH_CHOICES, MAX_SPLIT};
 ghost use Rattle.fapp_model.specs.Instances.{IsInstance};
 ghost use Rattle.fapp_model.specs.search.Jobs.{depth, job_count, job_level, job_prefix, prefixes};
 ghost use Rattle.fapp_plan.specs.Plans.{split_of};
@@ -39,7 +40,7 @@ impl<'a> Plan<'a> {
     /// Splits the work over an instance into at most so many prefixes, from 1 to 4,096.
     pub fn new(alloc: Global, tables: &Tables<'a>, split: u32) -> Result<Plan<'a>, NoMemory>
         requires some { 1 ≤ split }
-        requires few { split ≤ 4096 }
+        requires few { split ≤ MAX_SPLIT }
         ensures { IfOk result (λ plan. plan ≡ split_of tables.now split) }
     {
         let instance = tables.instance();
@@ -65,7 +66,7 @@ impl<'a> Plan<'a> {
     /// The paths that the prefixes name, in the work order.
     pub fn steps(&self) -> &[Step]
         ensures value { result.now ≡ steps_along self.now.instance (prefix_paths self.now.instance self.now.split) }
-        ensures few { All (λ step. step.choices ≤ 65536) result.now }
+        ensures few { All (λ step. step.choices ≤ MAX_PATH_CHOICES) result.now }
     {
         self.steps.as_slice()
     }
@@ -81,7 +82,7 @@ impl<'a> Plan<'a> {
     pub fn prefix_count(&self) -> u32
         ensures count { result ≡ length (prefixes self.now.instance self.now.split) }
         ensures some { 0 < result }
-        ensures few { result ≤ 4096 }
+        ensures few { result ≤ MAX_SPLIT }
     {
         self.prefixes
     }

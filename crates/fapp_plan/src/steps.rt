@@ -1,5 +1,6 @@
 // The paths that every job's prefix names.
 ghost use Rattle.std.specs.Prelude.{◌≡◌, ◌<◌, ◌≤◌, length, take, All, IfOk};
+ghost use Rattle.fapp_model.specs.declared.limits.TheConstants.{MAX_PATH_CHOICES, MAX_SPLIT};
 ghost use Rattle.fapp_model.specs.Assignments.{count_at};
 ghost use Rattle.fapp_model.specs.Instances.{IsInstance};
 ghost use Rattle.fapp_model.specs.search.Jobs.{depth, ways};
@@ -33,7 +34,7 @@ pub fn reach_of(instance: &Instance, order: &[u16], split: u32) -> Reach
     requires instance { IsInstance instance.now }
     requires order { order.now ≡ work_order instance.now }
     requires some { 1 ≤ split }
-    requires few { split ≤ 4096 }
+    requires few { split ≤ MAX_SPLIT }
     ensures depth { result.depth ≡ depth instance.now split }
     ensures ways { result.ways ≡ ways instance.now (take (depth instance.now split) (work_order instance.now)) }
 {
@@ -55,7 +56,7 @@ fn choices_of(instance: &Instance, path: u16) -> u32
     requires path { path < length instance.now.paths }
     ensures count { result ≡ count_at instance.now path }
     ensures some { 0 < result }
-    ensures few { result ≤ 65536 }
+    ensures few { result ≤ MAX_PATH_CHOICES }
 {
     choice_count(&instance.paths.as_slice()[path as usize])
 }

@@ -1,6 +1,8 @@
 -- What is answered to the bytes of an input that is to be solved.
 use Rattle.std.specs.Prelude.{◌≡◌, ℕ, ◌+◌, ◌<◌, ◌≤◌, List, length, unwrap_or, IfSome, Ok, Err}
 use Rattle.fapp_model.specs.declared.instance.Instance.{Instance}
+use Rattle.fapp_model.specs.declared.limits.TheConstants.{MAX_FUEL, MAX_POOL, MAX_SPLIT, MAX_WORKERS}
+use Rattle.fapp_words.specs.declared.options.TheConstants.{MAX_VERSION}
 use Rattle.record_reader.specs.Texts.{instance_of_text}
 use Rattle.cert_lines.specs.declared.answer.Answer.{Answer}
 use Rattle.cert_lines.specs.declared.answer.Verdict.{Verdict}
@@ -19,13 +21,13 @@ use Rattle.fapp_run.specs.Versions.{IsWrittenIn}
 -- options in their ranges
 pub record AreOptions (options : SolveOptions) : Type 0 where
   pub some_workers : 1 ≤ options.workers
-  pub few_workers : options.workers ≤ 32
-  pub fuel : IfSome options.fuel (λ fuel. fuel ≤ 1000000)
+  pub few_workers : options.workers ≤ MAX_WORKERS
+  pub fuel : IfSome options.fuel (λ fuel. fuel ≤ MAX_FUEL)
   pub some_prefixes : 1 ≤ options.split
-  pub few_prefixes : options.split ≤ 4096
-  pub rows : options.pool ≤ 65536
+  pub few_prefixes : options.split ≤ MAX_SPLIT
+  pub rows : options.pool ≤ MAX_POOL
   pub some_version : 1 ≤ options.cert
-  pub few_versions : options.cert ≤ 2
+  pub few_versions : options.cert ≤ MAX_VERSION
 
 -- the fuel of each job: what is named, else 1,000 and the number of paths
 abbrev pub fuel_of : SolveOptions → Instance → ℕ

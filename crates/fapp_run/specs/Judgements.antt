@@ -1,5 +1,6 @@
 -- What is answered to the bytes of the input of a check.
 use Rattle.std.specs.Prelude.{◌≡◌, ℕ, ◌<◌, ◌≤◌, ◌+◌, List, length, Option, Some, None, Ok, Err}
+use Rattle.fapp_model.specs.declared.limits.TheConstants.{MAX_WORKERS}
 use Rattle.fapp_model.specs.declared.instance.Instance.{Instance}
 use Rattle.fapp_text.specs.Reading.{fault}
 use Rattle.record_reader.specs.Texts.{instance_of_text}
@@ -19,7 +20,7 @@ use Rattle.fapp_run.specs.Halves.{Halves, halves}
 -- options in their ranges
 pub record AreCheckOptions (options : CheckOptions) : Type 0 where
   pub some_workers : 1 ≤ options.workers
-  pub few_workers : options.workers ≤ 32
+  pub few_workers : options.workers ≤ MAX_WORKERS
 
 -- an answer that was read: it is accepted, with its verdict, or this is its first fault
 abbrev pub IsJudgedAnswer : Instance → Answer → Status → List ℕ → Type 0

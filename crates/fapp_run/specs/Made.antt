@@ -1,6 +1,9 @@
 -- What is answered where the network is made from a seed.
 use Rattle.std.specs.Prelude.{◌≡◌, ℕ, ◌≤◌, List, Some, false, Ok}
 use Rattle.fapp_model.specs.declared.instance.Instance.{Instance}
+use Rattle.fapp_model.specs.declared.limits.TheConstants.{MAX_MADE_PATHS, MAX_NUMBER}
+use Rattle.fapp_words.specs.declared.options.TheConstants.{DEFAULT_POOL, DEFAULT_SPLIT, DEFAULT_WORKERS}
+use Rattle.fapp_run.specs.declared.made.TheConstants.{DEMO_FUEL}
 use Rattle.record_reader.specs.Texts.{instance_of_text}
 use Rattle.cert_lines.specs.declared.answer.Answer.{Answer}
 use Rattle.cert_lines.specs.Spelling.{verdict_text}
@@ -15,9 +18,9 @@ use Rattle.fapp_run.specs.Solving.{IsAnswerFor}
 
 -- a seed in its ranges
 pub record AreSeed (seed : Seed) : Type 0 where
-  pub number : seed.number ≤ 1000000000
+  pub number : seed.number ≤ MAX_NUMBER
   pub some_paths : 2 ≤ seed.paths
-  pub few_paths : seed.paths ≤ 2000
+  pub few_paths : seed.paths ≤ MAX_MADE_PATHS
 
 -- a request in its ranges
 abbrev pub AreRequested : Request → Type 0
@@ -28,12 +31,12 @@ AreRequested (Demo seed) = AreSeed seed
 
 -- how a made network is solved
 abbrev pub demo_options : SolveOptions
-demo_options = record { workers = 4; fuel = Some 40000; split = 64; pool = 4096; cert = 1; answer_only = false }
+demo_options = record { workers = DEFAULT_WORKERS; fuel = Some DEMO_FUEL; split = DEFAULT_SPLIT; pool = DEFAULT_POOL; cert = 1; answer_only = false }
 
 -- an answer to an instance, of which the verdict is written
 pub record IsDemonstrated (instance : Instance) (status : Status) (text : List ℕ) : Type 0 where
   pub answer : Answer
-  pub answers : IsAnswerFor instance 64 40000 answer
+  pub answers : IsAnswerFor instance DEFAULT_SPLIT DEMO_FUEL answer
   pub status_is : status ≡ status_of answer.verdict
   pub text_is : text ≡ verdict_text answer.verdict
 

@@ -13,6 +13,8 @@ use Rattle.answer_writer.specs.declared.status.Status.{Status}
 use Rattle.answer_writer.specs.declared.status.Status.TheVariants.{Best, NoneFeasible, Open, Accepted, Written, WriteFault, NoMemory}
 use Rattle.fapp_gen.specs.Generated.{network_text}
 use Rattle.fapp_plan.specs.Plans.{split_of}
+use Rattle.fapp_words.specs.declared.options.TheConstants.{DEFAULT_SPLIT}
+use Rattle.fapp_run.specs.declared.made.TheConstants.{DEMO_FUEL}
 use Rattle.fapp_words.specs.declared.options.CheckOptions.{CheckOptions}
 use Rattle.fapp_words.specs.declared.options.SolveOptions.{SolveOptions}
 use Rattle.fapp_words.specs.declared.request.Request.TheVariants as requests
@@ -82,7 +84,7 @@ abbrev pub CompletesDemo : List (String Global) → SinkMoment → SinkMoment �
 CompletesDemo words sink sink' status = (seed : Seed) → Names words (requests.Demo seed) → (Rose sink.faults sink'.faults → ⊥)
     → IsAnswer status
     × ((instance : Instance) → instance_of_text (network_text seed.number seed.paths) ≡ Ok instance
-    → IsEnough (split_of instance 64) 40000 → status ≢ Open)
+    → IsEnough (split_of instance DEFAULT_SPLIT) DEMO_FUEL → status ≢ Open)
 
 -- where a source that tells its bytes was read and the status is Accepted, what the answer in them claims is so
 abbrev pub ProvesAccepted : SourceMoment → Status → Type 0

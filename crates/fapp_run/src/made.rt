@@ -11,11 +11,14 @@ use cert_lines::verdict_text;
 use fapp_gen::generate;
 use fapp_io::NoMemory;
 use fapp_model::Instance;
-use fapp_words::{Seed, SolveOptions};
+use fapp_words::{DEFAULT_POOL, DEFAULT_SPLIT, DEFAULT_WORKERS, Seed, SolveOptions};
 use fapp_workers::Gate;
 use record_reader::{ReadError, read_instance};
 use std::alloc::Global;
 use std::thread::Threads;
+
+/// The fuel of each job for a made network.
+pub const DEMO_FUEL: u32 = 40_000;
 
 /// The text of the network that a seed makes.
 pub fn generated(alloc: Global, seed: Seed) -> Result<Reply, NoMemory>
@@ -54,10 +57,10 @@ fn demo_options() -> SolveOptions
     ensures { result ≡ demo_options }
 {
     SolveOptions {
-        workers: 4,
-        fuel: Some(40_000),
-        split: 64,
-        pool: 4096,
+        workers: DEFAULT_WORKERS,
+        fuel: Some(DEMO_FUEL),
+        split: DEFAULT_SPLIT,
+        pool: DEFAULT_POOL,
         cert: 1,
         answer_only: false,
     }

@@ -1,4 +1,5 @@
 ghost use Rattle.std.specs.Prelude.{◌≡◌, ℕ, ◌+◌, ◌≤◌, nat_lt};
+ghost use Rattle.fapp_model.specs.declared.level.TheConstants.{MOST_FURTHER};
 ghost use Rattle.fapp_model.specs.Records.{is_bad, same_polarization};
 ghost use Rattle.fapp_tables.specs.Heights.{height_of, DistancesFall};
 ghost use Rattle.fapp_tables.specs.Measures.{coded_part, hard_part};
@@ -64,7 +65,7 @@ pub fn record_counts(constraint: &Record, level: u32, first: Choice, second: Cho
     ensures hard { result.hard ≡ hard_part level constraint.now first second }
     ensures sum { result.sum ≡ coded_part level constraint.now first second }
     ensures one { result.hard ≤ 1 }
-    ensures small { result.sum ≤ S_SPAN + 10 }
+    ensures small { result.sum ≤ S_SPAN + MOST_FURTHER }
 {
     let height = record_height(constraint, first, second);
     let below = level.saturating_sub(1);

@@ -1,4 +1,5 @@
 ghost use Rattle.std.specs.Prelude.{◌≡◌, ◌≢◌, ◌≤◌, ◌<◌, ◌+◌, ◌*◌, length};
+ghost use Rattle.fapp_model.specs.declared.level.TheConstants.{MOST_FURTHER};
 ghost use Rattle.fapp_model.specs.Instances.{IsInstance};
 ghost use Rattle.fapp_model.specs.search.Clashes.{is_hard_bad};
 ghost use Rattle.fapp_tables.specs.Indexes.{between_choices, clashes_between, record_at, records_of, turned, turned_bad};
@@ -30,7 +31,7 @@ fn turned_counts(
     ensures hard { result.hard ≡ turned (hard_part level) path first second (record_at instance.now position) }
     ensures sum { result.sum ≡ turned (coded_part level) path first second (record_at instance.now position) }
     ensures one { result.hard ≤ 1 }
-    ensures small { result.sum ≤ S_SPAN + 10 }
+    ensures small { result.sum ≤ S_SPAN + MOST_FURTHER }
 {
     let constraint = record_at(instance, position);
     if constraint.first_path() == path {
@@ -106,7 +107,7 @@ pub fn pair_counts(
     ensures hard { result.hard ≡ between_choices instance.now (hard_part level) path other first second }
     ensures sum { result.sum ≡ between_choices instance.now (coded_part level) path other first second }
     ensures few { result.hard ≤ MAX_RECORDS }
-    ensures small { result.sum ≤ MAX_RECORDS * (S_SPAN + 10) }
+    ensures small { result.sum ≤ MAX_RECORDS * (S_SPAN + MOST_FURTHER) }
 {
     let mut hard = 0;
     let mut sum = 0;

@@ -2,6 +2,7 @@
 use Rattle.std.proofs.Common.{◌≡◌, ℕ, List, [], ◌∷◌, true, Option, Some, None, codes, get_or, refl, ap, ◌∙◌, sym, arith}
 use Rattle.std.specs.Prelude.{length, option_map, option_and_then}
 use Rattle.clap.specs.Words.{Row, Text, fault_of, first_of, subcommand_of}
+use Rattle.fapp_model.specs.declared.limits.TheConstants.{MAX_MADE_PATHS, MAX_NUMBER}
 use Rattle.fapp_words.specs.declared.options.SolveOptions.{SolveOptions}
 use Rattle.fapp_words.specs.declared.options.CheckOptions.{CheckOptions}
 use Rattle.fapp_words.specs.declared.request.Seed.{Seed}
@@ -82,14 +83,14 @@ three (u ∷ v ∷ w ∷ []) x y z n a b c = rw (a, b, c) refl
 three (u ∷ v ∷ w ∷ t ∷ ts) x y z n a b c = absurd (omega (arith, n))
 
 module _ (maker : Maker) (words : List Text) (a b : Text) (spelled : words ≡ maker_name maker ∷ a ∷ b ∷ []) (a_form : is_short_numeral a ≡ true) (b_form : is_short_numeral b ≡ true) where
-  values : (seed : Seed) → IsSeed (maker_name maker) words seed → (ranged 0 1000000000 (Some a) ≡ Some (Some seed.number)) × (ranged 2 2000 (Some b) ≡ Some (Some seed.paths))
+  values : (seed : Seed) → IsSeed (maker_name maker) words seed → (ranged 0 MAX_NUMBER (Some a) ≡ Some (Some seed.number)) × (ranged 2 MAX_MADE_PATHS (Some b) ≡ Some (Some seed.paths))
   values seed is =
       let same = sym spelled ∙ is.spelled in (
-        ap (λ ws. ranged 0 1000000000 (Some (get_or ws 1 []))) same ∙ is.number_value,
-        ap (λ ws. ranged 2 2000 (Some (get_or ws 2 []))) same ∙ is.paths_value,
+        ap (λ ws. ranged 0 MAX_NUMBER (Some (get_or ws 1 []))) same ∙ is.number_value,
+        ap (λ ws. ranged 2 MAX_MADE_PATHS (Some (get_or ws 2 []))) same ∙ is.paths_value,
       )
 
-  judged : (o q : Option (Option ℕ)) → ranged 0 1000000000 (Some a) ≡ o → ranged 2 2000 (Some b) ≡ q → ReadsSeed maker words
+  judged : (o q : Option (Option ℕ)) → ranged 0 MAX_NUMBER (Some a) ≡ o → ranged 2 MAX_MADE_PATHS (Some b) ≡ q → ReadsSeed maker words
       (option_and_then (λ n'. option_and_then (λ n''. option_and_then (λ p'. option_and_then (λ p''. Some (record { number = n''; paths = p'' })) p') q) n') o)
   judged (Some (Some n)) (Some (Some p)) e f = record { number = a; paths = b; spelled = spelled; number_form = a_form; paths_form = b_form; number_value = e; paths_value = f }
   judged (Some (Some n)) (Some None) e f = λ seed is. none_some (some_same (sym f ∙ (values seed is).1))
@@ -104,7 +105,7 @@ module _ (maker : Maker) (words : List Text) (a b : Text) (spelled : words ≡ m
       let same : rows ≡ there.0 = some_same (found ∙ ap (option_map (λ p. p.1)) (ap (subcommand_of program) spelled ∙ there.1)) in
       let n' : n ≡ Some a = n_is ∙ (ap (first_of (codes "number")) same ∙ there.2) in
       let p' : p ≡ Some b = p_is ∙ (ap (first_of (codes "paths")) same ∙ there.3) in
-      rw (n', p') (judged (ranged 0 1000000000 (Some a)) (ranged 2 2000 (Some b)) refl refl)
+      rw (n', p') (judged (ranged 0 MAX_NUMBER (Some a)) (ranged 2 MAX_MADE_PATHS (Some b)) refl refl)
 
 -- of words that are promised clap found something
 pub seed_found : (maker : Maker) (words : List Text) (seed : Seed) → IsSeed (maker_name maker) words seed → None ≡ option_map (λ p. p.1) (subcommand_of program words) → ⊥

@@ -4,6 +4,8 @@ use Rattle.std.specs.List.{All}
 use Rattle.clap.specs.Words.{Text}
 use Rattle.fapp_text.specs.Numbers.{number_of}
 use Rattle.fapp_text.specs.declared.numeral.NumFault.{NumFault}
+use Rattle.fapp_model.specs.declared.limits.TheConstants.{MAX_FUEL, MAX_MADE_PATHS, MAX_NUMBER, MAX_POOL, MAX_SPLIT, MAX_WORKERS}
+use Rattle.fapp_words.specs.declared.options.TheConstants.{DEFAULT_POOL, DEFAULT_SPLIT, DEFAULT_WORKERS, MAX_VERSION}
 use Rattle.fapp_words.specs.declared.options.SolveOptions.{SolveOptions}
 use Rattle.fapp_words.specs.declared.options.CheckOptions.{CheckOptions}
 use Rattle.fapp_words.specs.declared.request.Seed.{Seed}
@@ -22,18 +24,18 @@ ranged low high (Some text) = within low high (number_of text)
 abbrev pub options_in : Option Text → Option Text → Option Text → Option Text → Option Text → Bool → Option SolveOptions
 options_in w f s p c only =
     option_and_then (λ w'. option_and_then (λ f'. option_and_then (λ s'. option_and_then (λ p'. option_and_then (λ c'.
-    Some (record { workers = unwrap_or w' 4; fuel = f'; split = unwrap_or s' 64; pool = unwrap_or p' 4096; cert = unwrap_or c' 1; answer_only = only }))
-    (ranged 1 2 c)) (ranged 0 65536 p)) (ranged 1 4096 s)) (ranged 0 1000000 f)) (ranged 1 32 w)
+    Some (record { workers = unwrap_or w' DEFAULT_WORKERS; fuel = f'; split = unwrap_or s' DEFAULT_SPLIT; pool = unwrap_or p' DEFAULT_POOL; cert = unwrap_or c' 1; answer_only = only }))
+    (ranged 1 MAX_VERSION c)) (ranged 0 MAX_POOL p)) (ranged 1 MAX_SPLIT s)) (ranged 0 MAX_FUEL f)) (ranged 1 MAX_WORKERS w)
 
 -- the options of `check` for the value of its option, where the number is in its range
 abbrev pub check_in : Option Text → Option CheckOptions
-check_in w = option_and_then (λ w'. Some (record { workers = unwrap_or w' 1 })) (ranged 1 32 w)
+check_in w = option_and_then (λ w'. Some (record { workers = unwrap_or w' 1 })) (ranged 1 MAX_WORKERS w)
 
 -- a seed for two values, where each is written and in its range
 abbrev pub seed_in : Option Text → Option Text → Option Seed
 seed_in n p =
     option_and_then (λ n'. option_and_then (λ n''. option_and_then (λ p'. option_and_then (λ p''. Some (record { number = n''; paths = p'' })) p')
-    (ranged 2 2000 p)) n') (ranged 0 1000000000 n)
+    (ranged 2 MAX_MADE_PATHS p)) n') (ranged 0 MAX_NUMBER n)
 
 abbrev pub options_of : List Piece → Option SolveOptions
 options_of ps = options_in (given (text_of workers) ps) (given (text_of fuel) ps) (given (text_of split) ps) (given (text_of pool) ps) (given (text_of cert) ps) (names (codes "answer-only") ps)

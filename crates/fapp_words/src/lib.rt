@@ -8,7 +8,9 @@ mod reading;
 mod request;
 
 pub use fapp_text::NoMemory;
-pub use options::{CheckOptions, SolveOptions};
+pub use options::{
+    CheckOptions, DEFAULT_POOL, DEFAULT_SPLIT, DEFAULT_WORKERS, MAX_VERSION, SolveOptions,
+};
 pub use reading::read_words;
 pub use request::{Request, Seed};
 

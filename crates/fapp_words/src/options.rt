@@ -4,20 +4,33 @@ ghost use Rattle.std.specs.Prelude.{◌≡◌, option_map};
 ghost use Rattle.fapp_words.specs.Options.{ranged, options_in, check_in, seed_in};
 
 use crate::request::Seed;
+use fapp_model::{MAX_FUEL, MAX_MADE_PATHS, MAX_NUMBER, MAX_POOL, MAX_SPLIT, MAX_WORKERS};
 use fapp_text::number;
+
+/// The threads of `solve` where no number is named.
+pub const DEFAULT_WORKERS: u32 = 4;
+
+/// The most prefixes that the search is split into where no number is named.
+pub const DEFAULT_SPLIT: u32 = 64;
+
+/// The rows of the pool of nogoods where no number is named.
+pub const DEFAULT_POOL: u32 = 4096;
+
+/// The last version of a certificate's text. The first is 1, and that of an answer where none is named.
+pub const MAX_VERSION: u32 = 2;
 
 /// How `solve` is to work.
 #[derive(Clone, Copy, Debug, PartialEq, Eq)]
 pub struct SolveOptions {
-    /// The threads that search side by side, 1 to 32.
+    /// The threads that search side by side, 1 to `MAX_WORKERS`.
     pub workers: u32,
-    /// The most ticks of a job, 0 to 1,000,000. `None` where no fuel is named: then it is 1,000 and the number of paths.
+    /// The most ticks of a job, 0 to `MAX_FUEL`. `None` where no fuel is named: then it is 1,000 and the number of paths.
     pub fuel: Option<u32>,
-    /// The most prefixes that the search is split into, 1 to 4,096.
+    /// The most prefixes that the search is split into, 1 to `MAX_SPLIT`.
     pub split: u32,
-    /// The rows of the pool of nogoods, 0 to 65,536.
+    /// The rows of the pool of nogoods, 0 to `MAX_POOL`.
     pub pool: u32,
-    /// The version of the certificate's text, 1 or 2.
+    /// The version of the certificate's text, 1 to `MAX_VERSION`.
     pub cert: u32,
     /// Whether the plan is written alone.
     pub answer_only: bool,
@@ -26,7 +39,8 @@ pub struct SolveOptions {
 /// How `check` is to work.
 #[derive(Clone, Copy, Debug, PartialEq, Eq)]
 pub struct CheckOptions {
-    /// The threads that judge lines side by side, 1 to 32. It is 1 where no number is named, and then lines are judged one after another.
+    /// The threads that judge lines side by side, 1 to `MAX_WORKERS`. It is 1 where no number is named, and then lines are
+    /// judged one after another.
     pub workers: u32,
 }
 
@@ -42,16 +56,16 @@ pub(crate) fn options_in(
     ensures { result ≡ options_in (option_map (λ s. s.now) workers.entry) (option_map (λ s. s.now) fuel.entry)
         (option_map (λ s. s.now) split.entry) (option_map (λ s. s.now) pool.entry) (option_map (λ s. s.now) cert.entry) answer_only }
 {
-    let workers = ranged(1, 32, workers)?;
-    let fuel = ranged(0, 1_000_000, fuel)?;
-    let split = ranged(1, 4096, split)?;
-    let pool = ranged(0, 65_536, pool)?;
-    let cert = ranged(1, 2, cert)?;
+    let workers = ranged(1, MAX_WORKERS, workers)?;
+    let fuel = ranged(0, MAX_FUEL, fuel)?;
+    let split = ranged(1, MAX_SPLIT, split)?;
+    let pool = ranged(0, MAX_POOL, pool)?;
+    let cert = ranged(1, MAX_VERSION, cert)?;
     Some(SolveOptions {
-        workers: workers.unwrap_or(4),
+        workers: workers.unwrap_or(DEFAULT_WORKERS),
         fuel,
-        split: split.unwrap_or(64),
-        pool: pool.unwrap_or(4096),
+        split: split.unwrap_or(DEFAULT_SPLIT),
+        pool: pool.unwrap_or(DEFAULT_POOL),
         cert: cert.unwrap_or(1),
         answer_only,
     })
@@ -61,7 +75,7 @@ pub(crate) fn options_in(
 pub(crate) fn check_in(workers: Option<&str>) -> Option<CheckOptions>
     ensures { result ≡ check_in (option_map (λ s. s.now) workers.entry) }
 {
-    let workers = ranged(1, 32, workers)?.unwrap_or(1);
+    let workers = ranged(1, MAX_WORKERS, workers)?.unwrap_or(1);
     Some(CheckOptions { workers })
 }
 
@@ -69,8 +83,8 @@ pub(crate) fn check_in(workers: Option<&str>) -> Option<CheckOptions>
 pub(crate) fn seed_in(number: Option<&str>, paths: Option<&str>) -> Option<Seed>
     ensures { result ≡ seed_in (option_map (λ s. s.now) number.entry) (option_map (λ s. s.now) paths.entry) }
 {
-    let number = ranged(0, 1_000_000_000, number)??;
-    let paths = ranged(2, 2000, paths)??;
+    let number = ranged(0, MAX_NUMBER, number)??;
+    let paths = ranged(2, MAX_MADE_PATHS, paths)??;
     Some(Seed { number, paths })
 }
 

@@ -5,7 +5,7 @@ ghost use Rattle.clap.specs.Words.{fault_of, subcommand_of, subcommand_rows_of};
 ghost use Rattle.fapp_words.specs.declared.request.Request.TheVariants.{Solve, Check, Gen, Demo};
 ghost use Rattle.fapp_words.specs.Commands.{program};
 ghost use Rattle.fapp_words.specs.Options.{ReadsSolve, ReadsCheck};
-ghost use Rattle.fapp_words.specs.Promises.{ReadsWords, ReadsSeed};
+ghost use Rattle.fapp_words.specs.Promises.{AreRanges, ReadsWords, ReadsSeed};
 
 use crate::NoMemory;
 use crate::commands::program;
@@ -18,10 +18,13 @@ use std::alloc::Global;
 
 /// What the words after the program's name ask for. `None` comes exactly where they are none of the promised ones:
 /// `solve` with `--workers`, `--fuel`, `--split`, `--pool`, `--cert` and `--answer-only`, each at most once and in any order,
-/// `check` with `--workers` at most once, `gen` and `demo` with a number and a number of paths; a number has 1 to 10 digits and is in its range.
+/// `check` with `--workers` at most once, `gen` and `demo` with a number and a number of paths; a number has 1 to 10 digits
+/// and is in its range: 1 to 32 workers, 0 to 1,000,000 ticks of fuel, 1 to 4,096 prefixes, a pool of 0 to 65,536 rows,
+/// version 1 or 2, a number of at most 1,000,000,000 and 2 to 2,000 paths.
 /// `NoMemory` comes where the words' copies could not be had.
 pub fn read_words(alloc: Global, words: &[String]) -> Result<Option<Request>, NoMemory>
-    ensures { IfOk result (ReadsWords (map string_bytes words.now)) }
+    ensures reads { IfOk result (ReadsWords (map string_bytes words.now)) }
+    ensures ranges { AreRanges }
 {
     match program(alloc)?.try_get_matches_from(words) {
         Ok(matches) => Ok(request(&matches, words)),

@@ -8,9 +8,9 @@ use crate::options::{CheckOptions, SolveOptions};
 /// What a network is made from.
 #[derive(Clone, Copy, Debug, PartialEq, Eq)]
 pub struct Seed {
-    /// The number, at most 1,000,000,000.
+    /// The number, at most `MAX_NUMBER`.
     pub number: u32,
-    /// How many paths, 2 to 2,000.
+    /// How many paths, 2 to `MAX_MADE_PATHS`.
     pub paths: u32,
 }
 

@@ -1,6 +1,7 @@
 // What each worker is given, and what all of them share.
 ghost use Rattle.std.specs.Prelude.{◌≡◌, ◌+◌, ◌<◌, ◌≤◌, All, IfOk, IfSome, length, map};
 ghost use Rattle.std.specs.Option.{ForSome};
+ghost use Rattle.fapp_model.specs.declared.limits.TheConstants.{MAX_POOL};
 ghost use Rattle.seat_laws.specs.declared.TheConstants.{WHOLE_SHARE};
 ghost use Rattle.fapp_model.specs.Least.{IsFeasible};
 ghost use Rattle.fapp_model.specs.Levels.{levels_of};
@@ -88,7 +89,7 @@ pub(crate) fn deal(
     start: Option<&[u16]>,
 ) -> Result<Dealt, NoMemory>
     requires workers { (0 < workers) × (workers ≤ 32) }
-    requires rows { rows ≤ 65536 }
+    requires rows { rows ≤ MAX_POOL }
     requires room { length first_rows.now ≤ rows }
     requires first { ArePublishable plan.now.instance first_rows.now }
     requires start { ForSome start (λ s. IsFeasible plan.now.instance s.now) }

@@ -34,6 +34,7 @@ use Rattle.choice_counts.proofs.Remaining.{least-found, remains-tally, some-left
 use Rattle.choice_counts.proofs.Slots.{named}
 use Rattle.forward_count.specs.Forwards.{IsAfresh}
 use Rattle.forward_count.specs.Standing.{AllHaveLeft, AllStand, HasLeft}
+use Rattle.fapp_model.specs.declared.level.TheConstants.{MAX_LEVELS}
 
 abbrev state_of : Instance → ℕ → List Literal → ForwardState
 state_of i k ls = record { instance = i; level = k; pushed = ls }
@@ -58,7 +59,7 @@ pub seen : (instance : Instance) (level : ℕ) (pushed : List Literal) (slots : 
 seen instance level pushed slots f st e = subst (λ (s : ForwardState). IsAfresh s.instance s.level s.pushed slots) e f
 
 module _ (instance : Instance) (level : ℕ) (pushed : List Literal) (slots : List (Option ℕ)) (f : IsAfresh instance level pushed slots) where
-  within : level ≤ 11
+  within : level ≤ MAX_LEVELS
   within = level_few instance level f.low
 
   test : (arc : Literal → Bool) × IsArcs instance level arc
@@ -111,7 +112,7 @@ take_next g xs i s t d inside before here =
     omega (arith, before, here, more)
 
 module _ (instance : Instance) (level : ℕ) (pushed : List Literal) (slots : List (Option ℕ)) (f : IsAfresh instance level pushed slots) where
-  low : level ≤ 11
+  low : level ≤ MAX_LEVELS
   low = level_few instance level f.low
 
   -- a literal's tally is small where all are calm

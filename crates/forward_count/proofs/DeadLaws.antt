@@ -25,6 +25,7 @@ use Rattle.choice_counts.proofs.OpenSums.{least_most, open_most}
 use Rattle.choice_counts.specs.declared.rows.TheConstants.{HARD}
 use Rattle.choice_counts.specs.Tallies.{least_part}
 use Rattle.forward_count.specs.Forwards.{IsForward}
+use Rattle.fapp_model.specs.declared.level.TheConstants.{MAX_LEVELS}
 
 -- what is kept of the fields is so of the state that callers see
 pub seen : (instance : Instance) (level : ℕ) (pushed : List Literal) (slots : List (Option ℕ)) (rows : List PathTallies) (totals : Totals) (room : ℕ) → IsForward instance level pushed slots rows totals room →
@@ -32,7 +33,7 @@ pub seen : (instance : Instance) (level : ℕ) (pushed : List Literal) (slots : 
 seen instance level pushed slots rows totals room f st e = subst (λ (s : ForwardState). IsForward s.instance s.level s.pushed slots rows totals room) e f
 
 module _ (instance : Instance) (level : ℕ) (pushed : List Literal) (slots : List (Option ℕ)) (rows : List PathTallies) (totals : Totals) (room : ℕ) (f : IsForward instance level pushed slots rows totals room) where
-  within : level ≤ 11
+  within : level ≤ MAX_LEVELS
   within = level_few instance level f.low
 
   pub calm_here : totals.conflicts ≡ 0 → totals.open_paths.stuck ≡ 0 → IsCalm instance level pushed
@@ -86,7 +87,7 @@ module _ (instance : Instance) (code : ℕ) (pushed : List Literal) (valid : IsI
   dead_free above calm w e none =
       let level = mode_level (triple_from code) in
       let arcs = arcs-of instance level valid in
-      let low : level ≤ 11 = level_few instance level (mode_few instance (triple_from code) tag) in
+      let low : level ≤ MAX_LEVELS = level_few instance level (mode_few instance (triple_from code) tag) in
       let bound = bound_is instance level arcs.0 arcs.1 pushed valid low partial calm in
       let law = dead_is_over_bound instance (triple_from code) pushed _ valid tag partial calm bound in (
         λ some. absurd (omega (arith, ltb-true 0 w some, none)),

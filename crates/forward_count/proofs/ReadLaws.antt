@@ -21,9 +21,10 @@ use Rattle.choice_counts.proofs.RowMoves.{row_is, tally_is}
 use Rattle.forward_count.specs.Forwards.{IsForward}
 use Rattle.forward_count.specs.Starts.{AreShaped}
 use Rattle.forward_count.proofs.StepLaws.{forward_rows}
+use Rattle.fapp_model.specs.declared.level.TheConstants.{MAX_LEVELS}
 
 module _ (instance : Instance) (level : ℕ) (pushed : List Literal) (slots : List (Option ℕ)) (rows : List PathTallies) (totals : Totals) (room : ℕ) (f : IsForward instance level pushed slots rows totals room) where
-  within : level ≤ 11
+  within : level ≤ MAX_LEVELS
   within = level_few instance level f.low
 
   abbrev state : ForwardState

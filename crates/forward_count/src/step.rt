@@ -1,4 +1,5 @@
 ghost use Rattle.std.specs.Prelude.{◌≡◌, ◌≢◌, ◌≤◌, ◌<◌, ◌^◌, length};
+ghost use Rattle.fapp_model.specs.declared.limits.TheConstants.{MAX_PATH_CHOICES};
 ghost use Rattle.choice_counts.specs.Counts.{pair_tally};
 ghost use Rattle.fapp_model.specs.declared.level.TheConstants.{MAX_LEVELS};
 ghost use Rattle.fapp_model.specs.declared.limits.TheConstants.{MAX_PATHS};
@@ -41,7 +42,7 @@ pub fn count(instance: &Instance, path: u16) -> u32
     requires instance { IsInstance instance.now }
     requires path { path < length instance.now.paths }
     ensures count { result ≡ count_at instance.now path }
-    ensures few { result ≤ 65536 }
+    ensures few { result ≤ MAX_PATH_CHOICES }
 {
     choice_count(path_at(instance, path))
 }
@@ -80,7 +81,7 @@ impl<'a> Step<'a> {
     pub fn count(&self, other: u16) -> u32
         requires { other < length self.now.tables.now.paths }
         ensures count { result ≡ count_at self.now.tables.now other }
-        ensures few { result ≤ 65536 }
+        ensures few { result ≤ MAX_PATH_CHOICES }
     {
         count(self.tables.instance(), other)
     }

@@ -30,10 +30,11 @@ use Rattle.choice_counts.proofs.Calm.{bound_is, one_least}
 use Rattle.choice_counts.proofs.Coded.{code-at_most}
 use Rattle.choice_counts.proofs.DeadByBound.{calm_or_dead, level_few, mode_few}
 use Rattle.choice_counts.proofs.OpenSums.{change_at}
+use Rattle.fapp_model.specs.declared.level.TheConstants.{MAX_LEVELS}
 
 -- ---- the second part of such a sum is small
 
-module _ (instance : Instance) (level : ℕ) (valid : IsInstance instance) (within : level ≤ 11) (literals : List Literal) (partial : IsPartial instance literals) (fewest : ℕ → Pair)
+module _ (instance : Instance) (level : ℕ) (valid : IsInstance instance) (within : level ≤ MAX_LEVELS) (literals : List Literal) (partial : IsPartial instance literals) (fewest : ℕ → Pair)
     (each : (path : ℕ) → path < length instance.paths → names literals path ≡ false → (index : ℕ) × ((fewest path).s ≤ added instance (bad_further level) literals (literal path index))) where
   abbrev choose : (path : ℕ) (b : Bool) → names literals path ≡ b → (path < length instance.paths) ⊎ (length instance.paths ≤ path) → ℕ
   choose path true e r = 0
@@ -63,7 +64,7 @@ module _ (instance : Instance) (valid : IsInstance instance) (t : Triple) (tag :
   level : ℕ
   level = mode_level t
 
-  few : mode_level t ≤ 11
+  few : mode_level t ≤ MAX_LEVELS
   few = level_few instance (mode_level t) (mode_few instance t tag)
 
   home : IsLiteral instance a
