@@ -24,16 +24,14 @@ use Rattle.fapp_words.specs.Options.{ranged}
 use Rattle.fapp_words.specs.Promises.{IsSeed}
 use Rattle.fapp_gen.specs.Generated.{network_text}
 use Rattle.fapp_workers.specs.VerdictLaws.{IsEnough}
-use Rattle.fapp_run.specs.declared.command.Command.{Command}
-use Rattle.fapp_run.specs.declared.command.Command.TheVariants.{Solve, Check}
 use Rattle.fapp_run.specs.declared.judgement.TheConstants.{MAX_CHECK_INPUT}
-use Rattle.fapp_run.specs.declared.outcome.TheConstants.{MAX_INPUT}
+use Rattle.fapp_run.specs.declared.reply.TheConstants.{MAX_INPUT}
 use Rattle.fapp_run.specs.AnswerLaws.{IsProved}
 use Rattle.fapp_run.specs.Answers.{Answers, IsSolved, fuel_of, status_of}
 use Rattle.fapp_run.specs.Halves.{Halves, halves}
-use Rattle.fapp_run.specs.Judgements.{IsCheckInput, IsJudged}
+use Rattle.fapp_run.specs.Judgements.{IsCheckInput, IsJudged, Judges}
 use Rattle.fapp_run.specs.Made.{Demonstrates}
-use Rattle.fapp_run.specs.Replies.{AnswersTo, Asks, IsReply, IsReplyFor, IsReplyOf, Names, input_limit}
+use Rattle.fapp_run.specs.Replies.{Asks, IsCheckReply, IsReply, IsReplyFor, IsReplyWithin, IsSolveReply, Names}
 use Rattle.fapp_run.specs.Runs.{IsAnswer, IsEnoughFor, IsRun, TakesWhole}
 use Rattle.fapp_run.specs.Solving.{IsClosedVerdict}
 use Rattle.fapp_run.proofs.CheckKinds.{accepted, accepted_proved}
@@ -88,33 +86,37 @@ same_network name words seed other a b =
 
 -- ---- how a command ends
 
-record IsWhole (command : Command) (source source' : SourceMoment) (status : Status) (text : List ℕ) : Type 0 where
+-- what is answered to the bytes of an input
+abbrev Answering : Type 1
+Answering = List ℕ → Status → List ℕ → Type 0
+
+record IsWhole (answers : Answering) (source source' : SourceMoment) (status : Status) (text : List ℕ) : Type 0 where
   pub bytes : List ℕ
   pub all : IsAllOf source.left source'.left bytes
-  pub answers : AnswersTo command bytes status text
+  pub answered : answers bytes status text
 
-abbrev IsEnd : Command → SourceMoment → SourceMoment → Status → List ℕ → Type 0
-IsEnd command source source' status text =
-    Rose source.faults source'.faults ⊎ (Drops source.left source'.left (input_limit command + 1) ⊎ IsWhole command source source' status text)
+abbrev IsEnd : ℕ → Answering → SourceMoment → SourceMoment → Status → List ℕ → Type 0
+IsEnd limit answers source source' status text =
+    Rose source.faults source'.faults ⊎ (Drops source.left source'.left (limit + 1) ⊎ IsWhole answers source source' status text)
 
-whole_end : (command : Command) (source source' : SourceMoment) (status : Status) (text : List ℕ) → ((bytes : List ℕ) × IsAllOf source.left source'.left bytes × AnswersTo command bytes status text) → IsEnd command source source' status text
-whole_end command source source' status text h = inr (inr (record { bytes = h.0; all = h.1; answers = h.2 }))
+whole_end : (limit : ℕ) (answers : Answering) (source source' : SourceMoment) (status : Status) (text : List ℕ) → ((bytes : List ℕ) × IsAllOf source.left source'.left bytes × answers bytes status text) → IsEnd limit answers source source' status text
+whole_end limit answers source source' status text h = inr (inr (record { bytes = h.0; all = h.1; answered = h.2 }))
 
-end_of : (command : Command) (source source' : SourceMoment) (status : Status) (text : List ℕ) → IsReplyOf command source source' status text → IsEnd command source source' status text
-end_of command source source' Best text h = whole_end command source source' Best text h
-end_of command source source' NoneFeasible text h = whole_end command source source' NoneFeasible text h
-end_of command source source' Open text h = whole_end command source source' Open text h
-end_of command source source' Accepted text h = whole_end command source source' Accepted text h
-end_of command source source' Written text h = whole_end command source source' Written text h
-end_of command source source' (Rejected fault) text h = whole_end command source source' (Rejected fault) text h
-end_of command source source' Usage text h = absurd h
-end_of command source source' (BadInput bad) text h = whole_end command source source' (BadInput bad) text h
-end_of command source source' (BadAnswer bad) text h = whole_end command source source' (BadAnswer bad) text h
-end_of command source source' TooLong text h = inr (inl h.0)
-end_of command source source' NoAnswer text h = whole_end command source source' NoAnswer text h
-end_of command source source' ReadFault text h = inl h.0
-end_of command source source' WriteFault text h = whole_end command source source' WriteFault text h
-end_of command source source' NoMemory text h = whole_end command source source' NoMemory text h
+end_of : (limit : ℕ) (answers : Answering) (source source' : SourceMoment) (status : Status) (text : List ℕ) → IsReplyWithin limit answers source source' status text → IsEnd limit answers source source' status text
+end_of limit answers source source' Best text h = whole_end limit answers source source' Best text h
+end_of limit answers source source' NoneFeasible text h = whole_end limit answers source source' NoneFeasible text h
+end_of limit answers source source' Open text h = whole_end limit answers source source' Open text h
+end_of limit answers source source' Accepted text h = whole_end limit answers source source' Accepted text h
+end_of limit answers source source' Written text h = whole_end limit answers source source' Written text h
+end_of limit answers source source' (Rejected fault) text h = whole_end limit answers source source' (Rejected fault) text h
+end_of limit answers source source' Usage text h = absurd h
+end_of limit answers source source' (BadInput bad) text h = whole_end limit answers source source' (BadInput bad) text h
+end_of limit answers source source' (BadAnswer bad) text h = whole_end limit answers source source' (BadAnswer bad) text h
+end_of limit answers source source' TooLong text h = inr (inl h.0)
+end_of limit answers source source' NoAnswer text h = whole_end limit answers source source' NoAnswer text h
+end_of limit answers source source' ReadFault text h = inl h.0
+end_of limit answers source source' WriteFault text h = whole_end limit answers source source' WriteFault text h
+end_of limit answers source source' NoMemory text h = whole_end limit answers source source' NoMemory text h
 
 taken : (left left' : Option (List ℕ)) (bytes given : List ℕ) → left ≡ Some bytes → IsAllOf left left' given → given ≡ bytes
 taken left left' bytes given e h = let g = rw e at h in g.0
@@ -171,12 +173,12 @@ not_accepted (verdicts.Open best lower level prefix) e = cc
 
 module _ (source source' : SourceMoment) (bytes : List ℕ) (instance : Instance) (status : Status) (text : List ℕ) (left : source.left ≡ Some bytes) where
   -- by some options and on a text of an instance
-  pub solution_ends : (options : SolveOptions) → length bytes ≤ MAX_INPUT → instance_of_text bytes ≡ Ok instance → (Rose source.faults source'.faults → ⊥) → IsReplyOf (Solve options) source source' status text →
+  pub solution_ends : (options : SolveOptions) → length bytes ≤ MAX_INPUT → instance_of_text bytes ≡ Ok instance → (Rose source.faults source'.faults → ⊥) → IsSolveReply options source source' status text →
       IsAnswer status × (IsEnough (split_of instance options.split) (fuel_of options instance) → status ≢ Open)
-  solution_ends options short read sound h = elim (end_of (Solve options) source source' status text h) [
+  solution_ends options short read sound h = elim (end_of MAX_INPUT (Answers options) source source' status text h) [
     | inl risen ↦ absurd (sound risen)
     | inr (inl long) ↦ absurd (let l = dropped source.left source'.left bytes (MAX_INPUT + 1) left long in omega arith)
-    | inr (inr whole) ↦ (let e = ended options bytes instance status text short read (subst (λ b. Answers options b status text) (taken source.left source'.left bytes whole.bytes left whole.all) whole.answers) in
+    | inr (inr whole) ↦ (let e = ended options bytes instance status text short read (subst (λ b. Answers options b status text) (taken source.left source'.left bytes whole.bytes left whole.all) whole.answered) in
         (is_answer status e.verdict e.is, λ enough. not_open status e.verdict e.is (e.closed enough)))
   ]
 
@@ -193,11 +195,11 @@ module _ (words : List (String Global)) (source source' : SourceMoment) (bytes :
   pub check_ends : (answer : Answer) (options : CheckOptions) → Names words (requests.Check options) → length bytes ≤ MAX_CHECK_INPUT → IsCheckInput bytes instance answer → Accepts instance answer → (Rose source.faults source'.faults → ⊥) → IsReply words source source' status text → status ≡ Accepted
   check_ends answer options named short given accepts sound (asked, asks, out) =
       let only = check_only words options asked named asks in
-      let h : IsReplyOf (Check only.0) source source' status text = subst (λ a. IsReplyFor a source source' status text) only.1 out in
-      elim (end_of (Check only.0) source source' status text h) [
+      let h : IsCheckReply source source' status text = subst (λ a. IsReplyFor a source source' status text) only.1 out in
+      elim (end_of MAX_CHECK_INPUT Judges source source' status text h) [
         | inl risen ↦ absurd (sound risen)
         | inr (inl long) ↦ absurd (let l = dropped source.left source'.left bytes (MAX_CHECK_INPUT + 1) left long in omega arith)
-        | inr (inr whole) ↦ accepted bytes instance answer status text short given accepts (subst (λ b. AnswersTo (Check only.0) b status text) (taken source.left source'.left bytes whole.bytes left whole.all) whole.answers)
+        | inr (inr whole) ↦ accepted bytes instance answer status text short given accepts (subst (λ b. Judges b status text) (taken source.left source'.left bytes whole.bytes left whole.all) whole.answered)
       ]
 
 -- on the words of gen

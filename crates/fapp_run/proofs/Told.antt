@@ -8,11 +8,11 @@ use Rattle.answer_writer.specs.declared.status.Status.{Status}
 use Rattle.answer_writer.specs.declared.status.Status.TheVariants.{Best, NoneFeasible, Open, Accepted, Written, Rejected, Usage, BadInput, BadAnswer, TooLong, NoAnswer, ReadFault, WriteFault, NoMemory}
 use Rattle.answer_writer.specs.Refusals.{refusal_line}
 use Rattle.fapp_words.specs.declared.options.SolveOptions.{SolveOptions}
-use Rattle.fapp_run.specs.declared.outcome.TheConstants.{MAX_INPUT}
+use Rattle.fapp_run.specs.declared.reply.TheConstants.{MAX_INPUT}
 use Rattle.cert_lines.specs.declared.answer.Answer.{Answer}
 use Rattle.answer_writer.specs.Texts.{written_text}
-use Rattle.fapp_run.specs.declared.outcome.Reply.{Reply}
-use Rattle.fapp_run.specs.declared.outcome.Solution.TheVariants.{Refused, Answered}
+use Rattle.fapp_run.specs.declared.reply.Reply.{Reply}
+use Rattle.fapp_run.specs.declared.reply.Solution.TheVariants.{Refused, Answered}
 use Rattle.fapp_run.specs.Solving.{IsAnswerFor}
 use Rattle.fapp_run.specs.Versions.{IsWrittenIn}
 use Rattle.fapp_run.proofs.Written.{same-verdict}

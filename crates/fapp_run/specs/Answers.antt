@@ -12,9 +12,9 @@ use Rattle.answer_writer.specs.declared.status.Status.TheVariants.{Best, NoneFea
 use Rattle.answer_writer.specs.Refusals.{refusal_line}
 use Rattle.answer_writer.specs.Texts.{written_text}
 use Rattle.fapp_words.specs.declared.options.SolveOptions.{SolveOptions}
-use Rattle.fapp_run.specs.declared.outcome.Solution.{Solution}
-use Rattle.fapp_run.specs.declared.outcome.Solution.TheVariants.{Refused, Answered}
-use Rattle.fapp_run.specs.declared.outcome.TheConstants.{MAX_INPUT}
+use Rattle.fapp_run.specs.declared.reply.Solution.{Solution}
+use Rattle.fapp_run.specs.declared.reply.Solution.TheVariants.{Refused, Answered}
+use Rattle.fapp_run.specs.declared.reply.TheConstants.{MAX_INPUT}
 use Rattle.fapp_run.specs.Solving.{IsAnswerFor}
 use Rattle.fapp_run.specs.Versions.{IsWrittenIn}
 

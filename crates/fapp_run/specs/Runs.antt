@@ -6,6 +6,7 @@ use Rattle.fapp_io.specs.Known.{BytesGrow}
 use Rattle.fapp_io.specs.Moments.{SourceMoment, SinkMoment}
 use Rattle.fapp_io.specs.Whole.{GrowsByFront}
 use Rattle.fapp_model.specs.declared.instance.Instance.{Instance}
+use Rattle.fapp_model.specs.declared.level.TheConstants.{LEVELS, MAX_LEVELS}
 use Rattle.record_reader.specs.Texts.{instance_of_text}
 use Rattle.cert_lines.specs.declared.answer.Answer.{Answer}
 use Rattle.cert_lines.specs.acceptance.Accepts.{Accepts}
@@ -21,7 +22,7 @@ use Rattle.fapp_words.specs.declared.request.Request.TheVariants as requests
 use Rattle.fapp_words.specs.declared.request.Seed.{Seed}
 use Rattle.fapp_workers.specs.VerdictLaws.{IsEnough}
 use Rattle.fapp_run.specs.declared.judgement.TheConstants.{MAX_CHECK_INPUT}
-use Rattle.fapp_run.specs.declared.outcome.TheConstants.{MAX_INPUT}
+use Rattle.fapp_run.specs.declared.reply.TheConstants.{MAX_INPUT}
 use Rattle.fapp_run.specs.AnswerLaws.{IsProved}
 use Rattle.fapp_run.specs.Answers.{fuel_of}
 use Rattle.fapp_run.specs.Judgements.{IsCheckInput}
@@ -31,7 +32,7 @@ use Rattle.fapp_run.specs.Replies.{IsReply, Names, ReadsFront}
 abbrev pub TakesWhole : SinkMoment → SinkMoment → List ℕ → Type 0
 TakesWhole sink sink' text = BytesGrow sink.taken sink'.taken text × (text ≡ [] → sink' ≡ sink)
 
--- The whole text of the outcome was taken. Where the sink failed, a front of some outcome's text was taken, short of
+-- The whole text of the reply was taken. Where the sink failed, a front of some reply's text was taken, short of
 -- the whole, and its count of faults rose. Where there was no memory, nothing was written.
 abbrev pub IsRun : List (String Global) → SourceMoment → SourceMoment → SinkMoment → SinkMoment → Status → Type 0
 IsRun words source source' sink sink' NoMemory = ReadsFront words source source' × (sink' ≡ sink)
@@ -89,3 +90,10 @@ CompletesDemo words sink sink' status = (seed : Seed) → Names words (requests.
 -- where a source that tells its bytes was read and the status is Accepted, what the answer in them claims is so
 abbrev pub ProvesAccepted : SourceMoment → Status → Type 0
 ProvesAccepted source status = (bytes : List ℕ) → source.left ≡ Some bytes → status ≡ Accepted → IsProved bytes
+
+-- the most bytes of an input that is solved and of one that is checked, and the levels of an instance, as numbers
+pub record AreLimits : Type 0 where
+  pub input : MAX_INPUT ≡ 134217728
+  pub check_input : MAX_CHECK_INPUT ≡ 1073741824
+  pub levels : LEVELS ≡ 11
+  pub most_levels : MAX_LEVELS ≡ 11

@@ -8,7 +8,7 @@ ghost use Rattle.fapp_run.specs.Halves.{halves_of};
 ghost use Rattle.fapp_run.specs.Judgements.{AreCheckOptions, Judges, IsJudgedText, IsJudgedAnswer, IsJudgedAlone, IsJudgedInput};
 
 use crate::check_input::{CheckInput, cut};
-use crate::outcome::{Reply, refusal};
+use crate::reply::{Reply, refusal};
 use answer_writer::{BadCert, Status, accepted_text};
 use cert_check::{CheckError, check};
 use cert_lines::{Answer, AnswerError, read_answer};
@@ -24,7 +24,7 @@ use std::thread::Threads;
 /// The most bytes of the input of a check.
 pub const MAX_CHECK_INPUT: usize = 1_073_741_824;
 
-/// The outcome of a check, for an input given as its bytes: that the answer after the first line `--` is accepted for
+/// The reply to a check, for an input given as its bytes: that the answer after the first line `--` is accepted for
 /// the instance before that line, or the first refusal, in this order: `TooLong` for more than `MAX_CHECK_INPUT`
 /// bytes, the instance's first refused line, that no line is `--`, the first fault of the answer's text, the first
 /// fault of the answer. It is the same for every number of workers. `run` answers just so to what it reads.
@@ -35,7 +35,7 @@ pub fn judge<R: Threads + Sync>(
     options: &CheckOptions,
 ) -> Result<Reply, NoMemory>
     requires { AreCheckOptions options.now }
-    ensures { IfOk result (λ outcome. Judges bytes.now outcome.status outcome.text.items) }
+    ensures { IfOk result (λ reply. Judges bytes.now reply.status reply.text.items) }
 {
     if bytes.len() > MAX_CHECK_INPUT {
         return refusal(alloc, Status::TooLong);
@@ -49,7 +49,7 @@ pub fn judge<R: Threads + Sync>(
 /// An input without a line `--`.
 fn judge_alone(alloc: Global, bytes: &[u8]) -> Result<Reply, NoMemory>
     requires { length bytes.now ≤ MAX_TEXT }
-    ensures { IfOk result (λ outcome. IsJudgedAlone bytes.now outcome.status outcome.text.items) }
+    ensures { IfOk result (λ reply. IsJudgedAlone bytes.now reply.status reply.text.items) }
 {
     match read_instance(alloc, bytes) {
         Ok(_) => refusal(alloc, Status::NoAnswer),
@@ -69,7 +69,7 @@ fn judge_input<R: Threads + Sync>(
     requires instance { length input.now.instance.now ≤ MAX_TEXT }
     requires divider { input.now.divider ≤ MAX_TEXT }
     requires answer { length input.now.answer.now ≤ MAX_TEXT }
-    ensures { IfOk result (λ outcome. IsJudgedInput (halves_of input.now) outcome.status outcome.text.items) }
+    ensures { IfOk result (λ reply. IsJudgedInput (halves_of input.now) reply.status reply.text.items) }
 {
     match read_instance(alloc, input.instance) {
         Ok(instance) => judge_text(rt, alloc, &instance, input.answer, input.divider, options),
@@ -91,7 +91,7 @@ fn judge_text<R: Threads + Sync>(
     requires instance { IsInstance instance.now }
     requires text { length text.now ≤ MAX_TEXT }
     requires before { before ≤ MAX_TEXT }
-    ensures { IfOk result (λ outcome. IsJudgedText instance.now text.now before outcome.status outcome.text.items) }
+    ensures { IfOk result (λ reply. IsJudgedText instance.now text.now before reply.status reply.text.items) }
 {
     match read_answer(alloc, instance, text) {
         Ok(answer) => judge_answer(rt, alloc, instance, &answer, options),
@@ -123,7 +123,7 @@ fn judge_answer<R: Threads + Sync>(
     requires instance { IsInstance instance.now }
     requires answer { IsWellFormed instance.now answer.now }
     requires few { length answer.now.lines ≤ MAX_NUMBER }
-    ensures { IfOk result (λ outcome. IsJudgedAnswer instance.now answer.now outcome.status outcome.text.items) }
+    ensures { IfOk result (λ reply. IsJudgedAnswer instance.now answer.now reply.status reply.text.items) }
 {
     match checked(rt, alloc, instance, answer, options) {
         Ok(()) => Ok(Reply {

@@ -2,11 +2,10 @@
 #![tactic(auto)]
 
 mod check_input;
-mod command;
 mod judgement;
 mod laws;
 mod made;
-mod outcome;
+mod reply;
 mod plan;
 mod solving;
 mod top;
@@ -17,7 +16,7 @@ pub use fapp_words::{CheckOptions, SolveOptions};
 pub use fapp_workers::{Gate, OpenGate};
 pub use judgement::{MAX_CHECK_INPUT, judge};
 pub use laws::{a_check_has_one_status, what_is_accepted_is_right};
-pub use outcome::{MAX_INPUT, Reply, Solution, answer, solve_input, status_of};
+pub use reply::{MAX_INPUT, Reply, Solution, answer, solve_input, status_of};
 pub use solving::solve_answer;
 pub use top::run;
 

@@ -4,7 +4,7 @@ ghost use Rattle.fapp_model.specs.Instances.{IsInstance};
 ghost use Rattle.fapp_gen.specs.Generated.{network_text};
 ghost use Rattle.fapp_run.specs.Made.{AreSeed, Demonstrates, IsDemonstrated, demo_options};
 
-use crate::outcome::{Reply, settings_for, status_of};
+use crate::reply::{Reply, settings_for, status_of};
 use crate::solving::solve_answer;
 use answer_writer::Status;
 use cert_lines::verdict_text;
@@ -23,8 +23,8 @@ pub const DEMO_FUEL: u32 = 40_000;
 /// The text of the network that a seed makes.
 pub fn generated(alloc: Global, seed: Seed) -> Result<Reply, NoMemory>
     requires { AreSeed seed }
-    ensures status { IfOk result (λ outcome. outcome.status ≡ Status.Written) }
-    ensures text { IfOk result (λ outcome. outcome.text.items ≡ network_text seed.number seed.paths) }
+    ensures status { IfOk result (λ reply. reply.status ≡ Status.Written) }
+    ensures text { IfOk result (λ reply. reply.text.items ≡ network_text seed.number seed.paths) }
 {
     let text = generate(alloc, seed.number, seed.paths)?;
     Ok(Reply {
@@ -41,7 +41,7 @@ pub fn demonstrated<R: Threads + Sync, G: Gate>(
     gate: &G,
 ) -> Result<Reply, NoMemory>
     requires { AreSeed seed }
-    ensures { IfOk result (λ outcome. Demonstrates (network_text seed.number seed.paths) outcome.status outcome.text.items) }
+    ensures { IfOk result (λ reply. Demonstrates (network_text seed.number seed.paths) reply.status reply.text.items) }
 {
     let bytes = generate(alloc, seed.number, seed.paths)?;
     match read_instance(alloc, &bytes) {
@@ -74,7 +74,7 @@ fn shown_verdict<R: Threads + Sync, G: Gate>(
     gate: &G,
 ) -> Result<Reply, NoMemory>
     requires { IsInstance instance.now }
-    ensures { IfOk result (λ outcome. IsDemonstrated instance.now outcome.status outcome.text.items) }
+    ensures { IfOk result (λ reply. IsDemonstrated instance.now reply.status reply.text.items) }
 {
     let settings = settings_for(instance, &demo_options());
     let answer = solve_answer(rt, alloc, instance, &settings, gate)?;

@@ -204,8 +204,8 @@ fn bytes_alone_have_their_answer(rt: HostRuntime) -> Result<(), Fail> {
         answer_only: true,
     };
     let outcome = answer(&rt, rt.alloc(), PLAIN.as_bytes(), &options, &OpenGate)?;
-    assert_eq!(rt; outcome.status, Status::Best);
-    assert_eq!(rt; outcome.text.as_slice(), PLAIN_PLAN.as_bytes());
+    assert_eq!(rt; reply.status, Status::Best);
+    assert_eq!(rt; reply.text.as_slice(), PLAIN_PLAN.as_bytes());
     Ok(())
 }
 

@@ -3,16 +3,19 @@ ghost use Rattle.std.specs.Prelude.{◌≡◌, ◌+◌, ◌≤◌, ◌⊎◌, If
 ghost use Rattle.fapp_io.specs.Whole.{DropsUpTo};
 ghost use Rattle.fapp_words.specs.Promises.{ReadsWords};
 ghost use Rattle.fapp_run.specs.Made.{AreRequested};
-ghost use Rattle.fapp_run.specs.Replies.{input_limit, AnswersTo, AreGiven, IsReplyOf, IsReplyFor, IsReply, ReadsFront, ReadsFor};
-ghost use Rattle.fapp_run.specs.Runs.{IsRun, Completes, CompletesCheck, CompletesGen, CompletesDemo, ProvesAccepted};
+ghost use Rattle.fapp_run.specs.declared.judgement.TheConstants.{MAX_CHECK_INPUT};
+ghost use Rattle.fapp_run.specs.declared.reply.TheConstants.{MAX_INPUT};
+ghost use Rattle.fapp_run.specs.Answers.{AreOptions};
+ghost use Rattle.fapp_run.specs.Judgements.{AreCheckOptions};
+ghost use Rattle.fapp_run.specs.Replies.{IsCheckReply, IsReply, IsReplyFor, IsSolveReply, ReadsFor, ReadsFront};
+ghost use Rattle.fapp_run.specs.Runs.{AreLimits, IsRun, Completes, CompletesCheck, CompletesGen, CompletesDemo, ProvesAccepted};
 
-use crate::command::Command;
 use crate::judgement::{MAX_CHECK_INPUT, judge};
 use crate::made::{demonstrated, generated};
-use crate::outcome::{MAX_INPUT, Reply, answer, refusal};
+use crate::reply::{MAX_INPUT, Reply, answer, refusal};
 use answer_writer::Status;
 use fapp_io::{NoMemory, ReadEnd, Sink, Source, WriteEnd, read_all, write_all};
-use fapp_words::{Request, read_words};
+use fapp_words::{CheckOptions, Request, SolveOptions, read_words};
 use fapp_workers::Gate;
 use std::alloc::Global;
 use std::thread::Threads;
@@ -50,26 +53,29 @@ pub fn run<R: Threads + Sync, S: Source, K: Sink, G: Gate>(
 
     // What an accepted answer claims is so.
     ensures right { ProvesAccepted (S.moment source.old) result }
+
+    // The limits of an input and of levels, as numbers.
+    ensures limits { AreLimits }
 {
-    let Ok(outcome) = outcome_of(rt, alloc, words, source, gate) else {
+    let Ok(reply) = reply_of(rt, alloc, words, source, gate) else {
         return Status::NoMemory;
     };
-    match write_all(sink, &outcome.text) {
-        Ok(()) => outcome.status,
+    match write_all(sink, &reply.text) {
+        Ok(()) => reply.status,
         Err(WriteEnd::WriteFault) => Status::WriteFault,
     }
 }
 
-/// The outcome for the words, and where they ask for an input to be read for that input.
-fn outcome_of<R: Threads + Sync, S: Source, G: Gate>(
+/// The reply to the words, and where they ask for an input to be read to that input.
+fn reply_of<R: Threads + Sync, S: Source, G: Gate>(
     rt: &R,
     alloc: Global,
     words: &[String],
     source: &mut S,
     gate: &G,
 ) -> Result<Reply, NoMemory>
-    ensures outcome { IfOk result (λ outcome.
-        IsReply words.now (S.moment source.old) (S.moment source.new) outcome.status outcome.text.items) }
+    ensures reply { IfOk result (λ reply.
+        IsReply words.now (S.moment source.old) (S.moment source.new) reply.status reply.text.items) }
     ensures no_memory { OnErr result (ReadsFront words.now (S.moment source.old) (S.moment source.new)) }
 {
     match read_words(alloc, words)? {
@@ -78,7 +84,7 @@ fn outcome_of<R: Threads + Sync, S: Source, G: Gate>(
     }
 }
 
-/// The outcome of a request.
+/// The reply to a request.
 fn requested<R: Threads + Sync, S: Source, G: Gate>(
     rt: &R,
     alloc: Global,
@@ -87,62 +93,57 @@ fn requested<R: Threads + Sync, S: Source, G: Gate>(
     gate: &G,
 ) -> Result<Reply, NoMemory>
     requires { AreRequested request }
-    ensures outcome { IfOk result (λ outcome.
-        IsReplyFor (Some request) (S.moment source.old) (S.moment source.new) outcome.status outcome.text.items) }
+    ensures reply { IfOk result (λ reply.
+        IsReplyFor (Some request) (S.moment source.old) (S.moment source.new) reply.status reply.text.items) }
     ensures no_memory { OnErr result (ReadsFor request (S.moment source.old) (S.moment source.new)) }
 {
     match request {
-        Request::Solve(options) => commanded(rt, alloc, Command::Solve(options), source, gate),
-        Request::Check(options) => commanded(rt, alloc, Command::Check(options), source, gate),
+        Request::Solve(options) => solved(rt, alloc, options, source, gate),
+        Request::Check(options) => checked(rt, alloc, options, source),
         Request::Gen(seed) => generated(alloc, seed),
         Request::Demo(seed) => demonstrated(rt, alloc, seed, gate),
     }
 }
 
-/// The outcome of a command for the input.
-fn commanded<R: Threads + Sync, S: Source, G: Gate>(
+/// The reply to an input that is to be solved.
+fn solved<R: Threads + Sync, S: Source, G: Gate>(
     rt: &R,
     alloc: Global,
-    command: Command,
+    options: SolveOptions,
     source: &mut S,
     gate: &G,
 ) -> Result<Reply, NoMemory>
-    requires { AreGiven command }
-    ensures outcome { IfOk result (λ outcome.
-        IsReplyOf command (S.moment source.old) (S.moment source.new) outcome.status outcome.text.items) }
+    requires { AreOptions options }
+    ensures reply { IfOk result (λ reply.
+        IsSolveReply options (S.moment source.old) (S.moment source.new) reply.status reply.text.items) }
     ensures no_memory { OnErr result (
-        DropsUpTo (S.moment source.old).left (S.moment source.new).left (input_limit command + 1)) }
+        DropsUpTo (S.moment source.old).left (S.moment source.new).left (MAX_INPUT + 1)) }
 {
-    match read_all(alloc, source, input_limit(command)) {
-        Ok(bytes) => outcome_by(rt, alloc, command, &bytes, gate),
+    match read_all(alloc, source, MAX_INPUT) {
+        Ok(bytes) => answer(rt, alloc, &bytes, &options, gate),
         Err(ReadEnd::TooLong) => refusal(alloc, Status::TooLong),
         Err(ReadEnd::ReadFault) => refusal(alloc, Status::ReadFault),
         Err(ReadEnd::NoMemory) => Err(NoMemory),
     }
 }
 
-fn input_limit(command: Command) -> usize
-    ensures value { result ≡ input_limit command }
-    ensures low { result ≤ MAX_CHECK_INPUT }
-{
-    match command {
-        Command::Solve(_) => MAX_INPUT,
-        Command::Check(_) => MAX_CHECK_INPUT,
-    }
-}
-
-fn outcome_by<R: Threads + Sync, G: Gate>(
+/// The reply to an input that is to be checked.
+fn checked<R: Threads + Sync, S: Source>(
     rt: &R,
     alloc: Global,
-    command: Command,
-    bytes: &[u8],
-    gate: &G,
+    options: CheckOptions,
+    source: &mut S,
 ) -> Result<Reply, NoMemory>
-    requires { AreGiven command }
-    ensures { IfOk result (λ outcome. AnswersTo command bytes.now outcome.status outcome.text.items) }
+    requires { AreCheckOptions options }
+    ensures reply { IfOk result (λ reply.
+        IsCheckReply (S.moment source.old) (S.moment source.new) reply.status reply.text.items) }
+    ensures no_memory { OnErr result (
+        DropsUpTo (S.moment source.old).left (S.moment source.new).left (MAX_CHECK_INPUT + 1)) }
 {
-    match command {
-        Command::Solve(options) => answer(rt, alloc, bytes, &options, gate),
-        Command::Check(options) => judge(rt, alloc, bytes, &options),
+    match read_all(alloc, source, MAX_CHECK_INPUT) {
+        Ok(bytes) => judge(rt, alloc, &bytes, &options),
+        Err(ReadEnd::TooLong) => refusal(alloc, Status::TooLong),
+        Err(ReadEnd::ReadFault) => refusal(alloc, Status::ReadFault),
+        Err(ReadEnd::NoMemory) => Err(NoMemory),
     }
 }

@@ -18,11 +18,10 @@ use Rattle.answer_writer.specs.declared.status.Status.TheVariants.{Best, NoneFea
 use Rattle.answer_writer.specs.Refusals.{refusal_line}
 use Rattle.answer_writer.specs.Texts.{written_text}
 use Rattle.fapp_words.specs.declared.options.SolveOptions.{SolveOptions}
-use Rattle.fapp_run.specs.declared.command.Command.TheVariants.{Solve}
-use Rattle.fapp_run.specs.declared.outcome.Solution.TheVariants.{Refused, Answered}
-use Rattle.fapp_run.specs.declared.outcome.TheConstants.{MAX_INPUT}
+use Rattle.fapp_run.specs.declared.reply.Solution.TheVariants.{Refused, Answered}
+use Rattle.fapp_run.specs.declared.reply.TheConstants.{MAX_INPUT}
 use Rattle.fapp_run.specs.Answers.{Answers, Solves, status_of}
-use Rattle.fapp_run.specs.Replies.{IsReplyOf}
+use Rattle.fapp_run.specs.Replies.{IsSolveReply}
 use Rattle.fapp_run.specs.Runs.{IsAnswer}
 use Rattle.fapp_run.proofs.RunEnds.{solution_ends}
 use Rattle.fapp_run.proofs.Told.{refused_answers, told_answers}
@@ -46,7 +45,7 @@ module _ (options : SolveOptions) (source source' : SourceMoment) where
   refused_whole status h = (h.0, h.1, refused_answers options h.0 status (refusal_line status) h.2 refl)
 
   -- a refusal is the outcome of `solve`
-  pub refused_outcome : (status : Status) → IsSolutionOf options source source' (Refused status) → IsReplyOf (Solve options) source source' status (refusal_line status)
+  pub refused_outcome : (status : Status) → IsSolutionOf options source source' (Refused status) → IsSolveReply options source source' status (refusal_line status)
   refused_outcome ReadFault h = (h.0, h.1, refl)
   refused_outcome TooLong h = (h, refl)
   refused_outcome (BadInput bad) h = refused_whole (BadInput bad) h
@@ -63,7 +62,7 @@ module _ (options : SolveOptions) (source source' : SourceMoment) where
   refused_outcome NoMemory h = refused_whole NoMemory h
 
   -- an answer is the outcome of `solve`
-  pub answered_outcome : (instance : Instance) (answer : Answer) → options.answer_only ≡ false → IsSolutionOf options source source' (Answered instance answer) → IsReplyOf (Solve options) source source' (status_of answer.verdict) (answer_text instance answer)
+  pub answered_outcome : (instance : Instance) (answer : Answer) → options.answer_only ≡ false → IsSolutionOf options source source' (Answered instance answer) → IsSolveReply options source source' (status_of answer.verdict) (answer_text instance answer)
   answered_outcome instance answer whole h = by_verdict answer.verdict refl
     where
       text_is : answer_text instance answer ≡ written_text instance answer options.answer_only
@@ -72,7 +71,7 @@ module _ (options : SolveOptions) (source source' : SourceMoment) where
       told : (status : Status) → status ≡ status_of answer.verdict → (bytes : List ℕ) × IsAllOf source.left source'.left bytes × Answers options bytes status (answer_text instance answer)
       told status e = (h.0, h.1, told_answers options h.0 instance answer status (answer_text instance answer) h.2 e text_is)
 
-      by_verdict : (v : Verdict) → answer.verdict ≡ v → IsReplyOf (Solve options) source source' (status_of v) (answer_text instance answer)
+      by_verdict : (v : Verdict) → answer.verdict ≡ v → IsSolveReply options source source' (status_of v) (answer_text instance answer)
       by_verdict (verdicts.Best t) e = told Best (ap status_of (sym e))
       by_verdict verdicts.NoneFeasible e = told NoneFeasible (ap status_of (sym e))
       by_verdict (verdicts.Open best lower level prefix) e = told Open (ap status_of (sym e))

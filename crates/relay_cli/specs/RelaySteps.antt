@@ -8,12 +8,11 @@ use Rattle.cert_lines.specs.declared.answer.Verdict.{Verdict}
 use Rattle.answer_writer.specs.declared.status.Status.{Status}
 use Rattle.answer_writer.specs.declared.status.Status.TheVariants.{ReadFault, TooLong, WriteFault, NoMemory}
 use Rattle.fapp_words.specs.declared.options.SolveOptions.{SolveOptions}
-use Rattle.fapp_run.specs.declared.command.Command.TheVariants.{Solve}
-use Rattle.fapp_run.specs.declared.outcome.Solution.{Solution}
-use Rattle.fapp_run.specs.declared.outcome.Solution.TheVariants.{Refused}
-use Rattle.fapp_run.specs.declared.outcome.TheConstants.{MAX_INPUT}
+use Rattle.fapp_run.specs.declared.reply.Solution.{Solution}
+use Rattle.fapp_run.specs.declared.reply.Solution.TheVariants.{Refused}
+use Rattle.fapp_run.specs.declared.reply.TheConstants.{MAX_INPUT}
 use Rattle.fapp_run.specs.Answers.{Solves, status_of}
-use Rattle.fapp_run.specs.Replies.{IsReplyOf}
+use Rattle.fapp_run.specs.Replies.{IsSolveReply}
 
 -- what a source is solved to: that it failed, that it has more than the limit, or what its bytes are solved to
 abbrev pub IsSolutionOf : SolveOptions → SourceMoment → SourceMoment → Solution → Type 0
@@ -36,5 +35,5 @@ IsWriting status text sink sink' end =
 abbrev pub IsRunBy : SolveOptions → SourceMoment → SourceMoment → SinkMoment → SinkMoment → Status → Type 0
 IsRunBy options source source' sink sink' end =
     ((end ≡ NoMemory) × (sink' ≡ sink))
-    ⊎ ((status : Status) × (text : List ℕ) × IsReplyOf (Solve options) source source' status text
+    ⊎ ((status : Status) × (text : List ℕ) × IsSolveReply options source source' status text
     × IsWriting status text sink sink' end)

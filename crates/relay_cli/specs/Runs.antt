@@ -14,10 +14,9 @@ use Rattle.answer_writer.specs.Refusals.{refusal_line}
 use Rattle.fapp_plan.specs.Plans.{split_of}
 use Rattle.fapp_words.specs.declared.options.SolveOptions.{SolveOptions}
 use Rattle.fapp_workers.specs.VerdictLaws.{IsEnough}
-use Rattle.fapp_run.specs.declared.command.Command.TheVariants.{Solve}
-use Rattle.fapp_run.specs.declared.outcome.TheConstants.{MAX_INPUT}
+use Rattle.fapp_run.specs.declared.reply.TheConstants.{MAX_INPUT}
 use Rattle.fapp_run.specs.Answers.{fuel_of, status_of}
-use Rattle.fapp_run.specs.Replies.{IsReplyOf}
+use Rattle.fapp_run.specs.Replies.{IsSolveReply}
 use Rattle.fapp_run.specs.Runs.{IsAnswer, IsUnfailing}
 use Rattle.relay_cli.specs.Words.{AreRelayWords, ReadsRelay}
 
@@ -28,7 +27,7 @@ NamesRelay words options = AreRelayWords (map string_bytes words) options
 -- Usage where nothing is asked for, and then nothing is read; or the outcome of `solve` with the options for the input
 abbrev pub IsRelayReplyFor : Option SolveOptions → SourceMoment → SourceMoment → Status → List ℕ → Type 0
 IsRelayReplyFor None source source' status text = (source' ≡ source) × (status ≡ Usage) × (text ≡ refusal_line Usage)
-IsRelayReplyFor (Some options) source source' status text = IsReplyOf (Solve options) source source' status text
+IsRelayReplyFor (Some options) source source' status text = IsSolveReply options source source' status text
 
 -- the status and the text for the words
 abbrev pub IsRelayReply : List (String Global) → SourceMoment → SourceMoment → Status → List ℕ → Type 0

@@ -4,7 +4,7 @@ use Rattle.record_reader.specs.Texts.{instance_of_text}
 use Rattle.fapp_text.specs.Reading.{Fails}
 use Rattle.fapp_gen.specs.Generated.{network_text}
 use Rattle.gen_laws.proofs.Networks.{made_instances, made_short}
-use Rattle.fapp_run.specs.declared.outcome.Reply.{Reply}
+use Rattle.fapp_run.specs.declared.reply.Reply.{Reply}
 use Rattle.fapp_run.specs.Made.{Demonstrates, IsDemonstrated}
 use Rattle.fapp_run.proofs.made.demonstrated.Goals as goal
 

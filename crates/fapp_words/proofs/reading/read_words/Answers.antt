@@ -5,8 +5,8 @@ use Rattle.fapp_words.proofs.BuiltProgram.{simple_and_free}
 use Rattle.fapp_words.proofs.RequestLemmas.{request_taken}
 use Rattle.fapp_words.proofs.reading.read_words.Goals as goal
 
-pub returns-in-Err-2 : goal.returns-in-Err-2
-returns-in-Err-2 c = λ request promised.
+pub returns-in-Err-2-clause-reads : goal.returns-in-Err-2-clause-reads
+returns-in-Err-2-clause-reads c = λ request promised.
     let words = map string_bytes c.args.words.now in
     let none = ap (λ app. fault_of app words) c.in_ok-program.ensures ∙ request_taken words request promised in
     let kinds = c.in-Err.ensures.kinds (ap is_simple_and_free c.in_ok-program.ensures ∙ simple_and_free) in

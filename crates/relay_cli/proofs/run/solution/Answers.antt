@@ -1,4 +1,4 @@
-use Rattle.fapp_run.specs.declared.outcome.TheConstants.{MAX_INPUT}
+use Rattle.fapp_run.specs.declared.reply.TheConstants.{MAX_INPUT}
 use Rattle.relay_cli.proofs.RelayRuns.{all_dropped}
 use Rattle.relay_cli.proofs.run.solution.Goals as goal
 

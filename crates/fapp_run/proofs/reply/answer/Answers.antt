@@ -1,7 +1,7 @@
 use Rattle.std.proofs.Common.{subst}
 use Rattle.fapp_run.specs.Answers.{Solves}
 use Rattle.fapp_run.proofs.Told.{told_result}
-use Rattle.fapp_run.proofs.outcome.answer.Goals as goal
+use Rattle.fapp_run.proofs.reply.answer.Goals as goal
 
 pub returns-in-Answered : goal.returns-in-Answered
 returns-in-Answered g c =

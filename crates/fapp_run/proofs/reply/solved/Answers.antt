@@ -2,7 +2,7 @@ use Rattle.std.proofs.lemmas.Result.{IfOk-weaker}
 use Rattle.fapp_run.specs.Answers.{IsAnswerIn}
 use Rattle.fapp_run.specs.Versions.{IsWrittenIn}
 use Rattle.fapp_run.proofs.Told.{answer_in}
-use Rattle.fapp_run.proofs.outcome.solved.Goals as goal
+use Rattle.fapp_run.proofs.reply.solved.Goals as goal
 
 pub returns : goal.returns
 returns g c =

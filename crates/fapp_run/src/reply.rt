@@ -40,7 +40,7 @@ pub enum Solution {
     Answered { instance: Instance, answer: Answer },
 }
 
-/// The outcome for an input, given as its bytes: the answer to the instance whose text it is, the first refused line of
+/// The reply to an input, given as its bytes: the answer to the instance whose text it is, the first refused line of
 /// another text, or `TooLong` for more than `MAX_INPUT` bytes. `run` answers just so to what it reads.
 pub fn answer<R: Threads + Sync, G: Gate>(
     rt: &R,
@@ -50,7 +50,7 @@ pub fn answer<R: Threads + Sync, G: Gate>(
     gate: &G,
 ) -> Result<Reply, NoMemory>
     requires { AreOptions options.now }
-    ensures { IfOk result (λ outcome. Answers options.now bytes.now outcome.status outcome.text.items) }
+    ensures { IfOk result (λ reply. Answers options.now bytes.now reply.status reply.text.items) }
 {
     match solve_input(rt, alloc, bytes, options, gate)? {
         Solution::Refused(status) => refusal(alloc, status),
@@ -110,8 +110,8 @@ fn told(
     answer_only: bool,
 ) -> Result<Reply, NoMemory>
     requires { IsWellFormed instance.now answer.now }
-    ensures status { IfOk result (λ outcome. outcome.status ≡ status_of answer.now.verdict) }
-    ensures text { IfOk result (λ outcome. outcome.text.items ≡ written_text instance.now answer.now answer_only) }
+    ensures status { IfOk result (λ reply. reply.status ≡ status_of answer.now.verdict) }
+    ensures text { IfOk result (λ reply. reply.text.items ≡ written_text instance.now answer.now answer_only) }
 {
     let text = answer_text(alloc, instance, answer, answer_only)?;
     Ok(Reply {
@@ -155,7 +155,7 @@ pub fn settings_for(instance: &Instance, options: &SolveOptions) -> Settings
 
 /// A status with the line that tells of it.
 pub fn refusal(alloc: Global, status: Status) -> Result<Reply, NoMemory>
-    ensures { IfOk result (λ outcome. (outcome.status ≡ status) × (outcome.text.items ≡ refusal_line status)) }
+    ensures { IfOk result (λ reply. (reply.status ≡ status) × (reply.text.items ≡ refusal_line status)) }
 {
     let text = refusal_text(alloc, &status)?;
     Ok(Reply { status, text })
