@@ -194,6 +194,18 @@ fn each_input_has_its_end(rt: HostRuntime) -> Result<(), Fail> {
 }
 
 #[test]
+fn a_refusal_is_the_same_with_a_certificate(rt: HostRuntime) -> Result<(), Fail> {
+    for (words, input, code, output) in ENDS.iter() {
+        if *words == WORDS && *code == 65 {
+            let (status, written) = end_of(&rt, rt.alloc(), "solve", input.as_bytes(), 4096, 0, 0)?;
+            assert_eq!(rt; status.code(), 65, "at {input}");
+            assert_eq!(rt; written.as_slice(), output.as_bytes(), "at {input}");
+        }
+    }
+    Ok(())
+}
+
+#[test]
 fn bytes_alone_have_their_answer(rt: HostRuntime) -> Result<(), Fail> {
     let options = SolveOptions {
         workers: 2,
@@ -203,7 +215,7 @@ fn bytes_alone_have_their_answer(rt: HostRuntime) -> Result<(), Fail> {
         cert: 1,
         answer_only: true,
     };
-    let outcome = answer(&rt, rt.alloc(), PLAIN.as_bytes(), &options, &OpenGate)?;
+    let reply = answer(&rt, rt.alloc(), PLAIN.as_bytes(), &options, &OpenGate)?;
     assert_eq!(rt; reply.status, Status::Best);
     assert_eq!(rt; reply.text.as_slice(), PLAIN_PLAN.as_bytes());
     Ok(())
@@ -272,23 +284,48 @@ fn the_longest_input_is_read(rt: HostRuntime) -> Result<(), Fail> {
     Ok(())
 }
 
+/// A text of so many paths, each of which has one choice, and their plan.
+fn paths_of_one_choice(alloc: Global, paths: u32) -> Result<(String, String), Fail> {
+    let mut text = String::from_str(alloc, "DM 1 5\n")?;
+    let mut plan = String::new(alloc);
+    for number in 1..paths + 1 {
+        writeln!(text, "TR {number} 1 1")?;
+        writeln!(plan, "AL {number} 5 1")?;
+    }
+    Ok((text, plan))
+}
+
 #[test]
 fn the_most_paths_are_planned(rt: HostRuntime) -> Result<(), Fail> {
-    let mut text = String::from_str(rt.alloc(), "DM 1 5\n")?;
-    let mut lines = String::new(rt.alloc());
-    for number in 1..8193 {
-        writeln!(text, "TR {number} 1 1")?;
-        writeln!(lines, "AL {number} 5 1")?;
-    }
-    let (status, written) = end_of(&rt, rt.alloc(), WORDS, text.as_bytes(), 4096, 0, 0)?;
+    let (text, plan) = paths_of_one_choice(rt.alloc(), 8192)?;
+    let input = text.as_bytes();
+    let (status, written) = end_of(&rt, rt.alloc(), WORDS, input, 4096, 0, 0)?;
     assert_eq!(rt; status, Status::Best);
-    assert!(rt; written.as_slice() == lines.as_bytes());
-    writeln!(text, "TR 8193 1 1")?;
-    let (status, written) = end_of(&rt, rt.alloc(), WORDS, text.as_bytes(), 4096, 0, 0)?;
-    assert_eq!(rt; status.code(), 65);
+    assert!(rt; written.as_slice() == plan.as_bytes());
+    let (status, written) = end_of(&rt, rt.alloc(), "solve", input, 4096, 0, 0)?;
+    assert_eq!(rt; status, Status::Best);
+    let whole = format!(in rt.alloc(); "{plan}{NOTHING_TO_PLAN}")?;
+    assert!(rt; written.as_slice() == whole.as_bytes());
+    let both = format!(in rt.alloc(); "{text}--\n{whole}")?;
+    let (status, written) = end_of(&rt, rt.alloc(), "check", both.as_bytes(), 4096, 0, 0)?;
+    assert_eq!(rt; status, Status::Accepted);
     assert_eq!(rt;
         written.as_slice(),
-        b"BADINPUT 8194 TooManyPaths\n".as_slice()
+        b"ACCEPTED BEST 0 0 0\n".as_slice()
     );
+    Ok(())
+}
+
+#[test]
+fn one_path_more_is_refused(rt: HostRuntime) -> Result<(), Fail> {
+    let (text, _) = paths_of_one_choice(rt.alloc(), 8193)?;
+    for words in [WORDS, "solve"] {
+        let (status, written) = end_of(&rt, rt.alloc(), words, text.as_bytes(), 4096, 0, 0)?;
+        assert_eq!(rt; status.code(), 65);
+        assert_eq!(rt;
+            written.as_slice(),
+            b"BADINPUT 8194 TooManyPaths\n".as_slice()
+        );
+    }
     Ok(())
 }

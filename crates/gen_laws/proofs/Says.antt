@@ -39,12 +39,12 @@ pub domain_says : (line domain frequency : ℕ) → IsNumber domain → IsNumber
 domain_says line domain frequency d f = rw (number_again domain d, number_again frequency f) refl
 
 pub path_says : (line path domain : ℕ) → IsNumber path → IsNumber domain
-    → entry_of LEVELS line (path_line path domain) ≡ Ok (entries.Link (links.Path (record { line = line; number = path; domain = domain; pol = pos 0 })))
+    → entry_of LEVELS line (path_line path domain) ≡ Ok (entries.Pending (links.Path (record { line = line; number = path; domain = domain; pol = pos 0 })))
 path_says line path domain p d = rw (number_again path p, number_again domain d, decimal_digit 0 (omega arith)) refl
 
 -- a constraint of two paths
 abbrev pub between : ℕ → ℕ → Demand → ℕ → Entry
-between first second rule line = entries.Link (links.Constraint (record { line = line; first = first; second = second; rule = rule }))
+between first second rule line = entries.Pending (links.Constraint (record { line = line; first = first; second = second; rule = rule }))
 
 constraint_says : (line first second : ℕ) (rule : Demand) → first ≢ second → rule_rises rule ≡ false → constraint line first second rule ≡ Ok (between first second rule line)
 constraint_says line first second rule apart flat = rw (ne_eqb first second apart, flat) refl

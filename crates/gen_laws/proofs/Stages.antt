@@ -186,7 +186,7 @@ old_or_new : (number count : ℕ) → number ≤ count + 1 → (number ≤ count
 old_or_new number count h = grind (arith, nat_tests)
 
 path_fits : (all count line domain : ℕ) → count < 2000 → 1 ≤ domain → domain ≤ 2 → (before : Contents) → HasLinks all count 0 before → (entry : PathEntry) → entry ≡ record { line = line; number = count + 1; domain = domain; pol = pos 0 }
-    → (path_refusal (paths_of before.links) entry ≡ None) × HasLinks all (count + 1) 0 (with_entry before (entries.Link (links.Path entry)))
+    → (path_refusal (paths_of before.links) entry ≡ None) × HasLinks all (count + 1) 0 (with_entry before (entries.Pending (links.Path entry)))
 path_fits all count line domain few some two before h entry is =
     let numbered : entry.number ≡ count + 1 = ap (λ (e : PathEntry). e.number) is in
     let placed_in : entry.domain ≡ domain = ap (λ (e : PathEntry). e.domain) is in
@@ -215,7 +215,7 @@ pub path_passes : (all count domain : ℕ) → count < 2000 → 1 ≤ domain →
 path_passes all count domain few some two =
     let number : IsNumber (count + 1) = omega arith in
     let own : IsNumber domain = omega arith in
-    passes_one (HasLinks all count 0) (HasLinks all (count + 1) 0) (codes "TR") (decimal (count + 1) ∷ decimal domain ∷ decimal 0 ∷ []) (λ line. entries.Link (links.Path (record { line = line; number = count + 1; domain = domain; pol = pos 0 })))
+    passes_one (HasLinks all count 0) (HasLinks all (count + 1) 0) (codes "TR") (decimal (count + 1) ∷ decimal domain ∷ decimal 0 ∷ []) (λ line. entries.Pending (links.Path (record { line = line; number = count + 1; domain = domain; pol = pos 0 })))
     (((omega arith, omega arith, (omega arith, (omega arith, tt))), (decimal_field (count + 1) number, (decimal_field domain own, (decimal_field 0 (omega arith), tt)))), omega arith)
     (λ line. path_says line (count + 1) domain number own)
     (λ before line h. path_fits all count line domain few some two before h _ refl)

@@ -33,7 +33,7 @@ with_link contents link = record contents { links = contents.links ++ link ∷ [
 
 pub constraint_added : (old new : Reader) (contents : Contents) (entry : ConstraintEntry) (line : ℕ) → ReaderHolds old contents → old.constraints < MAX_RECORDS
     → new.links ≡ old.links ++ links.Constraint entry ∷ [] → new ≡ record old { links = new.links; constraints = old.constraints + 1 }
-    → HoldsMore contents line (entries.Link (links.Constraint entry)) new
+    → HoldsMore contents line (entries.Pending (links.Constraint entry)) new
 constraint_added old new contents entry line held few pushed same =
     let link : Pending = links.Constraint entry in
     let paths : paths_of (contents.links ++ link ∷ []) ≡ paths_of contents.links = paths_append contents.links (link ∷ []) ∙ append-nil (paths_of contents.links) in
@@ -55,7 +55,7 @@ pub path_added : (old new : Reader) (contents : Contents) (entry : PathEntry) (l
     → btree_map_len old.positions < MAX_PATHS → Updates nat_cmp old.positions new.positions entry.number (Some (btree_map_len old.positions))
     → btree_map_len new.positions ≡ btree_map_len old.positions + 1
     → new.links ≡ old.links ++ links.Path entry ∷ [] → new ≡ record old { links = new.links; positions = new.positions }
-    → HoldsMore contents line (entries.Link (links.Path entry)) new
+    → HoldsMore contents line (entries.Pending (links.Path entry)) new
 path_added old new contents entry line held none few u longer pushed same =
     let link : Pending = links.Path entry in
     let earlier : List PathEntry = paths_of contents.links in

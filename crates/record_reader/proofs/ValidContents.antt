@@ -87,8 +87,8 @@ with_constraint earlier entry valid fit h =
 
 with_valid : (contents : Contents) (entry : Entry) → IsContents contents → IsEntryOf LEVELS entry → entry_refusal contents entry ≡ None → IsContents (with_entry contents entry)
 with_valid contents (entries.Domain entry) valid fit h = with_domain contents entry valid fit h
-with_valid contents (entries.Link (links.Path entry)) valid fit h = record { numbers = valid.numbers; domains = valid.domains; links = with_path contents.links entry valid.links fit h }
-with_valid contents (entries.Link (links.Constraint entry)) valid fit h = record { numbers = valid.numbers; domains = valid.domains; links = with_constraint contents.links entry valid.links fit h }
+with_valid contents (entries.Pending (links.Path entry)) valid fit h = record { numbers = valid.numbers; domains = valid.domains; links = with_path contents.links entry valid.links fit h }
+with_valid contents (entries.Pending (links.Constraint entry)) valid fit h = record { numbers = valid.numbers; domains = valid.domains; links = with_constraint contents.links entry valid.links fit h }
 
 line_valid : (contents next : Contents) (line : ℕ) (fields : List (List ℕ)) → IsContents contents → read_line contents line fields ≡ Ok next → IsContents next
 line_valid contents next line [] valid h = let e : contents ≡ next = cc in subst IsContents e valid

@@ -50,7 +50,7 @@ abbrev pub constraint : ℕ → ℕ → ℕ → Demand → Result Entry Cause
 constraint line first second rule =
     if first == second then Err SelfPair
     else (if rule_rises rule then Err Increasing
-    else Ok (entries.Link (links.Constraint (record { line = line; first = first; second = second; rule = rule }))))
+    else Ok (entries.Pending (links.Constraint (record { line = line; first = first; second = second; rule = rule }))))
 
 abbrev pub domain_entry : List (List ℕ) → Result Entry Cause
 domain_entry fields = do
@@ -63,7 +63,7 @@ path_entry line fields = do
   path ← number (field fields 1)
   domain ← number (field fields 2)
   pol ← polarization (field fields 3)
-  Ok (entries.Link (links.Path (record { line = line; number = path; domain = domain; pol = pol })))
+  Ok (entries.Pending (links.Path (record { line = line; number = path; domain = domain; pol = pol })))
 
 -- the rule of frequencies or that of polarizations, whose number is ignored
 abbrev pub imperative : Bool → Bool → ℕ → Demand

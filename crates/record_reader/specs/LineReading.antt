@@ -34,12 +34,12 @@ constraint_refusal earlier = if nat_le MAX_RECORDS (length earlier) then Some To
 -- what an entry is refused for, after earlier ones
 abbrev pub entry_refusal : Contents → Entry → Option Cause
 entry_refusal earlier (entries.Domain entry) = domain_refusal earlier.domains entry
-entry_refusal earlier (entries.Link (links.Path entry)) = path_refusal (paths_of earlier.links) entry
-entry_refusal earlier (entries.Link (links.Constraint entry)) = constraint_refusal (constraints_of earlier.links)
+entry_refusal earlier (entries.Pending (links.Path entry)) = path_refusal (paths_of earlier.links) entry
+entry_refusal earlier (entries.Pending (links.Constraint entry)) = constraint_refusal (constraints_of earlier.links)
 
 abbrev pub with_entry : Contents → Entry → Contents
 with_entry contents (entries.Domain entry) = record contents { domains = contents.domains ++ entry ∷ [] }
-with_entry contents (entries.Link link) = record contents { links = contents.links ++ link ∷ [] }
+with_entry contents (entries.Pending link) = record contents { links = contents.links ++ link ∷ [] }
 
 -- an entry after earlier ones
 abbrev pub read_entry : Contents → Entry → Result Contents Cause

@@ -37,8 +37,8 @@ pub record IsConstraintEntry (levels : ℕ) (entry : ConstraintEntry) : Type 0 w
 -- what a line says where there are so many levels
 abbrev pub IsEntryOf : ℕ → Entry → Type 0
 IsEntryOf levels (entries.Domain entry) = IsDomainEntry entry
-IsEntryOf levels (entries.Link (links.Path entry)) = IsPathEntry entry
-IsEntryOf levels (entries.Link (links.Constraint entry)) = IsConstraintEntry levels entry
+IsEntryOf levels (entries.Pending (links.Path entry)) = IsPathEntry entry
+IsEntryOf levels (entries.Pending (links.Constraint entry)) = IsConstraintEntry levels entry
 
 pub record ArePendings (links : List Pending) : Type 0 where
   pub paths : All IsPathEntry (paths_of links)
