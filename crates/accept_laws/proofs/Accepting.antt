@@ -31,11 +31,12 @@ use Rattle.cert_lines.specs.acceptance.LineFaults.{lines_fault, rejected_at}
 use Rattle.accept_laws.specs.Lines.{IsLineImplied}
 use Rattle.cert_lines.specs.acceptance.PlanFaults.{demanded, indices, is_same_triple, plan_fault, shown_fault_by}
 use Rattle.cert_lines.specs.acceptance.RootFaults.{greater, is_root, root_fault, root_fault_by, root_tag, tag_by, tag_for, verdict_tag, with_root_line}
-use Rattle.accept_laws.proofs.CodeOrder.{codes-at_most}
+use Rattle.fapp_model.proofs.CodeOrder.{codes-at_most}
 use Rattle.cert_lines.proofs.Deleting.{all-kept, entries-of}
 use Rattle.accept_laws.proofs.GoodLines.{clean-lines, good-none, good-lines}
 use Rattle.accept_laws.proofs.Options.{both-none, mapped-none, neither, cause_unless-none}
 use Rattle.accept_laws.proofs.ShownPlans.{same-triples, shown-plan}
+use Rattle.accept_laws.proofs.LineGrowth.{none-mapped}
 
 -- what a root line says
 abbrev IsRootImplied : Instance → Option Tag → Type 0
@@ -115,9 +116,6 @@ accepted-parts instance answer h =
       lines = clean-lines instance answer.lines rest.0;
       root = mapped-none (rejected_at 0) (root_fault instance answer.verdict answer.lines) rest.1;
     }
-
-none-mapped : {X Y : Type 0} (f : X → Y) (o : Option X) → o ≡ None → option_map f o ≡ None
-none-mapped f o e = rw e refl
 
 pub parts-accepted : (instance : Instance) (answer : Answer) → HasNoFault instance answer → answer_fault instance answer ≡ None
 unfolding answer_fault

@@ -34,9 +34,10 @@ use Rattle.cert_lines.specs.acceptance.Deleted.{deletes, is_deleted, kept}
 use Rattle.cert_lines.specs.acceptance.Excluded.{no_line, line_at, is_only, is_marked, is_cited, is_excluded}
 use Rattle.cert_lines.specs.acceptance.LineFaults.{first_of, cause_unless, cite_fault, child_fault, delete_fault, is_dead, is_settled, count_fault, branch_fault, rule_fault, line_fault, fault_at, lines_fault, rejected_at}
 use Rattle.accept_laws.specs.Lines.{AreGood, IsLineImplied}
-use Rattle.accept_laws.proofs.CodeOrder.{codes-at_most}
+use Rattle.fapp_model.proofs.CodeOrder.{codes-at_most}
 use Rattle.cert_lines.proofs.Deleting.{all-kept}
-use Rattle.accept_laws.proofs.Having.{has_all-each, only-literal, formed-partial}
+use Rattle.accept_laws.proofs.Having.{only-literal, formed-partial}
+use Rattle.cert_lines.proofs.Having.{has_all-each}
 use Rattle.accept_laws.proofs.Judging.{judged-dead}
 use Rattle.accept_laws.proofs.Options.{neither, cause_unless-none, first_of-none, none-first_of, mapped-none}
 

@@ -6,6 +6,7 @@ use Rattle.fapp_model.specs.search.Pairs.{Pair, IsPairAtMost}
 use Rattle.dead_laws.proofs.DeadLower.{IsPairAtMost-trans}
 use Rattle.cert_lines.specs.acceptance.Judged.{is_pair_at_most, lesser}
 use Rattle.accept_laws.proofs.PairTests.{pairs-at_most, not-pairs}
+use Rattle.dead_laws.proofs.BestChoices.{NonePass}
 
 pub record IsBest (test : ℕ → Bool) (pair : ℕ → Pair) (xs : List ℕ) (p : Pair) : Type 0 where
   pub item : ℕ
@@ -13,9 +14,6 @@ pub record IsBest (test : ℕ → Bool) (pair : ℕ → Pair) (xs : List ℕ) (p
   pub passes : test item ≡ true
   pub reached : pair item ≡ p
   pub least : (y : ℕ) → Contains xs y → test y ≡ true → IsPairAtMost p (pair y)
-
-pub record NonePass (test : ℕ → Bool) (xs : List ℕ) : Type 0 where
-  pub fails : (y : ℕ) → Contains xs y → test y ≡ false
 
 abbrev pub IsLeastOf : (test : ℕ → Bool) (pair : ℕ → Pair) → List ℕ → Option Pair → Type 0
 IsLeastOf test pair xs None = NonePass test xs

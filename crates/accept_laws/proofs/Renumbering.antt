@@ -1,8 +1,8 @@
 -- A line without a fault has none from other lines either, where these say what it cites and mark what was marked.
-use Rattle.std.proofs.Common.{◌≡◌, ◌≢◌, ℕ, ◌+◌, ◌-◌, ◌<◌, ◌≤◌, Bool, true, false, ◌&&◌, not, List, [], ◌∷◌, ◌++◌, length, map, take, get_or, refl, ap, sym, subst, ◌∙◌, inl, inr, arith, None, Option, All, Contains, IsTrue, ltb, leb, eqb, cond, ◌⊎◌, ◌/◌, ◌%◌}
+use Rattle.std.proofs.Common.{◌≡◌, ℕ, ◌+◌, ◌-◌, ◌<◌, ◌≤◌, Bool, true, false, ◌&&◌, not, List, [], ◌∷◌, ◌++◌, length, map, take, get_or, refl, ap, sym, subst, ◌∙◌, inl, inr, arith, None, Option, All, Contains, IsTrue, ltb, leb, eqb, cond, ◌⊎◌, ◌/◌, ◌%◌}
 use Rattle.std.specs.List.{list_any, list_all, range_with_len}
 use Rattle.std.specs.Option.{option_map}
-use Rattle.std.proofs.lemmas.Bool.{and_from, or_cases, or_left, or_right, not-true, not_from_false, lt-ltb, le-leb, eqb-false, cases_lt, eq-eqb, true≢false}
+use Rattle.std.proofs.lemmas.Bool.{and_from, or_cases, or_left, or_right, not-true, not_from_false, lt-ltb, le-leb, eqb-false, cases_lt}
 use Rattle.std.proofs.lemmas.List.{length-append, length-map, length-take, get_or_append_left, get_or-append_right, get_or-map, get_or-take, take-append-le, take-map}
 use Rattle.std.proofs.Math.Seq.{take-append-add}
 use Rattle.std.proofs.lemmas.List.Sums.{AllPass-from_list_all}
@@ -14,7 +14,7 @@ use Rattle.fapp_model.specs.declared.triple.Triple.{Triple}
 use Rattle.fapp_model.specs.Assignments.{count_at}
 use Rattle.fapp_model.specs.Tags.{least_tag, triple_from}
 use Rattle.fapp_model.specs.search.Partials.{IsPartial, literal, names}
-use Rattle.fapp_model.proofs.Anys.{any-member, none-member, passing}
+use Rattle.fapp_model.proofs.Anys.{any-member, passing}
 use Rattle.fapp_model.proofs.Members.{All-from_members, at_front, behind, from-map, from-range, in-map, no_member}
 use Rattle.cert_lines.specs.declared.answer.Child.{Child}
 use Rattle.cert_lines.specs.declared.answer.Line.{Line}
@@ -27,7 +27,6 @@ use Rattle.cert_lines.specs.acceptance.Contained.{has_all, has_all_but_one}
 use Rattle.cert_lines.specs.acceptance.Deleted.{deletes, is_delete, is_deleted, kept}
 use Rattle.cert_lines.specs.acceptance.Excluded.{is_cited, is_excluded, is_marked, is_only, line_at, no_line}
 use Rattle.cert_lines.specs.acceptance.LineFaults.{branch_fault, cause_unless, child_fault, cite_fault, count_fault, delete_fault, first_of, is_dead, is_settled, line_fault, rejected_at, rule_fault}
-use Rattle.dead_laws.proofs.ExampleTests.{one-more}
 use Rattle.accept_laws.specs.Lines.{AreGood}
 use Rattle.cert_lines.specs.Renumbering.{cited, renumbered, renumbered_child, renumbered_rule}
 use Rattle.accept_laws.specs.Renumbering.{shifted}
@@ -36,21 +35,17 @@ use Rattle.accept_laws.proofs.GoodLines.{good-cite}
 use Rattle.accept_laws.proofs.Having.{formed-partial}
 use Rattle.accept_laws.proofs.Judging.{judged-dead, judged-where-excluded}
 use Rattle.accept_laws.proofs.Options.{both-none, cause_unless-none, first_of-none, mapped-none, neither, none-first_of}
+use Rattle.dead_laws.proofs.OneMoreLiteral.{with-literal}
 
 pub passes-none : (b : Bool) (cause : RejectCause) → b ≡ true → cause_unless b cause ≡ None
 passes-none true cause h = refl
 passes-none false cause h = absurd (cc)
 
-above-least : (code : ℕ) → 0 < code → triple_from code ≡ least_tag → ⊥
+pub above-least : (code : ℕ) → 0 < code → triple_from code ≡ least_tag → ⊥
 above-least code some e = absurd (parts (ap (λ (t : Triple). t.k) e) (ap (λ (t : Triple). t.v) e) (ap (λ (t : Triple). t.s) e))
   where
     parts : code / 67108864 / 67108864 ≡ 0 → code / 67108864 % 67108864 ≡ 0 → code % 67108864 ≡ 0 → ⊥
     parts k v s = omega arith
-
-with-literal : (instance : Instance) (literals : List Literal) (path index : ℕ) → IsPartial instance literals → path < length instance.paths → index < count_at instance path → names literals path ≡ false → IsPartial instance (literal path index ∷ literals)
-with-literal instance literals path index partial small below apart = one-more instance (literal path index) literals (record { path = small; choice = below })
-    (All-from_members (λ (b : Literal). path ≢ b.path) literals (λ b m e. true≢false (sym (eq-eqb b.path path (sym e)) ∙ none-member (λ (c : Literal). eqb c.path path) literals apart b m)))
-    partial
 
 -- what a line says, another one says that may be cited
 pub record Serves (earlier more : List Line) (n m : ℕ) : Type 0 where

@@ -24,11 +24,11 @@ use Rattle.accept_laws.proofs.Stripping.{front-plain, same-lits, same-tag}
 
 -- ---- a root line that is there
 
-abbrev AtLeast : ℕ → Option Tag → Type 0
+abbrev pub AtLeast : ℕ → Option Tag → Type 0
 AtLeast code None = ⊥
 AtLeast code (Some u) = code ≤ u.code
 
-greater-left : (code : ℕ) (found : Option Tag) (t : Tag) → AtLeast code found → AtLeast code (Some (greater found t))
+pub greater-left : (code : ℕ) (found : Option Tag) (t : Tag) → AtLeast code found → AtLeast code (Some (greater found t))
 greater-left code None t h = absurd h
 greater-left code (Some u) t h = by_order (ltb u.code t.code) refl
   where
@@ -36,7 +36,7 @@ greater-left code (Some u) t h = by_order (ltb u.code t.code) refl
     by_order true e = let l = ltb-true u.code t.code e in omega arith
     by_order false e = h
 
-greater-right : (found : Option Tag) (t : Tag) → AtLeast t.code (Some (greater found t))
+pub greater-right : (found : Option Tag) (t : Tag) → AtLeast t.code (Some (greater found t))
 greater-right None t = omega arith
 greater-right (Some u) t = by_order (ltb u.code t.code) refl
   where
@@ -44,18 +44,18 @@ greater-right (Some u) t = by_order (ltb u.code t.code) refl
     by_order true e = omega arith
     by_order false e = ltb-false u.code t.code e
 
-keeps-line : (code : ℕ) (found : Option Tag) (line : Line) → AtLeast code found → AtLeast code (with_root_line found line)
+pub keeps-line : (code : ℕ) (found : Option Tag) (line : Line) → AtLeast code found → AtLeast code (with_root_line found line)
 keeps-line code found line h = by_root (is_root line)
   where
     by_root : (b : Bool) → AtLeast code (let o : Option Tag = cond b (Some (greater found line.tag)) found in o)
     by_root true = greater-left code found line.tag h
     by_root false = h
 
-keeps-all : (code : ℕ) (lines : List Line) (found : Option Tag) → AtLeast code found → AtLeast code (fold with_root_line found lines)
+pub keeps-all : (code : ℕ) (lines : List Line) (found : Option Tag) → AtLeast code found → AtLeast code (fold with_root_line found lines)
 keeps-all code [] found h = h
 keeps-all code (line ∷ lines) found h = keeps-all code lines (with_root_line found line) (keeps-line code found line h)
 
-found-root : (lines : List Line) (found : Option Tag) (line : Line) → Contains lines line → is_root line ≡ true → AtLeast line.tag.code (fold with_root_line found lines)
+pub found-root : (lines : List Line) (found : Option Tag) (line : Line) → Contains lines line → is_root line ≡ true → AtLeast line.tag.code (fold with_root_line found lines)
 found-root [] found line m e = absurd (no_member line m)
 found-root (first ∷ lines) found line m e = ⊎_elim
     (λ same. keeps-all line.tag.code lines (with_root_line found first) (subst (λ (x : Line). AtLeast line.tag.code (with_root_line found x)) (sym same) (rw e (greater-right found line.tag))))

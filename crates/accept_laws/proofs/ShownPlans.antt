@@ -21,6 +21,7 @@ use Rattle.cert_lines.specs.acceptance.LineFaults.{cause_unless}
 use Rattle.cert_lines.specs.acceptance.PlanFaults.{is_same_choice, is_same_triple, is_offered, index_in, shown_at, indices, all_offered, cost_fault, shown_fault}
 use Rattle.accept_laws.specs.Answers.{Shows}
 use Rattle.accept_laws.proofs.Options.{neither, cause_unless-none}
+use Rattle.fapp_model.proofs.CostParts.{triple}
 
 -- the first place that passes is in a list that has one
 pub first-within : {X : Type 0} (p : X → Bool) (xs : List X) → list_any p xs ≡ true → position_or_len p xs < length xs
@@ -38,9 +39,6 @@ same-choices a b h =
     let freq = eqb-true a.freq b.freq parts.0 in
     let pol = (Decides-int_eq a.pol b.pol).0 parts.1 in
     ap (λ (f : ℕ). choose f a.pol) freq ∙ ap (choose b.freq) pol
-
-abbrev triple : ℕ → ℕ → ℕ → Triple
-triple k v s = record { k = k; v = v; s = s }
 
 pub same-triples : (t u : Triple) → is_same_triple t u ≡ true → t ≡ u
 same-triples t u h =

@@ -1,16 +1,14 @@
 -- The next frequency at which all records of a pair are met.
 use Rattle.std.proofs.Common.{◌≡◌, ◌⊎◌, ◌==◌, ℕ, ◌<◌, ◌≤◌, ◌+◌, Bool, true, false, List, length, sym, refl, ap, ◌∙◌, subst, inl, inr, arith, All, Contains, IsTrue, slice_index, get_or}
-use Rattle.std.specs.Int.{abs_diff}
 use Rattle.std.specs.List.{range_with_len}
 use Rattle.std.proofs.lemmas.Bool.{cases_Bool, cases_lt}
-use Rattle.std.proofs.lemmas.Cmp.{int_eq_equiv}
 use Rattle.std.proofs.lemmas.List.Elements.{All-from_get_or, Contains-get_or}
 use Rattle.fapp_model.specs.declared.choice.Choice.{Choice}
 use Rattle.fapp_model.specs.declared.instance.Instance.{Instance}
 use Rattle.fapp_model.specs.declared.level.TheConstants.{MAX_LEVELS}
 use Rattle.fapp_model.specs.declared.record.Record.{Record}
 use Rattle.fapp_model.specs.declared.record.Record.TheVariants.{Freq, Pol, Same, Other}
-use Rattle.fapp_model.specs.Records.{first_path, is_closer, same_polarization}
+use Rattle.fapp_model.specs.Records.{first_path}
 use Rattle.fapp_model.specs.Instances.{IsInstance}
 use Rattle.fapp_model.specs.search.Clashes.{is_hard_bad, shares_record}
 use Rattle.fapp_model.proofs.Members.{from-filter, from-range}
@@ -26,17 +24,9 @@ use Rattle.arc_levels.specs.Heights.{height_at}
 use Rattle.arc_levels.specs.Removals.{AreRemovals, IsRevision}
 use Rattle.arc_levels.proofs.LeftLaws.{left_as}
 use Rattle.arc_levels.proofs.StepLaws.{shares_apart, shares_back}
+use Rattle.fapp_tables.proofs.Turned.{far_turned, same_turned, closer_turned}
 
 -- ---- a record is hard-bad of two choices in either order
-
-far_turned : (x y : ℕ) → abs_diff x y ≡ abs_diff y x
-far_turned x y = omega arith
-
-same_turned : (a b : Choice) → same_polarization a b ≡ same_polarization b a
-same_turned a b = int_eq_equiv.symm a.pol b.pol
-
-closer_turned : (level : ℕ) (dist : List ℕ) (a b : Choice) → is_closer level dist a b ≡ is_closer level dist b a
-closer_turned level dist a b = rw (far_turned a.freq b.freq) refl
 
 pub bad_turned : (level : ℕ) (r : Record) (a b : Choice) → is_hard_bad level r a b ≡ is_hard_bad level r b a
 bad_turned level (Freq i j true n) a b = rw (far_turned a.freq b.freq) refl

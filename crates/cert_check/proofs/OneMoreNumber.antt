@@ -1,5 +1,5 @@
 -- One more number of a range.
-use Rattle.std.proofs.Common.{◌≡◌, ℕ, zero, suc, ◌+◌, Bool, true, false, ◌&&◌, ◌||◌, cond, List, [], ◌∷◌, ◌++◌, refl, ap, ◌∙◌, arith, sum_by, count_by, fold, add-zero, zero-add, ◌<◌, length, take, get_or}
+use Rattle.std.proofs.Common.{◌≡◌, ℕ, ◌+◌, Bool, true, false, ◌&&◌, ◌||◌, cond, List, [], ◌∷◌, refl, ap, ◌∙◌, arith, sum_by, count_by, fold, zero-add, ◌<◌, length, take, get_or}
 use Rattle.std.specs.List.{list_any, list_all, range_with_len}
 use Rattle.std.proofs.lemmas.List.Sums.{sum_by_push, sum_by_more, fold_push}
 use Rattle.std.proofs.lemmas.List.Folds.{list_any-append, list_any_more, list_all-append, list_all_at}
@@ -7,13 +7,7 @@ use Rattle.std.proofs.lemmas.List.FromFn.{length-range_with_len, get_or-range_wi
 use Rattle.fapp_model.proofs.Anys.{any-member}
 use Rattle.fapp_model.proofs.Members.{in-range}
 use Rattle.std.proofs.lemmas.Bool.{or_from, and_from}
-
-pub range_more : (a n : ℕ) → range_with_len a (n + 1) ≡ range_with_len a n ++ (a + n) ∷ []
-range_more a zero = rw add-zero refl
-range_more a (suc n) =
-    let more : suc n + 1 ≡ suc (n + 1) = omega arith in
-    let same : a + 1 + n ≡ a + suc n = omega arith in
-    rw (more, ← same) (ap (λ xs. a ∷ xs) (range_more (a + 1) n))
+use Rattle.fapp_model.proofs.CostParts.{range_more}
 
 pub sum_range : (f : ℕ → ℕ) (n : ℕ) → sum_by f (range_with_len 0 (n + 1)) ≡ sum_by f (range_with_len 0 n) + f n
 sum_range f n = ap (sum_by f) (range_more 0 n) ∙ (sum_by_push f (range_with_len 0 n) (0 + n) ∙ ap (λ k. sum_by f (range_with_len 0 n) + f k) (zero-add n))

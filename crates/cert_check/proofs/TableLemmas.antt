@@ -10,7 +10,7 @@ use Rattle.cert_lines.specs.acceptance.Excluded.{is_only}
 use Rattle.cert_check.specs.Tables.{IsPushed}
 use Rattle.cert_check.specs.Ones.{is_one_of, first_literal, choice_on, ones_by_path}
 use Rattle.cert_check.specs.Marked.{marked_row, line_on, ones_of}
-use Rattle.cert_check.proofs.OneMoreNumber.{range_more}
+use Rattle.fapp_model.proofs.CostParts.{range_more}
 
 pub filter_range : (p : ℕ → Bool) (n : ℕ) → filter p (range_with_len 0 (n + 1)) ≡ filter p (range_with_len 0 n) ++ cond (p n) (n ∷ []) []
 filter_range p n = ap (filter p) (range_more 0 n) ∙ (filter-append p (range_with_len 0 n) ((0 + n) ∷ []) ∙ ap (λ k. filter p (range_with_len 0 n) ++ cond (p k) (k ∷ []) []) (zero-add n))

@@ -23,3 +23,4 @@ pub mod Deleting
 pub mod SameLines
 pub mod StripSteps
 pub mod StripExample
+pub mod Having

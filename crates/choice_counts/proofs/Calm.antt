@@ -25,7 +25,8 @@ use Rattle.choice_counts.specs.CountedSums.{IsCountedSum, IsCalm, IsLeastAt, Rem
 use Rattle.choice_counts.specs.Tallies.{least_of_tallies, least_part, stuck_part}
 use Rattle.choice_counts.proofs.Bounds.{further_small}
 use Rattle.choice_counts.proofs.Clash.{flag, flag_zero}
-use Rattle.choice_counts.proofs.Coded.{code, inside_code, same-pair, sum_by-code}
+use Rattle.choice_counts.proofs.Coded.{code, inside_code, sum_by-code}
+use Rattle.dead_laws.proofs.PlanLiterals.{same-pair}
 use Rattle.choice_counts.proofs.Remaining.{away_zero, inside-kept, kept-inside, least-found, some-left, zero_away}
 use Rattle.fapp_model.specs.declared.level.TheConstants.{MAX_LEVELS}
 

@@ -1,12 +1,12 @@
 -- Coded sums: one number for a pair.
-use Rattle.std.proofs.Common.{◌≡◌, ◌⊎◌, ℕ, ◌+◌, ◌*◌, ◌<◌, ◌≤◌, Bool, true, false, cond, List, [], ◌∷◌, get_or, refl, sym, ap, ◌∙◌, inl, inr, arith, sum_by}
+use Rattle.std.proofs.Common.{◌≡◌, ℕ, ◌+◌, ◌*◌, ◌<◌, ◌≤◌, Bool, true, false, cond, List, [], ◌∷◌, get_or, refl, ◌∙◌, inl, inr, arith, sum_by}
 use Rattle.std.proofs.lemmas.Bool.{cases_order}
 use Rattle.std.proofs.lemmas.List.Sums.{sum_by-cons}
 use Rattle.fapp_model.specs.declared.instance.Instance.{Instance}
 use Rattle.fapp_model.specs.declared.limits.TheConstants.{S_SPAN}
 use Rattle.fapp_model.specs.declared.literal.Literal.{Literal}
 use Rattle.fapp_model.specs.search.Clashes.{joins}
-use Rattle.fapp_model.specs.search.Pairs.{Pair, IsPairAtMost, IsPairBelow}
+use Rattle.fapp_model.specs.search.Pairs.{Pair, IsPairAtMost}
 use Rattle.fapp_model.specs.search.Partials.{choice_of}
 use Rattle.fapp_model.specs.search.Weights.{added, added_pair, bad_before, bad_further, between, inside}
 use Rattle.fapp_model.proofs.Sums.{sum_by-same-members}
@@ -49,9 +49,6 @@ module _ (instance : Instance) (level : ℕ) where
       (λ a. same_sum (λ b. between instance (coded_part level) a b) (λ b. code (between instance (bad_before level) a b) (between instance (bad_further level) a b)) (between_code a) literals
       ∙ sum_by-code (λ b. between instance (bad_before level) a b) (λ b. between instance (bad_further level) a b) literals) literals
       ∙ sum_by-code (λ a. sum_by (λ b. between instance (bad_before level) a b) literals) (λ a. sum_by (λ b. between instance (bad_further level) a b) literals) literals
-
-pub same-pair : (p q : Pair) → p.v ≡ q.v → p.s ≡ q.s → p ≡ q
-same-pair p q e f = ap (λ v. let r : Pair = record { v = v; s = p.s } in r) e ∙ ap (λ s. let r : Pair = record { v = q.v; s = s } in r) f
 
 -- pairs are ordered as their codes, where their second parts are below the span
 pub at_most-code : (p q : Pair) → p.s < S_SPAN → q.s < S_SPAN → IsPairAtMost p q → pair_code p ≤ pair_code q

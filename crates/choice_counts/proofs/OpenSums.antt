@@ -6,7 +6,7 @@ use Rattle.std.proofs.lemmas.Bool.{cases_Bool, cases_eq, cases_lt, ltb-true}
 use Rattle.std.proofs.lemmas.List.{get_or-set_other, get_or-set_same, length-set}
 use Rattle.std.proofs.lemmas.List.Sums.{sum_by_push}
 use Rattle.fapp_model.proofs.Sums.{range-sum-most, range-sum-same}
-use Rattle.fapp_tables.proofs.HeightLaws.{range_more}
+use Rattle.fapp_model.proofs.CostParts.{range_more}
 use Rattle.nogood.specs.Partials.{choice_given}
 use Rattle.choice_counts.specs.declared.rows.PathTallies.{PathTallies}
 use Rattle.choice_counts.specs.declared.rows.TheConstants.{HARD}

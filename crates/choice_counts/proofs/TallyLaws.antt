@@ -1,10 +1,8 @@
 -- What two choices count in each other's tallies is a matter of how far apart they are, and whether their polarizations are
 -- equal.
-use Rattle.std.proofs.Common.{◌≡◌, ◌≢◌, ◌⊎◌, ℕ, ◌+◌, ◌*◌, ◌<◌, ◌≤◌, Bool, true, false, cond, ltb, ◌&&◌, ◌||◌, ◌-◌, slice_index, get_or, ◌==◌, not, List, refl, sym, ap, ◌∙◌, inl, inr, arith, count_by, All}
-use Rattle.std.specs.Int.{abs_diff}
+use Rattle.std.proofs.Common.{◌≡◌, ◌≢◌, ◌⊎◌, ℕ, ◌+◌, ◌*◌, ◌<◌, ◌≤◌, Bool, true, false, cond, ltb, ◌&&◌, ◌||◌, ◌-◌, slice_index, get_or, ◌==◌, not, refl, sym, ap, ◌∙◌, inl, inr, arith, count_by, All}
 use Rattle.std.specs.List.{range_with_len}
 use Rattle.std.proofs.lemmas.Bool.{cases_Bool}
-use Rattle.std.proofs.lemmas.Cmp.{int_eq_equiv}
 use Rattle.fapp_model.specs.declared.choice.Choice.{Choice}
 use Rattle.fapp_model.specs.declared.instance.Instance.{Instance}
 use Rattle.fapp_model.specs.declared.limits.TheConstants.{S_SPAN}
@@ -22,17 +20,9 @@ use Rattle.choice_counts.specs.Counts.{pair_tally}
 use Rattle.choice_counts.proofs.Clash.{clash_found, flag, pair_turned}
 use Rattle.choice_counts.specs.Breaks.{IsSteady}
 use Rattle.choice_counts.specs.Distances.{choices_tally, far, near, tally_apart, tally_by}
+use Rattle.fapp_tables.proofs.Turned.{far_turned, same_turned, closer_turned}
 
 -- ---- a record says the same of two choices in either order
-
-far_turned : (x y : ℕ) → abs_diff x y ≡ abs_diff y x
-far_turned x y = omega arith
-
-same_turned : (a b : Choice) → same_polarization a b ≡ same_polarization b a
-same_turned a b = int_eq_equiv.symm a.pol b.pol
-
-closer_turned : (level : ℕ) (dist : List ℕ) (a b : Choice) → is_closer level dist a b ≡ is_closer level dist b a
-closer_turned level dist a b = rw (far_turned a.freq b.freq) refl
 
 bad_turned : (level : ℕ) (r : Record) (a b : Choice) → is_bad level r a b ≡ is_bad level r b a
 bad_turned level (Freq i j equal n) a b = refl

@@ -17,3 +17,4 @@ pub mod ExamplesValid
 pub mod ExampleTests
 pub mod TiedPair
 pub mod ThreeAlike
+pub mod OneMoreLiteral

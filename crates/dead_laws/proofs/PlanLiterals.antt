@@ -127,7 +127,7 @@ pub none-open : (instance : Instance) (literals : List Literal) → ((path : ℕ
 none-open instance literals full h = sum_by-none (λ p. cond (names literals p) 0 (h p)) (range_with_len 0 (length instance.paths))
     (All-range (λ p. ◌≡◌ {A = ℕ} (cond (names literals p) 0 (h p)) 0) (length instance.paths) (λ p small. ap (λ b. cond b 0 (h p)) (full p small)))
 
-same-pair : (p q : Pair) → p.v ≡ q.v → p.s ≡ q.s → p ≡ q
+pub same-pair : (p q : Pair) → p.v ≡ q.v → p.s ≡ q.s → p ≡ q
 same-pair p q e f = ap (λ v. let r : Pair = record { v = v; s = p.s } in r) e ∙ ap (λ s. let r : Pair = record { v = q.v; s = s } in r) f
 
 -- the pair of a plan's literals is that of its violations

@@ -17,7 +17,7 @@ use Rattle.dead_laws.proofs.DeadTests.{clash-dead, has_clash, least-pairs, least
 use Rattle.dead_laws.proofs.ExamplesValid.{three-valid}
 use Rattle.dead_laws.proofs.ExampleTests.{all_below, below-all, below-three, each-inside, lives, no-literals, one-more}
 
-at-three : (path index : ℕ) → path < 3 → index < 2 → IsLiteral three_alike (literal path index)
+pub at-three : (path index : ℕ) → path < 3 → index < 2 → IsLiteral three_alike (literal path index)
 unfolding three_alike
 at-three zero index l m = record { path = omega arith; choice = m }
 at-three (suc zero) index l m = record { path = omega arith; choice = m }

@@ -9,3 +9,4 @@ pub mod TagParts
 pub mod ClearLevels
 pub mod Violations
 pub mod CostParts
+pub mod CodeOrder

@@ -240,12 +240,12 @@ accepted_ends words source source' bytes status text left e h =
 
 -- ---- whole runs
 
-no_verdict_fault : (v : Verdict) → WriteFault ≡ status_of v → ⊥
+pub no_verdict_fault : (v : Verdict) → WriteFault ≡ status_of v → ⊥
 no_verdict_fault (verdicts.Best t) e = cc
 no_verdict_fault verdicts.NoneFeasible e = cc
 no_verdict_fault (verdicts.Open best lower level prefix) e = cc
 
-no_verdict_want : (v : Verdict) → NoMemory ≡ status_of v → ⊥
+pub no_verdict_want : (v : Verdict) → NoMemory ≡ status_of v → ⊥
 no_verdict_want (verdicts.Best t) e = cc
 no_verdict_want verdicts.NoneFeasible e = cc
 no_verdict_want (verdicts.Open best lower level prefix) e = cc

@@ -4,7 +4,7 @@ use Rattle.std.specs.List.{range_with_len, slice_range}
 use Rattle.std.proofs.lemmas.List.{append-nil, take-append-drop, length-take, length-drop, get_or-take, get_or-drop}
 use Rattle.std.proofs.lemmas.List.Elements.{All-head, All-tail, filter-append}
 use Rattle.std.proofs.lemmas.List.Folds.{drop_split}
-use Rattle.fapp_tables.proofs.HeightLaws.{range_more}
+use Rattle.fapp_model.proofs.CostParts.{range_more}
 
 module _ {X : Type 0} (test : X → Bool) where
   pub filter-none : (xs : List X) → All (λ x. test x ≡ false) xs → filter test xs ≡ []

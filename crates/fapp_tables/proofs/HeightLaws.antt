@@ -1,5 +1,5 @@
 -- At how many levels a record is bad: at those below its height.
-use Rattle.std.proofs.Common.{◌≡◌, ℕ, zero, suc, ◌+◌, ◌-◌, ◌<◌, ◌≤◌, min, Bool, true, false, cond, ltb, not, ◌&&◌, ◌||◌, ◌⊎◌, List, [], ◌∷◌, ◌++◌, add-zero, zero-add, length, slice_index, AllPairs, refl, sym, ap, ◌∙◌, subst, inl, inr, arith, count_by, sum_by}
+use Rattle.std.proofs.Common.{◌≡◌, ℕ, zero, suc, ◌+◌, ◌-◌, ◌<◌, ◌≤◌, min, Bool, true, false, cond, ltb, not, ◌&&◌, ◌||◌, ◌⊎◌, List, zero-add, length, slice_index, AllPairs, sym, ap, ◌∙◌, subst, inl, inr, arith, count_by, sum_by}
 use Rattle.std.specs.List.{range_with_len, prefix_len}
 use Rattle.std.proofs.lemmas.Bool.{cases_lt, ltb-false, lt-ltb, le-ltb}
 use Rattle.std.proofs.lemmas.List.{get_or_past}
@@ -15,6 +15,7 @@ use Rattle.fapp_model.proofs.Sums.{sum_by-same-members}
 use Rattle.fapp_model.proofs.Members.{All-range}
 use Rattle.fapp_tables.specs.Heights.{height_of, DistancesFall}
 use Rattle.fapp_tables.specs.Measures.{coded_part, hard_part}
+use Rattle.fapp_model.proofs.CostParts.{range_more}
 
 -- so many distances are above the number, and the next one isn't
 pub height_is : (dist : List ℕ) (n k : ℕ) → k ≤ length dist → ((j : ℕ) → j < k → n < slice_index dist j) → (k < length dist → slice_index dist k ≤ n) → height_of dist n ≡ k
@@ -54,14 +55,6 @@ closer_is dist d n level =
         | inr past ↦ le-ltb _ _ (omega (arith, get_or_past dist level 0 (omega arith))) ∙ sym (le-ltb _ _ above)
       ]
     ]
-
--- the numbers up to one more
-pub range_more : (a n : ℕ) → range_with_len a (n + 1) ≡ range_with_len a n ++ (a + n) ∷ []
-range_more a zero = rw add-zero refl
-range_more a (suc n) =
-    let more : suc n + 1 ≡ suc (n + 1) = omega arith in
-    let same : a + 1 + n ≡ a + suc n = omega arith in
-    rw (more, ← same) (ap (λ xs. a ∷ xs) (range_more (a + 1) n))
 
 abbrev pub one : Bool → ℕ
 one t = cond t 1 0

@@ -10,3 +10,4 @@ pub mod IndexLaws
 pub mod PartLaws
 pub mod ClashLaws
 pub mod IndexMembers
+pub mod Turned

@@ -19,7 +19,7 @@ use Rattle.fapp_model.specs.Records.{first_path, second_path}
 use Rattle.fapp_tables.specs.declared.links.Side.{Side}
 use Rattle.fapp_tables.specs.Indexes.{no_record, record_at, touches}
 use Rattle.fapp_tables.specs.Links.{AreSortedLinks, IsSide, IsSideNotAfter, links_at, link_rank}
-use Rattle.fapp_tables.proofs.HeightLaws.{range_more}
+use Rattle.fapp_model.proofs.CostParts.{range_more}
 use Rattle.fapp_tables.proofs.RankLaws.{rising_ranks}
 
 abbrev pub both_links : ℕ → ℕ → ℕ → List Side

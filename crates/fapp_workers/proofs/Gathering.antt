@@ -23,7 +23,7 @@ use Rattle.fapp_workers.specs.Puts.{ArePut, puts_from, put_at, put_ids}
 use Rattle.fapp_workers.specs.Solved.{AreSolved, IsWorkFor, times_done, works_logs}
 use Rattle.fapp_workers.specs.Works.{IsAllTaken, IsJobDone, branches_in, ids_of, ticks_in}
 use Rattle.fapp_workers.proofs.DeadCounts.{counts-dead}
-use Rattle.fapp_workers.proofs.Putting.{once_at}
+use Rattle.steal_ring.proofs.RingRule.{once_at}
 
 -- ---- puts and works
 

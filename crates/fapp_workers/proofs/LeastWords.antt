@@ -18,7 +18,7 @@ use Rattle.fapp_model.proofs.TagParts.{TagShape, limited, plain, shape, tag_from
 use Rattle.cert_lines.specs.WellFormed.{is_shown}
 use Rattle.dead_laws.proofs.CostLaws.{cost-tag}
 use Rattle.dead_laws.proofs.ImpliedLemmas.{Extends-fewer}
-use Rattle.search_log.proofs.CodeOrder.{below-codes}
+use Rattle.fapp_model.proofs.CodeOrder.{below-codes}
 use Rattle.settle_laws.specs.Levels.{level_code}
 use Rattle.settle_laws.proofs.FullPrefixes.{cost-back, cost-own}
 use Rattle.settle_laws.proofs.TagCodes.{code-back, same-triple}

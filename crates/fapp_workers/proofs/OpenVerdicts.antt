@@ -22,7 +22,7 @@ use Rattle.search_log.specs.declared.job.Outcome.{Outcome}
 use Rattle.search_log.specs.declared.job.Outcome.TheVariants.{Refuted, Moot, Spent}
 use Rattle.search_log.specs.LogStates.{LogState}
 use Rattle.settle_laws.specs.Levels.{level_code}
-use Rattle.search_log.proofs.CodeOrder.{below-codes}
+use Rattle.fapp_model.proofs.CodeOrder.{below-codes}
 use Rattle.settle_laws.proofs.FullPrefixes.{cost-back}
 use Rattle.settle_laws.proofs.TagCodes.{code-back}
 use Rattle.tries_laws.proofs.JobParts.{job-below, job-level, job-prefix}

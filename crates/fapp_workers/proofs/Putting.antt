@@ -1,9 +1,8 @@
 -- The jobs of all, put by their numbers.
-use Rattle.std.proofs.Common.{◌≡◌, ◌≢◌, ◌⊎◌, inl, inr, ⊎_elim, ℕ, zero, suc, ◌+◌, ◌<◌, ◌≤◌, List, [], ◌∷◌, ◌++◌, length, map, take, get_or, set, Some, None, refl, sym, ap, ◌∙◌, arith}
+use Rattle.std.proofs.Common.{◌≡◌, ◌≢◌, ◌⊎◌, ⊎_elim, ℕ, zero, suc, ◌+◌, ◌<◌, ◌≤◌, List, [], ◌∷◌, ◌++◌, length, map, take, get_or, set, Some, None, refl, sym, ap, ◌∙◌, arith}
 use mathlib.Core.Logic.{dite}
 use native.Mathlib.Decide.{ℕ_discrete}
 use Rattle.std.proofs.lemmas.List.{append-nil, append_assoc, get_or-set_other, get_or-set_same, length-set, map-append}
-use Rattle.std.proofs.lemmas.Bool.Decides.{nat_tests}
 use Rattle.std.proofs.lemmas.List.Elements.{All-push}
 use Rattle.std.proofs.lemmas.List.Sums.{sum_by-cons, sum_by-set, sum_by_push}
 use Rattle.fapp_plan.specs.Outcomes.{Placed}
@@ -11,6 +10,7 @@ use Rattle.steal_ring.specs.Jobs.{times, once}
 use Rattle.fapp_workers.specs.declared.closing.Work.{Work}
 use Rattle.fapp_workers.specs.declared.gather.Put.{Put}
 use Rattle.fapp_workers.specs.Puts.{ArePut, puts_from, put_at, put_ids}
+use Rattle.steal_ring.proofs.RingRule.{once_at}
 
 pub puts-next : (n : ℕ) (works : List Work) (k : ℕ) (w : Work) → k < length works → puts_from n (take (suc k) works) ≡ puts_from n (take k works) ++ map (put_at (n + k)) (get_or works k w).done.items
 puts-next n [] k w less = absurd (omega (arith, less))
@@ -22,9 +22,6 @@ puts-next n (x ∷ xs) (suc k) w less =
     let place : n + 1 + k ≡ n + suc k = omega arith in
     ap (λ ps. map (put_at n) x.done.items ++ ps) (rest ∙ ap (λ m. puts_from (n + 1) (take k xs) ++ map (put_at m) (get_or xs k w).done.items) place)
     ∙ sym (append_assoc (map (put_at n) x.done.items) (puts_from (n + 1) (take k xs)) (map (put_at (n + suc k)) (get_or xs k w).done.items))
-
-pub once_at : (q job : ℕ) → ((q ≡ job) × (once q job ≡ 1)) ⊎ ((q ≢ job) × (once q job ≡ 0))
-once_at q job = dite (ℕ_discrete q job) (λ e. inl (e, grind (arith, nat_tests))) (λ ne. inr (ne, grind (arith, nat_tests)))
 
 -- a job that was not put is none of those that were
 apart : (puts : List Put) (id : ℕ) → times id (put_ids puts) ≡ 0 → (k : ℕ) (d : Put) → k < length puts → (get_or puts k d).done.id ≢ id

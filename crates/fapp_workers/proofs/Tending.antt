@@ -11,7 +11,8 @@ use Rattle.search_log.specs.Bounds.{BoundState, floor}
 use Rattle.search_log.specs.LogStates.{LogState}
 use Rattle.search_log.specs.Shares.{SharedState}
 use Rattle.settle_laws.specs.Settling.{AreHome}
-use Rattle.settle_laws.specs.Worlds.{IsKeptRight, IsLeastOffered, IsPlain}
+use Rattle.settle_laws.specs.Worlds.{IsKeptRight, IsLeastOffered}
+use Rattle.search_log.specs.GoodLogs.{IsBare}
 use Rattle.settle_laws.proofs.Adding.{gains-none}
 use Rattle.best_word.specs.declared.seat.BestSeat.{BestSeat}
 use Rattle.best_word.specs.Seats.{view_of}
@@ -42,7 +43,7 @@ module _ (split : Split) (fuel : ℕ) (bound after : BoundState) (shared more : 
       good = subst (λ rows. IsGoodLog split.instance (more.copied ++ rows) log.lines log.segments) published l.good;
       home = subst (λ rows. AreHome rows log.segments) (sym (r.published ∙ ap (λ (xs : List KnownRow). xs ++ r.rows) unpublished) ∙ published)
           (subst (AreHome r.rows) (sym (r.segments ∙ ap (λ (xs : List Segment). xs ++ r.gained) segmentless)) r.home);
-      plain = subst (All IsPlain) (sym (l.lines.are ∙ ap (λ (xs : List LogLine). xs ++ l.lines.more) lineless)) l.lines.plain;
+      plain = subst (All IsBare) (sym (l.lines.are ∙ ap (λ (xs : List LogLine). xs ++ l.lines.more) lineless)) l.lines.plain;
     };
     right = l.right kept_right;
     kept = subst (IsLeastOffered log.best) same l.least;

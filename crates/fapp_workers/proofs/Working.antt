@@ -2,7 +2,7 @@
 use Rattle.std.proofs.Common.{◌≡◌, inl, inr, ⊎_elim, ℕ, ◌+◌, ◌-◌, ◌<◌, ◌≤◌, List, [], ◌∷◌, ◌++◌, length, count_by, cond, is_some, All, Contains, Option, Ok, refl, sym, ap, ◌∙◌, subst, arith}
 use Rattle.std.specs.declared.alloc.AllocError.{AllocError}
 use Rattle.std.proofs.lemmas.Bool.{cases_lt}
-use Rattle.std.proofs.lemmas.List.{append-nil, append_assoc, length-append}
+use Rattle.std.proofs.lemmas.List.{append_assoc, length-append}
 use Rattle.std.proofs.lemmas.List.Elements.{All-append, All-nil, All-push, All-weaker}
 use Rattle.std.proofs.lemmas.List.Sums.{count_by-le-length, sum_by-append, sum_by_push}
 use Rattle.fapp_model.specs.declared.instance.Instance.{Instance}
@@ -20,7 +20,8 @@ use Rattle.settle_laws.specs.Founds.{IsRefuted}
 use Rattle.settle_laws.specs.Levels.{level_code}
 use Rattle.settle_laws.specs.Lined.{IsAtMostCount}
 use Rattle.settle_laws.specs.Settling.{IsOutcome}
-use Rattle.settle_laws.specs.Worlds.{Gains, IsLeastOffered, IsPlain, World, world}
+use Rattle.settle_laws.specs.Worlds.{Gains, IsLeastOffered, World, world}
+use Rattle.search_log.specs.GoodLogs.{IsBare}
 use Rattle.settle_laws.proofs.Entering.{floor-le}
 use Rattle.settle_laws.proofs.Settling.{ticks-most}
 use Rattle.settle_laws.proofs.TagCodes.{tag-small}
@@ -31,6 +32,7 @@ use Rattle.fapp_workers.specs.Outcomes.{AreTicksOf, IsPrefixSettledBy}
 use Rattle.fapp_workers.specs.declared.job.Done.{Done}
 use Rattle.fapp_workers.specs.Jobs.{AreDecided, Decides, Held, IsSearched, held}
 use Rattle.fapp_workers.specs.Works.{IsAllTaken, IsJobDone, IsLogClause, branches_in}
+use Rattle.settle_laws.proofs.Adding.{gains-none}
 
 -- ---- a settled job stays settled
 
@@ -61,14 +63,11 @@ done-grows split fuel rows more old new word lower done has gains low h = record
   taken = h.taken;
 }
 
-gains-none : (lines : List LogLine) → Gains lines lines
-gains-none lines = record { more = []; are = sym (append-nil lines); plain = All-nil IsPlain }
-
 gains-on : (old mid new : List LogLine) → Gains old mid → Gains mid new → Gains old new
 gains-on old mid new a b = record {
   more = a.more ++ b.more;
   are = b.are ∙ (ap (λ (xs : List LogLine). xs ++ b.more) a.are ∙ append_assoc old a.more b.more);
-  plain = All-append IsPlain a.more b.more a.plain b.plain;
+  plain = All-append IsBare a.more b.more a.plain b.plain;
 }
 
 branches-append : (old more : List LogLine) → branches_in (old ++ more) ≡ branches_in old + branches_in more

@@ -15,7 +15,8 @@ use Rattle.search_log.specs.declared.job.Outcome.TheVariants.{Refuted, Moot, Spe
 use Rattle.fapp_plan.specs.Plans.{Split}
 use Rattle.settle_laws.specs.Founds.{IsRefuted}
 use Rattle.settle_laws.specs.Settling.{AreHome, Settles}
-use Rattle.settle_laws.specs.Worlds.{Gains, IsPlain, World}
+use Rattle.settle_laws.specs.Worlds.{Gains, World}
+use Rattle.search_log.specs.GoodLogs.{IsBare}
 use Rattle.settle_laws.proofs.Tried.{cites-grow}
 use Rattle.fapp_workers.specs.Outcomes.{IsJobSettledBy, IsPrefixSettledBy}
 use Rattle.fapp_workers.specs.Ends.{IsWorkerEnd, end_of_world}
@@ -31,7 +32,7 @@ goes-on instance level literals old new outcome h s = record {
   good = s.good h.good;
   home = subst (λ rows. AreHome rows new.log.segments) (sym s.publishes.published)
       (subst (AreHome (old.shared.published ++ s.publishes.rows)) (sym s.publishes.segments) (home-more old.shared.published s.publishes.rows old.log.segments s.publishes.gained h.home s.publishes.home));
-  plain = subst (All IsPlain) (sym s.lines.are) (All-append IsPlain old.log.lines s.lines.more h.plain s.lines.plain);
+  plain = subst (All IsBare) (sym s.lines.are) (All-append IsBare old.log.lines s.lines.more h.plain s.lines.plain);
 }
 
 refuted-grows : (instance : Instance) (rows more : List KnownRow) (lines longer : List LogLine) (prefix : List Literal) (line : Ref) (tag : ℕ) → All (Contains more) rows → Gains lines longer →

@@ -5,7 +5,8 @@ use Rattle.search_log.specs.Contents.{KnownRow}
 use Rattle.search_log.specs.Segments.{IsGoodLog}
 use Rattle.search_log.specs.LogStates.{LogState}
 use Rattle.settle_laws.specs.Settling.{AreHome}
-use Rattle.settle_laws.specs.Worlds.{IsPlain, World}
+use Rattle.settle_laws.specs.Worlds.{World}
+use Rattle.search_log.specs.GoodLogs.{IsBare}
 use Rattle.nogood_pool.specs.declared.view.PoolView.{PoolView}
 use Rattle.pool_rows.specs.Copying.{all_known}
 
@@ -20,7 +21,7 @@ pub record WorkerEnd : Type 0 where
 pub record IsWorkerEnd (instance : Instance) (e : WorkerEnd) : Type 0 where
   pub good : IsGoodLog instance (e.copied ++ e.published) e.log.lines e.log.segments
   pub home : AreHome e.published e.log.segments
-  pub plain : All IsPlain e.log.lines
+  pub plain : All IsBare e.log.lines
 
 abbrev pub log_of : WorkerEnd → LogState
 log_of e = e.log

@@ -1,20 +1,17 @@
 -- The neighbours of a path, one by one.
-use Rattle.std.proofs.Common.{◌≡◌, ℕ, ◌+◌, ◌<◌, ◌≤◌, Bool, true, false, eqb, ◌||◌, List, length, take, get_or, refl, sym, ap, ◌∙◌, subst, inl, inr, arith, Contains}
+use Rattle.std.proofs.Common.{◌≡◌, ℕ, ◌+◌, ◌<◌, ◌≤◌, Bool, true, false, eqb, ◌||◌, List, length, take, get_or, refl, sym, ap, ◌∙◌, subst, arith, Contains}
 use Rattle.std.specs.List.{list_any, range_with_len}
-use Rattle.std.proofs.lemmas.Bool.{both_ways, eq-eqb, eqb-true, false_from_ne_true, ne_eqb, or_cases, or_right}
+use Rattle.std.proofs.lemmas.Bool.{both_ways, eq-eqb, eqb-true, false_from_ne_true, ne_eqb, or_right}
 use Rattle.std.proofs.lemmas.List.{get_or-take, get_or_default, length-take-le}
-use Rattle.std.proofs.lemmas.List.Elements.{All-contains, Contains-get_or}
+use Rattle.std.proofs.lemmas.List.Elements.{Contains-get_or}
 use Rattle.std.proofs.lemmas.List.Folds.{list_any_more}
 use Rattle.std.proofs.lemmas.List.FromFn.{length-range_with_len}
 use Rattle.std.proofs.lemmas.List.Sums.{count_by-le-length, length-filter}
 use Rattle.fapp_model.specs.declared.instance.Instance.{Instance}
-use Rattle.fapp_model.specs.Instances.{IsInstance, IsRecord}
-use Rattle.fapp_model.specs.Levels.{levels_of}
-use Rattle.fapp_model.specs.search.Clashes.{joins, shares_record}
+use Rattle.fapp_model.specs.search.Clashes.{shares_record}
 use Rattle.fapp_model.proofs.Anys.{any-member, passing}
 use Rattle.fapp_tables.specs.Indexes.{neighbours_of}
 use Rattle.fapp_tables.proofs.IndexMembers.{neighbours-members, neighbours-rise}
-use Rattle.dead_laws.proofs.RecordEnds.{joins-ends}
 
 -- a list has a number
 abbrev pub leads : List ℕ → ℕ → Bool
@@ -70,16 +67,6 @@ leads_elsewhere xs i q inside other =
     or_false : (b : Bool) → (b || false) ≡ b
     or_false true = refl
     or_false false = refl
-
--- a path shares no record with itself
-pub shares_apart : (instance : Instance) → IsInstance instance → (path other : ℕ) → shares_record instance path other ≡ true → path ≡ other → ⊥
-shares_apart instance valid path other shares same =
-    let found = passing (λ r. joins path other r || joins other path r) instance.records shares in
-    let record_valid = All-contains (IsRecord (levels_of instance) (length instance.paths)) instance.records found.item valid.records found.member in
-    elim (or_cases (joins path other found.item) (joins other path found.item) found.passes) [
-      | inl e ↦ let ends = joins-ends path other found.item e in record_valid.different (ends.0 ∙ (same ∙ sym ends.1))
-      | inr e ↦ let ends = joins-ends other path found.item e in record_valid.different (ends.0 ∙ (sym same ∙ sym ends.1))
-    ]
 
 pub near_few : (instance : Instance) (path : ℕ) → length (neighbours_of instance path) ≤ length instance.paths
 near_few instance path =

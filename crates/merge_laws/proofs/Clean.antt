@@ -1,5 +1,5 @@
 -- What has no fault, from its parts.
-use Rattle.std.proofs.Common.{◌≡◌, ℕ, ◌<◌, ◌≤◌, Bool, true, false, ◌&&◌, not, List, [], ◌∷◌, length, refl, Option, None, All, Contains, ltb, leb, eqb}
+use Rattle.std.proofs.Common.{◌≡◌, ℕ, ◌<◌, ◌≤◌, Bool, true, ◌&&◌, not, List, [], ◌∷◌, length, refl, Option, None, All, Contains, ltb, leb, eqb}
 use Rattle.std.specs.List.{list_all}
 use Rattle.std.proofs.lemmas.Bool.{and_from, not_from_false, eq-eqb, lt-ltb, le-leb}
 use Rattle.std.proofs.lemmas.List.Elements.{All-contains}
@@ -9,7 +9,6 @@ use Rattle.fapp_model.specs.search.Partials.{HasAll}
 use Rattle.fapp_model.proofs.Anys.{any-member}
 use Rattle.fapp_model.proofs.Members.{All-from_members, at_front, behind}
 use Rattle.cert_lines.specs.declared.answer.Line.{Line}
-use Rattle.cert_lines.specs.declared.reject.RejectCause.{RejectCause}
 use Rattle.cert_lines.specs.declared.reject.RejectCause.TheVariants.{CiteDeleted, CiteNotEarlier, CiteNotContained, CiteTagTooLow}
 use Rattle.cert_lines.specs.acceptance.Contained.{is_same, has, has_all}
 use Rattle.cert_lines.specs.acceptance.Deleted.{is_deleted}
@@ -17,10 +16,7 @@ use Rattle.cert_lines.proofs.Deleting.{IsPlain, none-deleted}
 use Rattle.cert_lines.specs.acceptance.Excluded.{line_at}
 use Rattle.cert_lines.specs.acceptance.LineFaults.{first_of, cause_unless, cite_fault}
 use Rattle.accept_laws.proofs.Options.{both-none, none-first_of}
-
-pub passes-none : (b : Bool) (cause : RejectCause) → b ≡ true → cause_unless b cause ≡ None
-passes-none true cause h = refl
-passes-none false cause h = absurd (cc)
+use Rattle.accept_laws.proofs.Renumbering.{passes-none}
 
 pub first_of-clean : {X Y : Type 0} (f : X → Option Y) (xs : List X) → ((x : X) → Contains xs x → f x ≡ None) → first_of f xs ≡ None
 first_of-clean f xs h = none-first_of f xs (All-from_members (λ x. f x ≡ None) xs h)

@@ -25,7 +25,7 @@ use Rattle.cert_lines.specs.declared.answer.Verdict.{Verdict}
 use Rattle.cert_lines.specs.WellFormed.{is_shown}
 use Rattle.cert_lines.specs.acceptance.RootFaults.{verdict_tag}
 use Rattle.cert_lines.specs.acceptance.LineFaults.{line_fault}
-use Rattle.accept_laws.proofs.CodeOrder.{codes-at_most}
+use Rattle.fapp_model.proofs.CodeOrder.{codes-at_most}
 use Rattle.arc_levels.specs.Outside.{HasNoChoice, IsRootTag}
 use Rattle.search_log.specs.declared.line.LogLine.{LogLine}
 use Rattle.search_log.specs.declared.line.Ref.{Ref}
@@ -42,7 +42,7 @@ use Rattle.merge_laws.specs.Refuted.{number_by, prefix_number}
 use Rattle.fapp_plan.specs.Shown.{AreRefuted}
 use Rattle.merge_laws.specs.Stages.{Merged, merged_number}
 use Rattle.search_log.specs.GoodLogs.{lines_of}
-use Rattle.merge_laws.proofs.Beside.{above-least}
+use Rattle.accept_laws.proofs.Renumbering.{above-least}
 use Rattle.merge_laws.proofs.Ruling.{IsFound, found-everywhere, job-of, root-is_tag, ruled-tag}
 use Rattle.merge_laws.proofs.Tree.{AreSettled, IsSettled}
 use Rattle.merge_laws.proofs.TreeLines.{bare-good}

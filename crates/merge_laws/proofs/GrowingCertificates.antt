@@ -1,8 +1,7 @@
 -- What stays as a certificate grows.
-use Rattle.std.proofs.Common.{◌≡◌, ◌⊎◌, ℕ, ◌+◌, ◌-◌, ◌<◌, ◌≤◌, false, List, [], ◌∷◌, ◌++◌, length, take, refl, ap, subst, ◌∙◌, inl, inr, arith, Option, None, All}
-use Rattle.std.specs.Option.{option_map}
+use Rattle.std.proofs.Common.{◌≡◌, ◌⊎◌, ℕ, ◌+◌, ◌-◌, ◌<◌, ◌≤◌, false, List, [], ◌∷◌, ◌++◌, length, take, ap, subst, ◌∙◌, inl, inr, arith, None, All}
 use Rattle.std.proofs.lemmas.Bool.{or_left, cases_lt}
-use Rattle.std.proofs.lemmas.List.{length-append, length_push, get_or_append_left, get_or_push, take-append-le, take_all}
+use Rattle.std.proofs.lemmas.List.{length-append, length_push, take-append-le, take_all}
 use Rattle.std.proofs.lemmas.List.Elements.{All-push}
 use Rattle.std.proofs.lemmas.List.Folds.{list_any-append}
 use Rattle.fapp_model.specs.declared.instance.Instance.{Instance}
@@ -10,21 +9,19 @@ use Rattle.fapp_model.specs.Instances.{IsNumber}
 use Rattle.cert_lines.specs.declared.answer.Line.{Line}
 use Rattle.cert_lines.specs.WellFormed.{IsLine}
 use Rattle.cert_lines.specs.acceptance.Deleted.{is_delete}
-use Rattle.cert_lines.specs.acceptance.Excluded.{is_marked, line_at, no_line}
+use Rattle.cert_lines.specs.acceptance.Excluded.{is_marked, line_at}
 use Rattle.cert_lines.specs.acceptance.LineFaults.{line_fault, rejected_at}
 use Rattle.accept_laws.specs.Lines.{AreGood}
 use Rattle.accept_laws.proofs.Options.{mapped-none}
 use Rattle.search_log.specs.Contents.{Content}
 use Rattle.merge_laws.specs.Fates.{AreMarked, IsFate, StandsAt}
+use Rattle.accept_laws.proofs.LineGrowth.{at-end, at-front, none-mapped}
 
 pub marked-grows : (instance : Instance) (out : List Line) (line : Line) → is_delete line.rule ≡ false → AreMarked instance out → AreMarked instance (out ++ line ∷ [])
 marked-grows instance out line plain h = record {
   plain = All-push (λ (line : Line). is_delete line.rule ≡ false) out line h.plain plain;
   marks = λ t a own home outside. list_any-append _ out (line ∷ []) ∙ or_left (is_marked out t a) (is_marked (line ∷ []) t a) (h.marks t a own home outside);
 }
-
-at-front : (out more : List Line) (n : ℕ) → 0 < n → n ≤ length out → line_at (out ++ more) n ≡ line_at out n
-at-front out more n low high = get_or_append_left out more no_line (n - 1) (omega (arith, low, high))
 
 pub stands-grows : (out more : List Line) (content : Content) (n : ℕ) → StandsAt out content n → StandsAt (out ++ more) content n
 stands-grows out more content n h = record {
@@ -38,9 +35,6 @@ pub fate-grows : (instance : Instance) (out more : List Line) (content : Content
 fate-grows instance out more content n (inl left) = inl left
 fate-grows instance out more content n (inr stands) = inr (stands-grows out more content n stands)
 
-at-end : (out : List Line) (line : Line) → line_at (out ++ line ∷ []) (length out + 1) ≡ line
-at-end out line = get_or_push out line no_line (length out + 1 - 1) (omega arith)
-
 pub stands-last : (out : List Line) (line : Line) → StandsAt (out ++ line ∷ []) (record { tag = line.tag.code; lits = line.lits }) (length out + 1)
 stands-last out line = record {
   low = omega arith;
@@ -48,9 +42,6 @@ stands-last out line = record {
   tag_is = ap (λ (l : Line). l.tag.code) (at-end out line);
   lits_are = ap (λ (l : Line). l.lits) (at-end out line);
 }
-
-none-mapped : {X Y : Type 0} (f : X → Y) (o : Option X) → o ≡ None → option_map f o ≡ None
-none-mapped f o e = rw e refl
 
 pub good-grows : (instance : Instance) (out : List Line) (line : Line) → AreGood instance out → line_fault instance out line ≡ None → AreGood instance (out ++ line ∷ [])
 good-grows instance out line good clean n small =

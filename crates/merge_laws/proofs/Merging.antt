@@ -56,7 +56,7 @@ use Rattle.merge_laws.proofs.BottomLists.{bottom, bottom-all}
 use Rattle.merge_laws.proofs.BranchCounts.{IsBounded, all-branches, gathered-bounded}
 use Rattle.merge_laws.proofs.Finishing.{empty-literals, first-settled, nothing-within, number, paths-apart, prefixes-settled, root-good}
 use Rattle.merge_laws.proofs.Gathering.{cited-fate, whole-stage}
-use Rattle.merge_laws.proofs.Clean.{passes-none}
+use Rattle.accept_laws.proofs.Renumbering.{passes-none}
 use Rattle.merge_laws.proofs.GrowingCertificates.{AreFormed, formed-grows, good-grows, stands-last}
 use Rattle.merge_laws.proofs.LineCounts.{few-arcs, length-tree}
 use Rattle.merge_laws.proofs.LogFacts.{AreLogFacts, log-facts, placed_numbers}

@@ -23,7 +23,7 @@ use Rattle.dead_laws.proofs.DeadImplied.{dead-implied}
 use Rattle.accept_laws.specs.Lines.{AreGood, IsLineImplied}
 use Rattle.accept_laws.proofs.GoodLines.{good-lines}
 use Rattle.search_log.specs.Contents.{Content}
-use Rattle.search_log.proofs.CodeOrder.{below-codes}
+use Rattle.fapp_model.proofs.CodeOrder.{below-codes}
 use Rattle.merge_laws.specs.Fates.{IsFate}
 
 module _ (instance : Instance) (valid : IsInstance instance) (none : length instance.paths ≡ 0) where

@@ -29,7 +29,7 @@ use Rattle.dead_laws.proofs.LowerLevels.{outside_lower}
 use Rattle.arc_levels.specs.ArcLines.{AreArcLines, IsLineOf}
 use Rattle.search_log.specs.declared.line.LogLine.{LogLine}
 use Rattle.search_log.specs.Contents.{KnownRow}
-use Rattle.search_log.proofs.CodeOrder.{below-codes}
+use Rattle.fapp_model.proofs.CodeOrder.{below-codes}
 use Rattle.merge_laws.specs.Stages.{start, with_placed}
 use Rattle.cert_lines.proofs.Deleting.{IsPlain, formed-plain}
 use Rattle.accept_laws.specs.Lines.{AreGood}

@@ -23,15 +23,15 @@ use Rattle.cert_lines.specs.acceptance.Excluded.{is_cited, is_excluded, is_marke
 use Rattle.cert_lines.specs.acceptance.LineFaults.{first_of, cause_unless, child_fault, cite_fault, is_dead, is_settled, branch_fault, count_fault, line_fault}
 use Rattle.dead_laws.proofs.DeadLower.{dead_lower}
 use Rattle.dead_laws.proofs.DeadMore.{dead-more}
-use Rattle.accept_laws.proofs.CodeOrder.{codes-at_most}
+use Rattle.fapp_model.proofs.CodeOrder.{codes-at_most}
 use Rattle.accept_laws.proofs.Judging.{judged-where-excluded}
 use Rattle.accept_laws.proofs.Options.{both-none}
 use Rattle.search_log.specs.Contents.{Content}
 use Rattle.cert_lines.proofs.Deleting.{IsPlain, plain-excluded}
 use Rattle.merge_laws.specs.Fates.{AreMarked, IsFate, StandsAt}
 use Rattle.merge_laws.specs.Levels.{cites_of}
-use Rattle.merge_laws.proofs.Beside.{above-least}
-use Rattle.merge_laws.proofs.Clean.{all-from, clean-cite, first_of-clean, has-from, has_all-from, passes-none}
+use Rattle.accept_laws.proofs.Renumbering.{above-least, passes-none}
+use Rattle.merge_laws.proofs.Clean.{all-from, clean-cite, first_of-clean, has-from, has_all-from}
 use Rattle.merge_laws.proofs.WrittenLines.{marked-judged}
 
 -- what a line at a tag says

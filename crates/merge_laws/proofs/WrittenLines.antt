@@ -27,8 +27,9 @@ use Rattle.cert_lines.specs.acceptance.LineFaults.{first_of, cause_unless, child
 use Rattle.cert_lines.proofs.Deleting.{plain-excluded}
 use Rattle.dead_laws.proofs.DeadLower.{dead_lower}
 use Rattle.dead_laws.proofs.DeadMore.{dead-more}
-use Rattle.accept_laws.proofs.CodeOrder.{codes-at_most}
-use Rattle.accept_laws.proofs.Having.{formed-partial, has_all-each}
+use Rattle.fapp_model.proofs.CodeOrder.{codes-at_most}
+use Rattle.accept_laws.proofs.Having.{formed-partial}
+use Rattle.cert_lines.proofs.Having.{has_all-each}
 use Rattle.accept_laws.proofs.Judging.{judged-where-excluded}
 use Rattle.accept_laws.proofs.Options.{both-none}
 use Rattle.search_log.specs.declared.line.ChoiceRef.{ChoiceRef}
@@ -38,8 +39,10 @@ use Rattle.search_log.specs.Contents.{Cites, Content, KnownRow}
 use Rattle.search_log.specs.GoodLines.{AreBranchRefs, IsBranch, IsChildOf}
 use Rattle.merge_laws.specs.Fates.{AreMarked, IsFate}
 use Rattle.merge_laws.specs.Written.{child_for, written, written_child}
-use Rattle.merge_laws.proofs.Beside.{above-least, with-literal, zip-both}
-use Rattle.merge_laws.proofs.Clean.{all-from, clean-cite, first_of-clean, passes-none}
+use Rattle.merge_laws.proofs.Beside.{zip-both}
+use Rattle.dead_laws.proofs.OneMoreLiteral.{with-literal}
+use Rattle.accept_laws.proofs.Renumbering.{above-least, passes-none}
+use Rattle.merge_laws.proofs.Clean.{all-from, clean-cite, first_of-clean}
 
 -- what is dead is judged dead, from lines that mark the choices outside the arcs, whatever is cited
 pub marked-judged : (instance : Instance) (out : List Line) (t : Tag) (cites : List ℕ) (literals : List Literal) → AreMarked instance out → IsTagFor instance t → IsPartial instance literals → 0 < t.code → Dead instance (triple_from t.code) literals → is_dead instance out t cites literals ≡ true

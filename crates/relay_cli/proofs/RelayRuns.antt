@@ -23,7 +23,7 @@ use Rattle.fapp_run.specs.declared.reply.TheConstants.{MAX_INPUT}
 use Rattle.fapp_run.specs.Answers.{Answers, Solves, status_of}
 use Rattle.fapp_run.specs.Replies.{IsSolveReply}
 use Rattle.fapp_run.specs.Runs.{IsAnswer}
-use Rattle.fapp_run.proofs.RunEnds.{solution_ends}
+use Rattle.fapp_run.proofs.RunEnds.{solution_ends, no_verdict_fault, no_verdict_want}
 use Rattle.fapp_run.proofs.Told.{refused_answers, told_answers}
 use Rattle.relay_cli.specs.Words.{ReadsRelay}
 use Rattle.relay_cli.specs.Runs.{CompletesRelay, IsEnoughForRelay, IsRelayReply, IsRelayReplyFor, IsRelayRun, NamesRelay, ReadsRelayFront}
@@ -77,16 +77,6 @@ module _ (options : SolveOptions) (source source' : SourceMoment) where
       by_verdict (verdicts.Open best lower level prefix) e = told Open (ap status_of (sym e))
 
 -- ---- whole runs
-
-no_verdict_fault : (v : Verdict) → WriteFault ≡ status_of v → ⊥
-no_verdict_fault (verdicts.Best t) e = cc
-no_verdict_fault verdicts.NoneFeasible e = cc
-no_verdict_fault (verdicts.Open best lower level prefix) e = cc
-
-no_verdict_want : (v : Verdict) → NoMemory ≡ status_of v → ⊥
-no_verdict_want (verdicts.Best t) e = cc
-no_verdict_want verdicts.NoneFeasible e = cc
-no_verdict_want (verdicts.Open best lower level prefix) e = cc
 
 module _ (words : List (String Global)) (source source' : SourceMoment) (sink sink' : SinkMoment) where
   -- no outcome is a fault of the sink, nor want of memory

@@ -13,7 +13,7 @@ use Rattle.fapp_model.specs.search.Partials.{AreLiterals, IsLiteral, IsPartial, 
 use Rattle.fapp_model.proofs.InOrder.{pairs-cons, pairs-nil}
 use Rattle.dead_laws.specs.ExampleInstances.{three_alike}
 use Rattle.dead_laws.proofs.DeadTests.{dead_by-along}
-use Rattle.dead_laws.proofs.ThreeAlike.{one-lives}
+use Rattle.dead_laws.proofs.ThreeAlike.{one-lives, at-three}
 use Rattle.search_log.specs.declared.line.ChoiceRef.{ChoiceRef}
 use Rattle.search_log.specs.declared.line.LogLine.{LogLine}
 use Rattle.search_log.specs.declared.line.Ref.TheVariants.{Own, Row}
@@ -50,13 +50,6 @@ each-known = All-from_recursion Known known_rows (
 
 is-known : (number : ℕ) (content : Content) → Contains known_rows (known_row number content) → Known (known_row number content)
 is-known number content m = All-contains Known known_rows (known_row number content) each-known m
-
-at-three : (path index : ℕ) → path < 3 → index < 2 → IsLiteral three_alike (literal path index)
-unfolding three_alike
-at-three zero index l m = record { path = omega arith; choice = m }
-at-three (suc zero) index l m = record { path = omega arith; choice = m }
-at-three (suc (suc zero)) index l m = record { path = omega arith; choice = m }
-at-three (suc (suc (suc path))) index l m = absurd (omega arith)
 
 two-choices : (path : ℕ) → path < 3 → count_at three_alike path ≡ 2
 unfolding three_alike

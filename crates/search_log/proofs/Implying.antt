@@ -1,10 +1,9 @@
 -- A good line is implied, where what it cites is.
-use Rattle.std.proofs.Common.{◌≡◌, ◌≢◌, ℕ, zero, suc, ◌<◌, ◌≤◌, true, false, List, ◌∷◌, length, take, get_or, All, Contains, IsTrue, Option, Some, None, eqb, refl, sym, subst, ◌∙◌, ⊎_elim, ap, arith}
+use Rattle.std.proofs.Common.{◌≡◌, ℕ, zero, suc, ◌<◌, ◌≤◌, List, ◌∷◌, length, take, get_or, All, IsTrue, Option, Some, None, eqb, refl, sym, subst, ⊎_elim, arith}
 use Rattle.std.specs.List.{list_any, slice_get}
-use Rattle.std.proofs.lemmas.Bool.{and_parts, cases_lt, eq-eqb, eqb-true, true≢false}
+use Rattle.std.proofs.lemmas.Bool.{cases_lt, eqb-true}
 use Rattle.std.proofs.lemmas.Option.{slice_get-get_or}
 use Rattle.std.proofs.lemmas.List.Elements.{All-contains}
-use Rattle.std.proofs.lemmas.List.Sums.{AllPass-from_list_all}
 use Rattle.fapp_model.specs.declared.instance.Instance.{Instance}
 use Rattle.fapp_model.specs.declared.literal.Literal.{Literal}
 use Rattle.fapp_model.specs.Assignments.{count_at}
@@ -14,14 +13,13 @@ use Rattle.fapp_model.specs.Tags.{IsTagOf, triple_from}
 use Rattle.fapp_model.specs.Triples.{IsBelow}
 use Rattle.fapp_model.specs.search.Dead.{Dead}
 use Rattle.fapp_model.specs.search.Implied.{Implied, RulesOut}
-use Rattle.fapp_model.specs.search.Partials.{AreLiterals, HasAll, IsPartial, literal, names}
-use Rattle.fapp_model.proofs.Anys.{none-member, passing}
+use Rattle.fapp_model.specs.search.Partials.{AreLiterals, HasAll, IsPartial, literal}
+use Rattle.fapp_model.proofs.Anys.{passing}
 use Rattle.fapp_model.proofs.Members.{All-from_members}
 use Rattle.dead_laws.proofs.DeadImplied.{dead-by-arcs-and-test, dead-implied}
 use Rattle.dead_laws.proofs.DeadLower.{nothing_below}
-use Rattle.dead_laws.proofs.ExampleTests.{one-more}
 use Rattle.dead_laws.proofs.ImpliedLemmas.{Implied-branch, Implied-lower, Implied-more}
-use Rattle.cert_lines.specs.acceptance.Contained.{has, has_all, is_same}
+use Rattle.cert_lines.specs.acceptance.Contained.{has, has_all}
 use Rattle.search_log.specs.declared.line.ChoiceRef.{ChoiceRef}
 use Rattle.search_log.specs.declared.line.LogLine.{LogLine}
 use Rattle.search_log.specs.declared.line.Ref.{Ref}
@@ -29,25 +27,12 @@ use Rattle.search_log.specs.declared.line.Ref.TheVariants.{Own, Row}
 use Rattle.search_log.specs.Contents.{Cites, Content, KnownRow, content_of, known_row}
 use Rattle.search_log.specs.GoodLines.{AreGoodLines, IsBranch, IsChildOf, IsCount, IsGoodLine, PassesBy, is_ruled_out}
 use Rattle.search_log.specs.LogLaws.{IsContentImplied}
-use Rattle.search_log.proofs.CodeOrder.{codes-at_most}
+use Rattle.fapp_model.proofs.CodeOrder.{codes-at_most}
 use Rattle.search_log.proofs.ByPlace.{get-take, zip-left, zip-right}
+use Rattle.cert_lines.proofs.Having.{has_all-each}
+use Rattle.dead_laws.proofs.OneMoreLiteral.{with-literal}
 
 -- ---- lists that have literals
-
-same-literals : (a b : Literal) → is_same a b ≡ true → a ≡ b
-same-literals a b h =
-    let parts = and_parts (eqb a.path b.path) (eqb a.choice b.choice) h in
-    let path = eqb-true a.path b.path parts.0 in
-    let choice = eqb-true a.choice b.choice parts.1 in
-    ap (λ (p : ℕ). literal p a.choice) path ∙ ap (literal b.path) choice
-
-has-contains : (literals : List Literal) (a : Literal) → has literals a ≡ true → Contains literals a
-has-contains literals a h =
-    let found = passing (λ b. is_same b a) literals h in
-    subst (Contains literals) (same-literals found.item a found.passes) found.member
-
-has_all-each : (literals cited : List Literal) → has_all literals cited ≡ true → HasAll literals cited
-has_all-each literals cited h = λ k d l. has-contains literals (get_or cited k d) (AllPass-from_list_all (has literals) cited h k d l)
 
 -- literals of a line are a partial assignment, and so they are with one of a path that they don't name
 pub lits-partial : (instance : Instance) (literals : List Literal) → AreLiterals instance literals → IsPartial instance literals
@@ -55,11 +40,6 @@ lits-partial instance literals h = record {
   in_range = h.in_range;
   distinct = λ i j d less small same. let below = h.ascending i j d less small in omega arith;
 }
-
-with-literal : (instance : Instance) (literals : List Literal) (path index : ℕ) → IsPartial instance literals → path < length instance.paths → index < count_at instance path → names literals path ≡ false → IsPartial instance (literal path index ∷ literals)
-with-literal instance literals path index partial small below apart = one-more instance (literal path index) literals (record { path = small; choice = below })
-    (All-from_members (λ (b : Literal). path ≢ b.path) literals (λ b m e. true≢false (sym (eq-eqb b.path path (sym e)) ∙ none-member (λ (c : Literal). eqb c.path path) literals apart b m)))
-    partial
 
 -- ---- one line
 

@@ -1,5 +1,4 @@
 pub mod ByPlace
-pub mod CodeOrder
 pub mod Implying
 pub mod MoreLines
 pub mod Segmenting

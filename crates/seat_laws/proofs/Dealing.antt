@@ -3,7 +3,7 @@ use Rattle.std.proofs.Common.{◌≡◌, ℕ, suc, ◌+◌, ◌-◌, ◌*◌, �
 use Rattle.std.proofs.Math.Nat.{pow-suc, one-le-pow}
 
 -- half of a power of two from 2 on
-halved : (share m : ℕ) → share ≡ 2 ^ suc m → (2 ≤ share) × (share - share / 2 ≡ 2 ^ m)
+pub halved : (share m : ℕ) → share ≡ 2 ^ suc m → (2 ≤ share) × (share - share / 2 ≡ 2 ^ m)
 halved share m e =
     let p : ℕ = 2 ^ m in
     let double : share ≡ p * 2 = e ∙ pow-suc 2 m in

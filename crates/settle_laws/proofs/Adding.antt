@@ -12,7 +12,8 @@ use Rattle.fapp_model.specs.InstanceTags.{IsTagFor}
 use Rattle.search_log.specs.Contents.{content_of}
 use Rattle.search_log.proofs.ByPlace.{front-or-last, get-front, last-is}
 use Rattle.search_log.specs.Shares.{IsServedContent}
-use Rattle.settle_laws.specs.Worlds.{AreServed, Gains, IsPlain}
+use Rattle.settle_laws.specs.Worlds.{AreServed, Gains}
+use Rattle.search_log.specs.GoodLogs.{IsBare}
 
 module _ {X : Type 0} where
   pub has-same : (xs : List X) → All (Contains xs) xs
@@ -34,17 +35,17 @@ module _ {X : Type 0} where
   pairs-join R xs ys h k across = pairs-append R xs ys h k (All-from_members (λ x. All (R x) ys) xs (λ x m. All-from_members (R x) ys (λ y n. across x y m n)))
 
 pub gains-none : (lines : List LogLine) → Gains lines lines
-gains-none lines = record { more = []; are = sym (append-nil lines); plain = All-nil IsPlain }
+gains-none lines = record { more = []; are = sym (append-nil lines); plain = All-nil IsBare }
 
 pub gains-trans : (a b c : List LogLine) → Gains a b → Gains b c → Gains a c
 gains-trans a b c h k = record {
   more = h.more ++ k.more;
   are = k.are ∙ (ap (λ l. l ++ k.more) h.are ∙ append_assoc a h.more k.more);
-  plain = All-append IsPlain h.more k.more h.plain k.plain;
+  plain = All-append IsBare h.more k.more h.plain k.plain;
 }
 
-pub gains-one : (lines longer : List LogLine) (line : LogLine) → longer ≡ lines ++ line ∷ [] → IsPlain line → Gains lines longer
-gains-one lines longer line e plain = record { more = line ∷ []; are = e; plain = All-cons IsPlain line [] plain (All-nil IsPlain) }
+pub gains-one : (lines longer : List LogLine) (line : LogLine) → longer ≡ lines ++ line ∷ [] → IsBare line → Gains lines longer
+gains-one lines longer line e plain = record { more = line ∷ []; are = e; plain = All-cons IsBare line [] plain (All-nil IsBare) }
 
 -- ---- lines that are implied
 

@@ -34,7 +34,7 @@ use Rattle.settle_laws.specs.Ticks.{IsEarlier, TicksBelow}
 use Rattle.settle_laws.specs.Trying.{AreTriedChoices, IsTriedChild}
 use Rattle.settle_laws.specs.Worlds.{World, world}
 use Rattle.settle_laws.proofs.Ends.{TryingAny, any-branch-searched, ticked-open}
-use Rattle.settle_laws.proofs.LineParts.{with-literal}
+use Rattle.dead_laws.proofs.OneMoreLiteral.{with-literal}
 use Rattle.settle_laws.proofs.StopJoin.{one-counted, one-offered, one-stop}
 use Rattle.settle_laws.proofs.TagCodes.{alive-at}
 use Rattle.settle_laws.proofs.TickJoin.{itself-before, one-tick}

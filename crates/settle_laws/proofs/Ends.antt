@@ -44,7 +44,8 @@ use Rattle.settle_laws.specs.Stops.{IsWholePrefix, stop_at}
 use Rattle.settle_laws.specs.Ticked.{IsTicked}
 use Rattle.settle_laws.specs.Ticks.{OffersCost, Ticks, TicksBelow}
 use Rattle.settle_laws.specs.Trying.{AreTriedChoices, IsTriedChild, Trying}
-use Rattle.settle_laws.specs.Worlds.{IsKeptRight, IsLeastOffered, IsPlain, Keeps, KeepsAtMost, World, world}
+use Rattle.settle_laws.specs.Worlds.{IsKeptRight, IsLeastOffered, Keeps, KeepsAtMost, World, world}
+use Rattle.search_log.specs.GoodLogs.{IsBare}
 use Rattle.settle_laws.proofs.Adding.{gains-none, gains-one, gains-trans, has-same, has-trans, served-one, served-trans}
 use Rattle.settle_laws.proofs.FullPrefixes.{cost-low, cost-own, same-plan}
 use Rattle.settle_laws.proofs.Keeping.{keeps-same, keeps-trans}
@@ -78,7 +79,7 @@ module _ (instance : Instance) (literals : List Literal) (old now : World) (keep
   line-good good_line good = subst (λ (l : LogState). IsGoodLog instance (known now.shared) l.lines l.segments) (sym added)
       (log-push instance (known now.shared) now.log.lines now.log.segments line good good_line)
 
-  pub line-keeps : IsPlain line → IsGoodLine instance (known now.shared) now.log.lines line → IsServedContent instance (content_of line) → IsTagFor instance line.tag → Keeps instance old (world now.fuel now.bound now.shared log)
+  pub line-keeps : IsBare line → IsGoodLine instance (known now.shared) now.log.lines line → IsServedContent instance (content_of line) → IsTagFor instance line.tag → Keeps instance old (world now.fuel now.bound now.shared log)
   line-keeps plain good_line served own = record {
     fuel = keeps.fuel;
     copied = keeps.copied;
@@ -161,7 +162,7 @@ module _ (instance : Instance) (valid : IsInstance instance) (level : ℕ) (limi
     of-line = subst (λ (t : Tag). AreTriedChoices instance (known now.shared) now.log.lines fewer t.code node.path (count_at instance node.path) adds.line.refs) (sym adds.tag_is)
         (subst (λ refs. AreTriedChoices instance (known now.shared) now.log.lines fewer node.tag.code node.path (count_at instance node.path) refs) (sym adds.refs_are) by-known)
 
-    plain : IsPlain adds.line
+    plain : IsBare adds.line
     plain none = let e = adds.path_is in cc
 
     good : IsGoodLine instance (known now.shared) now.log.lines adds.line

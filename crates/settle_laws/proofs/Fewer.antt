@@ -24,7 +24,7 @@ use Rattle.search_log.specs.declared.shared.Cite.{Cite}
 use Rattle.search_log.specs.Shares.{HaveOneContent, SharedState, known, row_content}
 use Rattle.settle_laws.specs.Explained.{AreContents, AreCitesCopied, StaysFor}
 use Rattle.settle_laws.specs.Trying.{AreTriedChoices, IsTriedChild}
-use Rattle.settle_laws.proofs.LineParts.{with-literal}
+use Rattle.dead_laws.proofs.OneMoreLiteral.{with-literal}
 use Rattle.settle_laws.proofs.TagCodes.{implied-lower}
 
 -- copied rows are what look-ups gave under their numbers

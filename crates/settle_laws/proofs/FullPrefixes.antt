@@ -27,7 +27,7 @@ use Rattle.dead_laws.specs.DeadLaws.{NamesAll}
 use Rattle.dead_laws.proofs.CostLaws.{cost-tag}
 use Rattle.dead_laws.proofs.DeadFull.{implied-dead}
 use Rattle.dead_laws.proofs.ImpliedLemmas.{IsBelow-trans}
-use Rattle.search_log.proofs.CodeOrder.{codes-at_most}
+use Rattle.fapp_model.proofs.CodeOrder.{codes-at_most}
 use Rattle.tries_laws.proofs.PrefixParts.{prefix-is_partial}
 
 -- a literal of each path stands among literals along at most so many paths

@@ -1,5 +1,5 @@
 -- A line on the literals that are pushed is good, where what it says holds of them.
-use Rattle.std.proofs.Common.{◌≡◌, ◌≢◌, ℕ, ◌<◌, ◌≤◌, true, false, eqb, List, [], ◌∷◌, length, get_or, All, Contains, IsTrue, Some, None, refl, sym, subst, ◌∙◌, inl, inr, ⊎_elim}
+use Rattle.std.proofs.Common.{◌≡◌, ◌≢◌, ℕ, ◌<◌, ◌≤◌, true, false, eqb, List, [], ◌∷◌, length, get_or, All, Contains, IsTrue, Some, None, refl, sym, subst, inl, inr, ⊎_elim}
 use Rattle.std.specs.List.{AllZip}
 use Rattle.std.proofs.lemmas.Bool.{and_from, eq-eqb, true≢false}
 use Rattle.std.proofs.lemmas.List.Elements.{All-contains, All-cons, All-head, All-nil, All-tail}
@@ -14,11 +14,9 @@ use Rattle.fapp_model.specs.search.Arcs.{OutsideArc}
 use Rattle.fapp_model.specs.search.Dead.{Dead}
 use Rattle.fapp_model.specs.search.Partials.{HasAll, IsPartial, literal, names}
 use Rattle.fapp_model.proofs.Anys.{any-member, no-member, none-member}
-use Rattle.fapp_model.proofs.Members.{All-from_members}
 use Rattle.cert_lines.specs.acceptance.Contained.{has, has_all, has_all_but_one, is_same}
 use Rattle.dead_laws.proofs.DeadMore.{dead-more}
 use Rattle.dead_laws.proofs.DeadTests.{dead_by-along}
-use Rattle.dead_laws.proofs.ExampleTests.{one-more}
 use Rattle.search_log.specs.declared.line.ChoiceRef.{ChoiceRef}
 use Rattle.search_log.specs.declared.line.LogLine.{LogLine}
 use Rattle.search_log.specs.Contents.{Cites, Content, KnownRow}
@@ -27,6 +25,7 @@ use Rattle.search_log.proofs.Implying.{lits-partial}
 use Rattle.settle_laws.specs.Lines.{AreSorted}
 use Rattle.settle_laws.specs.Trying.{AreTriedChoices, IsTriedChild}
 use Rattle.settle_laws.proofs.Adding.{has-cons, has-trans}
+use Rattle.dead_laws.proofs.OneMoreLiteral.{with-literal}
 
 -- ---- lists that have literals
 
@@ -35,11 +34,6 @@ contains-has literals a m = any-member (λ (b : Literal). is_same b a) literals 
 
 pub each-has_all : (literals cited : List Literal) → HasAll literals cited → has_all literals cited ≡ true
 each-has_all literals cited h = list_all-from_AllPass (has literals) cited (λ k d l. contains-has literals (get_or cited k d) (h k d l))
-
-pub with-literal : (instance : Instance) (literals : List Literal) (path index : ℕ) → IsPartial instance literals → path < length instance.paths → index < count_at instance path → names literals path ≡ false → IsPartial instance (literal path index ∷ literals)
-with-literal instance literals path index partial small below apart = one-more instance (literal path index) literals (record { path = small; choice = below })
-    (All-from_members (λ (b : Literal). path ≢ b.path) literals (λ b m e. true≢false (sym (eq-eqb b.path path (sym e)) ∙ none-member (λ (c : Literal). eqb c.path path) literals apart b m)))
-    partial
 
 pub names-same : (pushed literals : List Literal) (path : ℕ) → HasAll pushed literals → names pushed path ≡ false → names literals path ≡ false
 names-same pushed literals path only none = no-member (λ (a : Literal). eqb a.path path) literals (λ a m. none-member (λ (b : Literal). eqb b.path path) pushed none a (All-contains (Contains pushed) literals a only m))

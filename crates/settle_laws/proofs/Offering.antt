@@ -18,7 +18,7 @@ use Rattle.cert_lines.proofs.Codes.{tag_within}
 use Rattle.dead_laws.proofs.CostLaws.{cost-tag}
 use Rattle.dead_laws.proofs.ImpliedLemmas.{IsBelow-trans}
 use Rattle.search_log.specs.Segments.{IsGoodLog}
-use Rattle.search_log.proofs.CodeOrder.{below-codes, codes-at_most}
+use Rattle.fapp_model.proofs.CodeOrder.{below-codes, codes-at_most}
 use Rattle.search_log.specs.declared.log.KeptPlan.{KeptPlan}
 use Rattle.search_log.specs.Bounds.{BoundState, Offers, floor, lowest, with_offer}
 use Rattle.search_log.specs.LogStates.{LogState}

@@ -28,7 +28,7 @@ use Rattle.settle_laws.specs.Trying.{AreTriedChoices, Trying}
 use Rattle.settle_laws.specs.Worlds.{AreServed, World}
 use Rattle.settle_laws.specs.Noted.{by_choice}
 use Rattle.settle_laws.proofs.Tried.{tried-settled}
-use Rattle.settle_laws.proofs.LineParts.{with-literal}
+use Rattle.dead_laws.proofs.OneMoreLiteral.{with-literal}
 use Rattle.settle_laws.proofs.NextPaths.{next-apart, next-small}
 use Rattle.settle_laws.proofs.TagCodes.{tag-small}
 use Rattle.tries_laws.proofs.PrefixParts.{prefix-is_partial}

@@ -15,7 +15,7 @@ use Rattle.fapp_model.specs.search.Jobs.{target}
 use Rattle.fapp_model.proofs.TagParts.{TagShape, limited, plain, shape, tag_from_limited, tag_from_plain}
 use Rattle.dead_laws.proofs.DeadLower.{dead_lower}
 use Rattle.dead_laws.proofs.ImpliedLemmas.{Implied-lower}
-use Rattle.search_log.proofs.CodeOrder.{codes-at_most}
+use Rattle.fapp_model.proofs.CodeOrder.{codes-at_most}
 use Rattle.settle_laws.specs.Levels.{level_code}
 
 pub code-back : (c : ℕ) → code_of (triple_from c) ≡ c

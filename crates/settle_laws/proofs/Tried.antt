@@ -28,7 +28,7 @@ use Rattle.settle_laws.specs.Noted.{by_choice}
 use Rattle.settle_laws.specs.Trying.{AreTriedChoices, IsTriedChild}
 use Rattle.settle_laws.specs.Worlds.{Gains}
 use Rattle.settle_laws.proofs.Adding.{has-front, has-trans, pairs-join}
-use Rattle.settle_laws.proofs.LineParts.{with-literal}
+use Rattle.dead_laws.proofs.OneMoreLiteral.{with-literal}
 use Rattle.settle_laws.proofs.TagCodes.{dead-lower, implied-lower}
 
 pub cites-grow : (rows more : List KnownRow) (lines longer : List LogLine) (ref : Ref) (content : Content) → All (Contains more) rows → Gains lines longer → Cites rows lines ref content → Cites more longer ref content

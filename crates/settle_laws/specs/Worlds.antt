@@ -1,5 +1,5 @@
 -- All that a search changes, and what it keeps.
-use Rattle.std.specs.Prelude.{◌≡◌, ℕ, ◌≤◌, List, [], ◌++◌, length, slice_get, All, Contains, Option, Some, None}
+use Rattle.std.specs.Prelude.{◌≡◌, ℕ, ◌≤◌, List, ◌++◌, length, slice_get, All, Contains, Option, Some, None}
 use Rattle.fapp_model.specs.declared.instance.Instance.{Instance}
 use Rattle.fapp_model.specs.Costs.{cost}
 use Rattle.fapp_model.specs.InstanceTags.{IsTagFor}
@@ -13,6 +13,7 @@ use Rattle.search_log.specs.declared.log.KeptPlan.{KeptPlan}
 use Rattle.search_log.specs.Bounds.{BoundState, floor, lowest}
 use Rattle.search_log.specs.LogStates.{LogState}
 use Rattle.search_log.specs.Shares.{IsServedContent, SharedState, known}
+use Rattle.search_log.specs.GoodLogs.{IsBare}
 
 -- the fuel, the bound, the shared rows and the log
 pub record World : Type 0 where
@@ -32,15 +33,11 @@ AreServed instance from lines = (n : ℕ) (line : LogLine) → from ≤ n → sl
 abbrev pub IsGoodWorld : Instance → World → Type 0
 IsGoodWorld instance w = IsGoodLog instance (known w.shared) w.log.lines w.log.segments
 
--- a Count line has no references
-abbrev pub IsPlain : LogLine → Type 0
-IsPlain line = line.path ≡ None → line.refs ≡ []
-
 -- lines were added at the end, and the Count lines among them have no references
 pub record Gains (old new : List LogLine) : Type 0 where
   pub more : List LogLine
   pub are : new ≡ old ++ more
-  pub plain : All IsPlain more
+  pub plain : All IsBare more
 
 -- what is kept costs as much as the least offer, or neither is there
 abbrev pub IsLeastOffered : Option KeptPlan → Option ℕ → Type 0

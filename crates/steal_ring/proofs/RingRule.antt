@@ -48,7 +48,7 @@ one_set ws job q lt = dite (ℕ_discrete q job)
     (λ e. inl (e, ap (λ (i : ℕ). get_or (set ws job 1) i 0) e ∙ get_or-set_same ws job 1 0 lt))
     (λ ne. inr (ne, get_or-set_other ws job q 1 0 ne))
 
-once_at : (q job : ℕ) → ((q ≡ job) × (once q job ≡ 1)) ⊎ ((q ≢ job) × (once q job ≡ 0))
+pub once_at : (q job : ℕ) → ((q ≡ job) × (once q job ≡ 1)) ⊎ ((q ≢ job) × (once q job ≡ 0))
 once_at q job = dite (ℕ_discrete q job) (λ e. inl (e, grind (arith, nat_tests))) (λ ne. inr (ne, grind (arith, nat_tests)))
 
 taken_kept : (jobs : ℕ) (s : Words) (b : IsRing jobs s) (id : ℕ) (v : RingView) (job : ℕ) → Live is_spent s.views id v → job < jobs

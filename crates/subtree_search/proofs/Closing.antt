@@ -54,7 +54,7 @@ home-published old new log after place row line result last says offered ok err 
   });
 }
 
-err-as : {T E : Type 0} → (result : Result T E) → IsErr result → (e : E) × (result ≡ Err e)
+pub err-as : {T E : Type 0} → (result : Result T E) → IsErr result → (e : E) × (result ≡ Err e)
 err-as (Ok x) err = cc
 err-as (Err e) err = (e, refl)
 

@@ -34,7 +34,8 @@ use Rattle.settle_laws.specs.declared.node.Node.{Node}
 use Rattle.settle_laws.specs.Lines.{IsLined}
 use Rattle.settle_laws.specs.Explained.{Explains, IsClosedBy, IsDeadPart, StaysFor}
 use Rattle.settle_laws.proofs.Adding.{has-cons, has-front, has-same, has-trans, pairs-join}
-use Rattle.settle_laws.proofs.LineParts.{names-same, with-literal}
+use Rattle.settle_laws.proofs.LineParts.{names-same}
+use Rattle.dead_laws.proofs.OneMoreLiteral.{with-literal}
 use Rattle.subtree_search.specs.Explaining.{IsNodeToExplain, IsOffPath}
 
 -- a choice that isn't left at the tag's level is dead

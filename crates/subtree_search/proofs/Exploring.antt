@@ -1,5 +1,5 @@
 -- What is so in the loop of the search.
-use Rattle.std.proofs.Common.{◌≡◌, ℕ, List, [], ◌∷◌, ◌++◌, Result, Ok, Err, refl, sym, ap, subst, ◌∙◌}
+use Rattle.std.proofs.Common.{◌≡◌, ℕ, List, [], ◌∷◌, ◌++◌, Result, Err, refl, sym, ap, subst, ◌∙◌}
 use Rattle.std.specs.Result.{IsErr}
 use Rattle.fapp_model.specs.declared.instance.Instance.{Instance}
 use Rattle.fapp_model.specs.declared.literal.Literal.{Literal}
@@ -13,13 +13,10 @@ use Rattle.settle_laws.specs.Worlds.{World}
 use Rattle.subtree_search.specs.declared.walk.Walk.{Walk}
 use Rattle.subtree_search.specs.SearchSteps.{ComesTo, Opens}
 use Rattle.subtree_search.specs.Walks.{BeginsAt, IsReady}
+use Rattle.subtree_search.proofs.Closing.{err-as}
 
 pub err-any : {E F : Type 0} → (instance : Instance) (level : ℕ) (literals : List Literal) (old new : World) (e : E) → Searched instance level literals old new (Err e) → (f : F) → Searched instance level literals old new (Err f)
 err-any instance level literals old new e s f = record { keeps = s.keeps; few = s.few; read = s.read; is = tt; refused_at = s.refused_at; refused_count = s.refused_count; ticks = s.ticks; offered = tt; counted = tt }
-
-err-as : {T E : Type 0} → (result : Result T E) → IsErr result → (e : E) × (result ≡ Err e)
-err-as (Ok x) err = cc
-err-as (Err e) err = (e, refl)
 
 pub searched-err : {E : Type 0} → (instance : Instance) (level : ℕ) (literals : List Literal) (old new : World) (result : Result Found E) → IsErr result → ((e : E) → Searched instance level literals old new (Err e)) → Searched instance level literals old new result
 searched-err instance level literals old new result err f = let r = err-as result err in subst (λ o. Searched instance level literals old new o) (sym r.1) (f r.0)

@@ -20,14 +20,14 @@ use Rattle.settle_laws.specs.Lines.{AddsLine}
 use Rattle.settle_laws.specs.Ticked.{IsTicked}
 use Rattle.settle_laws.specs.Worlds.{World, world}
 use Rattle.settle_laws.proofs.Ahead.{ahead-searched}
-use Rattle.subtree_search.specs.Looking.{ClosesAhead, IsShut}
+use Rattle.subtree_search.specs.Looking.{ClosesAhead, IsClosedAhead}
 
 pub order-small : (instance : Instance) (order : List ℕ) (place : ℕ) → order ≡ work_order instance → place < length order → get_or order place 0 < length instance.paths
 order-small instance order place same within = All-get_or (λ path. path < length instance.paths) order place 0 within
     (subst (All (λ path. path < length instance.paths)) (sym same) (order-is instance).in_range)
 
 -- a line that closes a shut node
-pub closes-shut : (first forward : ForwardState) → forward ≡ first → (tag : Tag) (old new : LogState) (node : Node) (found : Found) → IsShut first.instance first.pushed tag node → (cites : List Cite) →
+pub closes-shut : (first forward : ForwardState) → forward ≡ first → (tag : Tag) (old new : LogState) (node : Node) (found : Found) → IsClosedAhead first.instance first.pushed tag node → (cites : List Cite) →
     ((fewer : List Literal) × Explains forward.instance cites old.lines forward.pushed fewer node × AddsLine forward.instance fewer node.tag (Some node.path) node.refs old new found) →
     ClosesAhead first.instance first.pushed tag old new found
 closes-shut first forward same tag old new node found shut cites h =

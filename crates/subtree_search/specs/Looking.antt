@@ -12,20 +12,20 @@ use Rattle.settle_laws.specs.Lines.{AddsLine}
 use Rattle.subtree_search.specs.Explaining.{IsNodeToExplain}
 
 -- a node of a further path at a tag, with no choice left to try and nothing noted of any
-pub record IsBare (instance : Instance) (literals : List Literal) (tag : Tag) (node : Node) : Type 0 where
+pub record IsWithoutRefs (instance : Instance) (literals : List Literal) (tag : Tag) (node : Node) : Type 0 where
   pub asked : IsNodeToExplain instance literals node
   pub tag_is : node.tag ≡ tag
   pub done : node.choice ≡ node.count
   pub none : node.refs ≡ []
 
 -- such a node, each of whose choices is dead with the literals
-abbrev pub IsShut : Instance → List Literal → Tag → Node → Type 0
-IsShut instance literals tag node = IsBare instance literals tag node × IsClosedBy instance literals node
+abbrev pub IsClosedAhead : Instance → List Literal → Tag → Node → Type 0
+IsClosedAhead instance literals tag node = IsWithoutRefs instance literals tag node × IsClosedBy instance literals node
 
 -- its line was added, on literals that it needs
 pub record ClosesAhead (instance : Instance) (literals : List Literal) (tag : Tag) (old new : LogState) (found : Found) : Type 0 where
   pub node : Node
-  pub shut : IsShut instance literals tag node
+  pub shut : IsClosedAhead instance literals tag node
   pub cites : List Cite
   pub fewer : List Literal
   pub explains : Explains instance cites old.lines literals fewer node

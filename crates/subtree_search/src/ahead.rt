@@ -6,7 +6,7 @@ ghost use Rattle.fapp_model.specs.search.Partials.{IsPartial, names};
 ghost use Rattle.fapp_model.specs.search.Prefixes.{IsPrefix};
 ghost use Rattle.fapp_model.specs.search.WorkOrder.{work_order};
 ghost use Rattle.subtree_search.specs.Explaining.{IsNodeToExplain};
-ghost use Rattle.subtree_search.specs.Looking.{IsBare, IsShut, LooksAhead};
+ghost use Rattle.subtree_search.specs.Looking.{IsWithoutRefs, IsClosedAhead, LooksAhead};
 
 use crate::explain::{Scratch, add_explained, is_closed};
 use crate::seen::SeenRows;
@@ -26,7 +26,7 @@ fn bare_node(alloc: Global, forward: &Forward, tag: Tag, path: u16) -> Node
     requires partial { IsPartial forward.now.instance forward.now.pushed }
     requires path { path < length forward.now.instance.paths }
     requires free { names forward.now.pushed path ≡ false }
-    ensures { IsBare forward.now.instance forward.now.pushed tag result }
+    ensures { IsWithoutRefs forward.now.instance forward.now.pushed tag result }
 {
     let instance = forward.tables().instance();
     let count = choice_count(&instance.paths.as_slice()[path as usize]);
@@ -65,7 +65,7 @@ fn shut_at(alloc: Global, forward: &mut Forward, tag: Tag, path: u16) -> Option<
     requires partial { IsPartial forward.old.instance forward.old.pushed }
     requires path { path < length forward.old.instance.paths }
     ensures front { forward.new ≡ forward.old }
-    ensures shut { IfSome result (IsShut forward.old.instance forward.old.pushed tag) }
+    ensures shut { IfSome result (IsClosedAhead forward.old.instance forward.old.pushed tag) }
 {
     if forward.is_set(path) {
         return None;
@@ -87,7 +87,7 @@ fn shut_behind(alloc: Global, forward: &mut Forward, tag: Tag, place: usize) -> 
     requires partial { IsPartial forward.old.instance forward.old.pushed }
     requires place { place < length (work_order forward.old.instance) }
     ensures front { forward.new ≡ forward.old }
-    ensures shut { IfSome result (IsShut forward.old.instance forward.old.pushed tag) }
+    ensures shut { IfSome result (IsClosedAhead forward.old.instance forward.old.pushed tag) }
 {
     let order = forward.tables().order();
     for later in place + 1..order.len() {

@@ -4,7 +4,8 @@ use Rattle.fapp_model.specs.search.Partials.{literal}
 use Rattle.nogood.specs.Partials.{choice_given}
 use Rattle.choice_counts.specs.Counts.{pair_tally, slot_part}
 use Rattle.choice_counts.proofs.Clash.{pair_turned}
-use Rattle.forward_count.proofs.Neighbours.{near_below, near_shares, shares_apart}
+use Rattle.forward_count.proofs.Neighbours.{near_below, near_shares}
+use Rattle.choice_counts.proofs.NeighbourLaws.{shares_apart}
 use Rattle.forward_count.proofs.afresh.slot_tally.Goals as goal
 
 pub pair_tally-requires-clause-apart : goal.pair_tally-requires-clause-apart

@@ -9,7 +9,8 @@ use Rattle.choice_counts.specs.Tallies.{tallies_at, tallies_by}
 use Rattle.forward_count.proofs.Added.{IsAdded, added_all, added_more, waits}
 use Rattle.forward_count.specs.Floors.{IsFloor}
 use Rattle.forward_count.proofs.RowLaws.{row_floor}
-use Rattle.forward_count.proofs.Neighbours.{leads, leads_elsewhere, leads_here, near_all, near_below, near_new, near_shares, shares_apart}
+use Rattle.forward_count.proofs.Neighbours.{leads, leads_elsewhere, leads_here, near_all, near_below, near_new, near_shares}
+use Rattle.choice_counts.proofs.NeighbourLaws.{shares_apart}
 use Rattle.forward_count.proofs.moves.move_all.Goals as goal
 
 pub refresh-counted-requires-clause-other : goal.refresh-counted-requires-clause-other

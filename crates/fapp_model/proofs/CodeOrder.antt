@@ -1,13 +1,12 @@
--- Tags are ordered as their codes.
-use Rattle.std.proofs.Common.{◌≡◌, ◌⊎◌, ℕ, ◌/◌, ◌%◌, ◌<◌, ◌≤◌, ap, inl, inr, arith}
-use Rattle.std.proofs.lemmas.Bool.{cases_lt, cases_order}
+-- Codes of tags are ordered as the tags.
+use Rattle.std.proofs.Common.{◌≡◌, ◌⊎◌, ℕ, ◌/◌, ◌%◌, ◌<◌, inl, inr, arith, ap, ◌≤◌}
+use Rattle.std.proofs.lemmas.Bool.{cases_order, cases_lt}
 use Rattle.fapp_model.specs.declared.limits.TheConstants.{S_SPAN}
 use Rattle.fapp_model.specs.Tags.{triple_from}
-use Rattle.fapp_model.specs.Triples.{IsBelow}
-use Rattle.fapp_model.specs.Triples.{IsAtMost}
+use Rattle.fapp_model.specs.Triples.{IsBelow, IsAtMost}
 
 -- quotients and remainders of a lesser number
-parts-below : (t u : ℕ) → t < u → (t / S_SPAN < u / S_SPAN) ⊎ ((t / S_SPAN ≡ u / S_SPAN) × (t % S_SPAN < u % S_SPAN))
+pub parts-below : (t u : ℕ) → t < u → (t / S_SPAN < u / S_SPAN) ⊎ ((t / S_SPAN ≡ u / S_SPAN) × (t % S_SPAN < u % S_SPAN))
 parts-below t u h =
     elim (cases_order (t / S_SPAN) (u / S_SPAN)) [
       | inl same ↦ inr (same, omega arith)
