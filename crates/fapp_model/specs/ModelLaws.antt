@@ -3,7 +3,7 @@ use Rattle.std.specs.Prelude.{◌≡◌, ◌↔◌, ℕ, ◌<◌, List, length, 
 use Rattle.fapp_model.specs.declared.instance.Instance.{Instance}
 use Rattle.fapp_model.specs.declared.literal.Literal.{Literal}
 use Rattle.fapp_model.specs.declared.triple.Triple.{Triple}
-use Rattle.fapp_model.specs.declared.limits.TheConstants.{MAX_NUMBER, MAX_TEXT, MAX_PATHS, MAX_RECORDS, MAX_DOMAIN_RECORDS, MAX_DOMAIN_FREQUENCIES, MAX_CHOICES, MAX_DEPTH, V_SPAN, S_SPAN}
+use Rattle.fapp_model.specs.declared.limits.TheConstants.{MAX_NUMBER, MAX_TEXT, MAX_PATHS, MAX_RECORDS, MAX_DOMAIN_RECORDS, MAX_DOMAIN_FREQUENCIES, MAX_CHOICES, MAX_DEPTH, MAX_PATH_CHOICES, V_SPAN, S_SPAN}
 use Rattle.fapp_model.specs.Tags.{code_of, is_tag, triple_from}
 use Rattle.fapp_model.specs.Triples.{IsBelow}
 use Rattle.fapp_model.specs.search.Partials.{AreLiterals, IsPartial}
@@ -18,6 +18,7 @@ pub record LimitsAre : Type 0 where
   pub domain_records : MAX_DOMAIN_RECORDS ≡ 1048576
   pub domain_frequencies : MAX_DOMAIN_FREQUENCIES ≡ 32768
   pub choices : MAX_CHOICES ≡ 4194304
+  pub path_choices : MAX_PATH_CHOICES ≡ 65536
   pub depth : MAX_DEPTH ≡ 64
   pub violations : V_SPAN ≡ 67108864
   pub sums : S_SPAN ≡ 67108864

@@ -7,6 +7,7 @@ use Rattle.fapp_io.specs.Moments.{SourceMoment, SinkMoment}
 use Rattle.fapp_io.specs.Whole.{GrowsByFront}
 use Rattle.fapp_model.specs.declared.instance.Instance.{Instance}
 use Rattle.fapp_model.specs.declared.level.TheConstants.{LEVELS, MAX_LEVELS}
+use Rattle.fapp_model.specs.ModelLaws.{LimitsAre}
 use Rattle.record_reader.specs.Texts.{instance_of_text}
 use Rattle.cert_lines.specs.declared.answer.Answer.{Answer}
 use Rattle.cert_lines.specs.acceptance.Accepts.{Accepts}
@@ -91,9 +92,11 @@ CompletesDemo words sink sink' status = (seed : Seed) → Names words (requests.
 abbrev pub ProvesAccepted : SourceMoment → Status → Type 0
 ProvesAccepted source status = (bytes : List ℕ) → source.left ≡ Some bytes → status ≡ Accepted → IsProved bytes
 
--- the most bytes of an input that is solved and of one that is checked, and the levels of an instance, as numbers
+-- the most bytes of an input that is solved and of one that is checked, the levels of an instance, and the limits of its
+-- text, as numbers
 pub record AreLimits : Type 0 where
   pub input : MAX_INPUT ≡ 134217728
   pub check_input : MAX_CHECK_INPUT ≡ 1073741824
   pub levels : LEVELS ≡ 11
   pub most_levels : MAX_LEVELS ≡ 11
+  pub texts : LimitsAre
