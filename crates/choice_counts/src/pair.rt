@@ -8,7 +8,7 @@ ghost use Rattle.fapp_tables.specs.Indexes.{records_of};
 
 use crate::breaks::next_reach;
 use crate::cells::Cell;
-use choice_counts::HARD;
+use crate::HARD;
 use fapp_model::{Choice, Instance};
 use fapp_tables::pair_counts;
 

@@ -9,7 +9,7 @@ use crate::breaks::NO_REACH;
 use crate::cells::Cells;
 use crate::fill::PairCells;
 use crate::pair::Edge;
-use fapp_model::NoMemory;
+use fapp_model::{MAX_LEVELS, NoMemory};
 use fapp_tables::Tables;
 use std::alloc::Global;
 use std::marker::Model;
