@@ -26,21 +26,24 @@ pub record HasNoFault (instance : Instance) (answer : Answer) : Type 0 where
 
 -- An answer is accepted exactly where its plan, each line and its root have no fault.
 abbrev pub AcceptsByParts : Type 0
-AcceptsByParts = (instance : Instance) (answer : Answer) → Accepts instance answer ↔ HasNoFault instance answer
+AcceptsByParts =
+    (instance : Instance) (answer : Answer) → Accepts instance answer ↔ HasNoFault instance answer
 
 -- a shown plan is that of these choice indices, which meet the imperative records and cost so much
-pub record Shows (instance : Instance) (shown : List Choice) (cost_shown : Triple) (plan : List ℕ) : Type 0 where
+pub record Shows (instance : Instance) (shown : List Choice) (cost_shown : Triple)
+    (plan : List ℕ) : Type 0 where
   pub whole : length shown ≡ length instance.paths
   pub chosen : (position : ℕ) → position < length instance.paths →
       chosen instance plan position ≡ shown_at shown position
   pub feasible : IsFeasible instance plan
   pub cost : cost instance plan ≡ cost_shown
 
--- What an answer claims is so. Best: no plan costs less than the shown one, which costs the triple. NoneFeasible: no
--- plan is feasible. Open: no plan costs less than the lower bound, and a plan is shown that costs the triple, unless
--- the triple says that none is.
+-- What an answer claims is so. Best: no plan costs less than the shown one, which costs the triple.
+-- NoneFeasible: no plan is feasible. Open: no plan costs less than the lower bound, and a plan is
+-- shown that costs the triple, unless the triple says that none is.
 abbrev pub IsRight : Instance → List Choice → Verdict → Type 0
-IsRight instance shown (Best t) = (plan : List ℕ) × Shows instance shown t plan × Least instance plan
+IsRight instance shown (Best t) =
+    (plan : List ℕ) × Shows instance shown t plan × Least instance plan
 IsRight instance shown NoneFeasible = (plan : List ℕ) → IsFeasible instance plan → ⊥
 IsRight instance shown (Open best lower level prefix) =
     Implied instance (triple_from lower.code) []
@@ -48,5 +51,6 @@ IsRight instance shown (Open best lower level prefix) =
 
 -- An accepted answer is right.
 abbrev pub AcceptanceIsProof : Type 0
-AcceptanceIsProof = (instance : Instance) (answer : Answer) → IsInstance instance → IsWellFormed instance answer →
+AcceptanceIsProof =
+    (instance : Instance) (answer : Answer) → IsInstance instance → IsWellFormed instance answer →
     Accepts instance answer → IsRight instance answer.plan answer.verdict

@@ -21,7 +21,9 @@ is_cited_behind lines n k = list_any (λ line. cites line k) (drop n lines)
 
 -- the line of a number is the last to cite that of a lower one, which has two or more literals
 abbrev pub is_last_cite : List Line → ℕ → ℕ → Bool
-is_last_cite lines n k = (nat_lt 0 k && nat_le 2 (length (line_at lines k).lits)) && (cites (line_at lines n) k && not (is_cited_behind lines n k))
+is_last_cite lines n k =
+    (nat_lt 0 k && nat_le 2 (length (line_at lines k).lits))
+    && (cites (line_at lines n) k && not (is_cited_behind lines n k))
 
 abbrev pub ended : List Line → ℕ → List ℕ
 ended lines n = filter (is_last_cite lines n) (range_with_len 0 n)
@@ -40,10 +42,13 @@ abbrev pub compacted_number : List Line → ℕ → ℕ
 compacted_number lines k = k + ending lines (k - 1)
 
 abbrev pub delete_line : List ℕ → Line
-delete_line numbers = record { tag = record { code = 0; of_tag = refl }; lits = []; rule = Delete numbers }
+delete_line numbers =
+    record { tag = record { code = 0; of_tag = refl }; lits = []; rule = Delete numbers }
 
 abbrev pub delete_behind : List Line → ℕ → List Line
-delete_behind lines n = if is_empty (ended lines n) then [] else (delete_line (map (compacted_number lines) (ended lines n)) ∷ [])
+delete_behind lines n =
+    if is_empty (ended lines n) then [] else (delete_line
+    (map (compacted_number lines) (ended lines n)) ∷ [])
 
 -- a line renumbered, and the Delete line of what it ends
 abbrev pub compacted_at : List Line → ℕ → List Line
@@ -59,7 +64,9 @@ compacted lines = compacted_to lines (length lines)
 
 -- Good lines stay good with Delete lines for what is cited no more.
 abbrev pub CompactedLinesAreGood : Type 0
-CompactedLinesAreGood = (instance : Instance) (lines : List Line) → All (IsLine instance) lines → AreGood instance lines → AreGood instance (compacted lines)
+CompactedLinesAreGood =
+    (instance : Instance) (lines : List Line) → All (IsLine instance) lines →
+    AreGood instance lines → AreGood instance (compacted lines)
 
 -- the line of a number cites earlier lines, and none at the tag (0, 0, 0)
 pub record IsCompactable (lines : List Line) (n : ℕ) : Type 0 where
@@ -68,10 +75,15 @@ pub record IsCompactable (lines : List Line) (n : ℕ) : Type 0 where
 
 -- Without these Delete lines the lines are as before, where none of them was one.
 abbrev pub StrippedAgain : Type 0
-StrippedAgain = (lines : List Line) → All (λ line. is_delete line.rule ≡ false) lines → ((n : ℕ) → 0 < n → n ≤ length lines → IsCompactable lines n) →
+StrippedAgain =
+    (lines : List Line) → All (λ line. is_delete line.rule ≡ false) lines →
+    ((n : ℕ) → 0 < n → n ≤ length lines → IsCompactable lines n) →
     stripped (compacted lines) ≡ lines
 
 -- The lines with these Delete lines are well formed in version 2.
 abbrev pub CompactedLinesAreFormed : Type 0
-CompactedLinesAreFormed = (instance : Instance) (lines : List Line) → All (IsLine instance) lines → IsNumber (length (compacted lines)) →
-    ((n : ℕ) → 0 < n → n ≤ length lines → IsCompactable lines n) → All (IsLineOrDelete instance) (compacted lines)
+CompactedLinesAreFormed =
+    (instance : Instance) (lines : List Line) → All (IsLine instance) lines →
+    IsNumber (length (compacted lines)) →
+    ((n : ℕ) → 0 < n → n ≤ length lines → IsCompactable lines n) →
+    All (IsLineOrDelete instance) (compacted lines)

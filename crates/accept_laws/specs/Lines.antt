@@ -15,14 +15,18 @@ use Rattle.cert_lines.specs.acceptance.LineFaults.{IsGoodLine}
 
 -- What the test judges dead is dead by the cases.
 abbrev pub JudgedIsDead : Type 0
-JudgedIsDead = (excluded : Literal → Bool) (instance : Instance) (t : Triple) (literals : List Literal) →
-    IsTrue (judged_dead excluded instance t literals) → DeadBy (λ a. IsTrue (excluded a)) instance t literals
+JudgedIsDead =
+    (excluded : Literal → Bool) (instance : Instance) (t : Triple) (literals : List Literal) →
+    IsTrue (judged_dead excluded instance t literals) →
+    DeadBy (λ a. IsTrue (excluded a)) instance t literals
 
 -- At a tag above (0, 0, 0) the test judges dead what is dead by the cases.
 abbrev pub DeadIsJudged : Type 0
-DeadIsJudged = (excluded : Literal → Bool) (instance : Instance) (t : Triple) (literals : List Literal) →
+DeadIsJudged =
+    (excluded : Literal → Bool) (instance : Instance) (t : Triple) (literals : List Literal) →
     IsPartial instance literals → (t ≡ least_tag → ⊥) →
-    DeadBy (λ a. IsTrue (excluded a)) instance t literals → IsTrue (judged_dead excluded instance t literals)
+    DeadBy (λ a. IsTrue (excluded a)) instance t literals →
+    IsTrue (judged_dead excluded instance t literals)
 
 -- what a line says
 abbrev pub IsLineImplied : Instance → Line → Type 0
@@ -34,5 +38,7 @@ AreGood instance lines = (n : ℕ) → n < length lines → IsGoodLine instance 
 
 -- Where each line of a list is good, each line's literals are implied at its tag.
 abbrev pub GoodLinesAreImplied : Type 0
-GoodLinesAreImplied = (instance : Instance) (lines : List Line) → IsInstance instance → All (IsLineOrDelete instance) lines →
+GoodLinesAreImplied =
+    (instance : Instance) (lines : List Line) → IsInstance instance →
+    All (IsLineOrDelete instance) lines →
     AreGood instance lines → All (IsLineImplied instance) lines

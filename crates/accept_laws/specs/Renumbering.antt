@@ -12,5 +12,7 @@ shifted count line = renumbered (λ n. count + n) line
 
 -- Good lines stay good behind others, where their cites count these.
 abbrev pub GoodBehindOthers : Type 0
-GoodBehindOthers = (instance : Instance) (others lines : List Line) → All (IsLine instance) others → All (IsLine instance) lines → AreGood instance others → AreGood instance lines →
+GoodBehindOthers =
+    (instance : Instance) (others lines : List Line) → All (IsLine instance) others →
+    All (IsLine instance) lines → AreGood instance others → AreGood instance lines →
     AreGood instance (others ++ map (shifted (length others)) lines)

@@ -24,11 +24,13 @@ pub record IsWellShown (instance : Instance) (plan : List ℕ) : Type 0 where
   pub choices : All IsShownChoice (shown instance plan)
   pub best : plan_fault instance (shown instance plan) (Best (cost instance plan)) ≡ None
   pub open_at : (lower : Tag) (level : ℕ) (prefix : List Literal) →
-      plan_fault instance (shown instance plan) (Open (cost instance plan) lower level prefix) ≡ None
+      plan_fault instance (shown instance plan) (Open (cost instance plan) lower level prefix)
+      ≡ None
 
 -- A feasible plan is well shown.
 abbrev pub FeasiblePlansAreWellShown : Type 0
-FeasiblePlansAreWellShown = (instance : Instance) (plan : List ℕ) → IsInstance instance → IsFeasible instance plan →
+FeasiblePlansAreWellShown =
+    (instance : Instance) (plan : List ℕ) → IsInstance instance → IsFeasible instance plan →
     IsWellShown instance plan
 
 -- No plan has no fault where the verdict shows none.

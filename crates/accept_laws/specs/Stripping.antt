@@ -8,8 +8,12 @@ use Rattle.accept_laws.specs.Lines.{AreGood}
 
 -- Without the Delete lines good lines stay good.
 abbrev pub StrippedLinesAreGood : Type 0
-StrippedLinesAreGood = (instance : Instance) (lines : List Line) → All (IsLineOrDelete instance) lines → AreGood instance lines → AreGood instance (stripped lines)
+StrippedLinesAreGood =
+    (instance : Instance) (lines : List Line) → All (IsLineOrDelete instance) lines →
+    AreGood instance lines → AreGood instance (stripped lines)
 
 -- They stay well formed.
 abbrev pub StrippedLinesAreFormed : Type 0
-StrippedLinesAreFormed = (instance : Instance) (lines : List Line) → All (IsLineOrDelete instance) lines → AreGood instance lines → All (IsLine instance) (stripped lines)
+StrippedLinesAreFormed =
+    (instance : Instance) (lines : List Line) → All (IsLineOrDelete instance) lines →
+    AreGood instance lines → All (IsLine instance) (stripped lines)

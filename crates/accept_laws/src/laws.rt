@@ -11,14 +11,14 @@ pub fn judged_is_dead()
     ensures { JudgedIsDead }
 {}
 
-/// At a tag above (0, 0, 0) literals that are dead by one of the cases, with the excluded choices outside, are judged
-/// dead.
+/// At a tag above (0, 0, 0) literals that are dead by one of the cases, with the excluded choices
+/// outside, are judged dead.
 pub fn dead_is_judged()
     ensures { DeadIsJudged }
 {}
 
-/// Where each line of a list is good, no assignment that meets the imperative records and has a line's literals costs
-/// less than the line's tag.
+/// Where each line of a list is good, no assignment that meets the imperative records and has a
+/// line's literals costs less than the line's tag.
 pub fn good_lines_are_implied()
     ensures { GoodLinesAreImplied }
 {}
@@ -28,9 +28,10 @@ pub fn accepts_by_parts()
     ensures { AcceptsByParts }
 {}
 
-/// An accepted answer is right. For a Best verdict the plan is feasible, costs the triple, and no feasible plan costs
-/// less; for NoneFeasible no assignment meets the imperative records; for Open no feasible plan costs less than the
-/// lower bound, and a shown plan is feasible and costs the shown triple.
+/// An accepted answer is right. For a Best verdict the plan is feasible, costs the triple, and no
+/// feasible plan costs less; for NoneFeasible no assignment meets the imperative records; for Open
+/// no feasible plan costs less than the lower bound, and a shown plan is feasible and costs the
+/// shown triple.
 pub fn acceptance_is_proof()
     ensures { AcceptanceIsProof }
 {}
@@ -70,8 +71,8 @@ pub fn compact_keeps_acceptance()
     ensures { CompactKeepsAcceptance }
 {}
 
-/// Without the Delete lines that were put in, lines of which none was one are as before, where each cites earlier lines
-/// alone, and none at the tag (0, 0, 0).
+/// Without the Delete lines that were put in, lines of which none was one are as before, where each
+/// cites earlier lines alone, and none at the tag (0, 0, 0).
 pub fn stripped_again()
     ensures { StrippedAgain }
 {}
@@ -81,8 +82,9 @@ pub fn stripped_lines_are_formed()
     ensures { StrippedLinesAreFormed }
 {}
 
-/// Well formed lines of version 1 are well formed in version 2 with Delete lines for what is cited no more, where each cites
-/// earlier lines alone, and none at the tag (0, 0, 0), and there are then at most 1,000,000,000.
+/// Well formed lines of version 1 are well formed in version 2 with Delete lines for what is cited
+/// no more, where each cites earlier lines alone, and none at the tag (0, 0, 0), and there are then
+/// at most 1,000,000,000.
 pub fn compacted_lines_are_formed()
     ensures { CompactedLinesAreFormed }
 {}

@@ -1,6 +1,6 @@
-//! Laws over acceptance: the literals of good lines are implied, an accepted answer is right, and a feasible plan has no
-//! fault as it is shown. Each stands as the contract of a function that does nothing; the lemmas that they rest on are
-//! in `proofs/`.
+//! Laws over acceptance: the literals of good lines are implied, an accepted answer is right, and a
+//! feasible plan has no fault as it is shown. Each stands as the contract of a function that does
+//! nothing; the lemmas that they rest on are in `proofs/`.
 #![tactic(auto)]
 
 mod laws;

@@ -17,9 +17,11 @@ pub record IsSaid (old : List Line) (number : ℕ) (row : Row) : Type 0 where
 -- so does each row what the line of its number says
 pub record AreSaid (old : List Line) (numbers : List ℕ) (rows : List Row) : Type 0 where
   pub count : length rows ≡ length numbers
-  pub each : (i n : ℕ) (row : Row) → i < length numbers → IsSaid old (slice_index_or numbers i n) (slice_index_or rows i row)
+  pub each : (i n : ℕ) (row : Row) → i < length numbers →
+      IsSaid old (slice_index_or numbers i n) (slice_index_or rows i row)
 
 -- each place below their count with its number
 pub record ArePaired (numbers : List ℕ) (pairs : List (ℕ × ℕ)) : Type 0 where
   pub count : length pairs ≡ length numbers
-  pub each : (i n : ℕ) (pair : ℕ × ℕ) → i < length numbers → slice_index_or pairs i pair ≡ (i, slice_index_or numbers i n)
+  pub each : (i n : ℕ) (pair : ℕ × ℕ) → i < length numbers →
+      slice_index_or pairs i pair ≡ (i, slice_index_or numbers i n)

@@ -15,7 +15,8 @@ use Rattle.answer_writer.specs.declared.status.Status.TheVariants.{Best, NoneFea
 
 -- a word, a line and a cause
 abbrev pub fault_line : List ℕ → ℕ → List ℕ → List ℕ
-fault_line word line cause = word ++ codes " " ++ decimal line ++ codes " " ++ cause ++ line_feed ∷ []
+fault_line word line cause =
+    word ++ codes " " ++ decimal line ++ codes " " ++ cause ++ line_feed ∷ []
 
 -- three numbers, each behind a space
 abbrev pub triple_text : Triple → List ℕ
@@ -24,12 +25,14 @@ triple_text t = codes " " ++ decimal t.k ++ codes " " ++ decimal t.v ++ codes " 
 -- what is claimed and what was found, where it is these that differ
 abbrev pub values_text : RejectCause → List ℕ
 values_text (TripleDiffers claimed found) = triple_text claimed ++ triple_text found
-values_text (RootTagTooLow claimed found) = triple_text (triple_from claimed.code) ++ triple_text (triple_from found.code)
+values_text (RootTagTooLow claimed found) =
+    triple_text (triple_from claimed.code) ++ triple_text (triple_from found.code)
 values_text _ = []
 
 abbrev pub rejected_line : Fault → List ℕ
 rejected_line fault =
-    codes "REJECTED " ++ decimal fault.line ++ codes " " ++ reject_name fault.cause ++ values_text fault.cause
+    codes "REJECTED " ++ decimal fault.line ++ codes " " ++ reject_name fault.cause
+    ++ values_text fault.cause
     ++ line_feed ∷ []
 
 -- what tells of a refusal

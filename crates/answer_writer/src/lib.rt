@@ -1,4 +1,5 @@
-//! What is written: answers, and the lines that tell of refusals; and how each way to end is numbered.
+//! What is written: answers, and the lines that tell of refusals; and how each way to end is
+//! numbered.
 #![tactic(auto)]
 
 mod refusal;

@@ -5,8 +5,8 @@ use crate::{NoMemory, RejectCause, Rejected, Status};
 use fapp_model::{Triple, triple_of};
 use std::alloc::Global;
 
-/// The line that tells of a refusal, and nothing for the other ways to end. `NoMemory` comes where its room could not
-/// be had.
+/// The line that tells of a refusal, and nothing for the other ways to end. `NoMemory` comes where
+/// its room could not be had.
 pub fn refusal_text(alloc: Global, status: &Status) -> Result<Vec<u8>, NoMemory>
     ensures { IfOk result (λ text. text.items ≡ refusal_line status.now) }
 {

@@ -22,7 +22,8 @@ pub enum Status {
     Usage,
     /// The input's instance is none: the first refused line, and why.
     BadInput(BadInput),
-    /// The input's answer is no text of one: its first fault, whose line counts over the whole input.
+    /// The input's answer is no text of one: its first fault, whose line counts over the whole
+    /// input.
     BadAnswer(BadCert),
     /// The input has more bytes than the limit.
     TooLong,

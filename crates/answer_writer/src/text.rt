@@ -8,7 +8,8 @@ use cert_lines::{Answer, Verdict, plan_text, verdict_text, write_answer};
 use fapp_model::Instance;
 use std::alloc::Global;
 
-/// The text of a well-formed answer, or the lines of its plan alone. `NoMemory` comes where its room could not be had.
+/// The text of a well-formed answer, or the lines of its plan alone. `NoMemory` comes where its
+/// room could not be had.
 pub fn answer_text(
     alloc: Global,
     instance: &Instance,
@@ -25,7 +26,8 @@ pub fn answer_text(
     }
 }
 
-/// The line that tells of an accepted answer, with its verdict. `NoMemory` comes where its room could not be had.
+/// The line that tells of an accepted answer, with its verdict. `NoMemory` comes where its room
+/// could not be had.
 pub fn accepted_text(alloc: Global, verdict: &Verdict) -> Result<Vec<u8>, NoMemory>
     ensures { IfOk result (λ text. text.items ≡ accepted_text verdict.now) }
 {

@@ -28,14 +28,15 @@ pub record IsPairOf (instance : Instance) (level path other : ℕ) (pair : Edge)
 abbrev pub pair_clash : Edge → Choice → Choice → Bool
 pair_clash pair a b = clashes_between pair.instance.now pair.level pair.path pair.other a b
 
--- no number from a number on and below another passes a test, and the number itself does where the two are one
+-- no number from a number on and below another passes a test, and the number itself does where the
+-- two are one
 pub record IsFirst (test : ℕ → Bool) (number first : ℕ) : Type 0 where
   pub from : number ≤ first
   pub before : (n : ℕ) → number ≤ n → n < first → test n ≡ false
   pub here : first ≡ number → test number ≡ true
 
--- each choice of the same polarization at a frequency from a choice's on and below another is bad, and the choice itself
--- isn't where the two are one
+-- each choice of the same polarization at a frequency from a choice's on and below another is bad,
+-- and the choice itself isn't where the two are one
 pub record IsNextApart (bad : Choice → Bool) (b : Choice) (next : ℕ) : Type 0 where
   pub from : b.freq ≤ next
   pub before : (c : Choice) → c.pol ≡ b.pol → b.freq ≤ c.freq → c.freq < next → bad c ≡ true

@@ -40,15 +40,18 @@ abbrev pub is_partner : Instance → ℕ → List (List ℕ) → Literal → Lit
 is_partner instance level rows a b = arc_of rows level b && not (clashes instance level a b)
 
 abbrev pub IsPartnerAt : Instance → ℕ → List (List ℕ) → Literal → ℕ → ℕ → Type 0
-IsPartnerAt instance level rows a other index = IsTrue (is_partner instance level rows a (literal other index))
+IsPartnerAt instance level rows a other index =
+    IsTrue (is_partner instance level rows a (literal other index))
 
 -- no choice of another path is one, from an index on
 abbrev pub IsLonelyFrom : Instance → ℕ → List (List ℕ) → Literal → ℕ → ℕ → Type 0
-IsLonelyFrom instance level rows a other start = (index : ℕ) → start ≤ index → index < count_at instance other →
+IsLonelyFrom instance level rows a other start =
+    (index : ℕ) → start ≤ index → index < count_at instance other →
     is_partner instance level rows a (literal other index) ≡ false
 
 -- a choice is within the arcs, and no choice of another path is a partner of it
-pub record IsLonely (instance : Instance) (level : ℕ) (rows : List (List ℕ)) (a : Literal) (other : ℕ) : Type 0 where
+pub record IsLonely (instance : Instance) (level : ℕ) (rows : List (List ℕ)) (a : Literal)
+    (other : ℕ) : Type 0 where
   pub within : IsTrue (arc_of rows level a)
   pub alone : IsLonelyFrom instance level rows a other 0
 
@@ -64,35 +67,43 @@ Falls level old rows = (path index : ℕ) → (height_at rows path index ≡ hei
 
 -- each choice of a path that is within the arcs has a partner on the other path
 abbrev pub HasPartners : Instance → ℕ → List (List ℕ) → ℕ → ℕ → Type 0
-HasPartners instance level rows path other = (index : ℕ) → IsTrue (arc_of rows level (literal path index)) →
+HasPartners instance level rows path other =
+    (index : ℕ) → IsTrue (arc_of rows level (literal path index)) →
     HasPartner instance level (arc_of rows level) (literal path index) other
 
 -- how many choices are within a level's arcs
 abbrev pub size_of : Instance → ℕ → List (List ℕ) → ℕ
 size_of instance level rows = sum_by
-    (λ path. count_by (λ index. arc_of rows level (literal path index)) (range_with_len 0 (count_at instance path)))
+    (λ path. count_by (λ index. arc_of rows level (literal path index))
+    (range_with_len 0 (count_at instance path)))
     (range_with_len 0 (length instance.paths))
 
 -- the arcs of each level
 pub record AreArcs (instance : Instance) (rows : List (List ℕ)) : Type 0 where
   pub heights : AreHeights instance rows
-  pub low : (a : Literal) → IsLiteral instance a → height_at rows a.path a.choice ≤ levels_of instance + 1
+  pub low : (a : Literal) → IsLiteral instance a →
+      height_at rows a.path a.choice ≤ levels_of instance + 1
   pub arcs : (level : ℕ) → level ≤ levels_of instance → IsArcs instance level (arc_of rows level)
 
--- the least height of a path's first choices, or one more than the number of levels where that is less: below it each of
--- them is outside the arcs
-pub record IsLeastHeight (instance : Instance) (rows : List (List ℕ)) (path count least : ℕ) : Type 0 where
+-- the least height of a path's first choices, or one more than the number of levels where that is
+-- less: below it each of them is outside the arcs
+pub record IsLeastHeight (instance : Instance) (rows : List (List ℕ))
+    (path count least : ℕ) : Type 0 where
   pub few : least ≤ levels_of instance + 1
   pub below : (level : ℕ) → level ≤ levels_of instance →
       ((index : ℕ) → index < count → level < height_at rows path index) ↔ (level < least)
 
 -- a path with each choice outside the arcs
-pub record IsOutsidePath (instance : Instance) (rows : List (List ℕ)) (count level : ℕ) : Type 0 where
+pub record IsOutsidePath (instance : Instance) (rows : List (List ℕ))
+    (count level : ℕ) : Type 0 where
   pub path : ℕ
   pub inside : path < count
   pub outside : (index : ℕ) → index < count_at instance path → level < height_at rows path index
 
--- the greatest such height of the first paths: below it one of them has each choice outside the arcs
-pub record IsGreatestLeast (instance : Instance) (rows : List (List ℕ)) (count greatest : ℕ) : Type 0 where
+-- the greatest such height of the first paths: below it one of them has each choice outside the
+-- arcs
+pub record IsGreatestLeast (instance : Instance) (rows : List (List ℕ))
+    (count greatest : ℕ) : Type 0 where
   pub few : greatest ≤ levels_of instance + 1
-  pub below : (level : ℕ) → level ≤ levels_of instance → IsOutsidePath instance rows count level ↔ (level < greatest)
+  pub below : (level : ℕ) → level ≤ levels_of instance →
+      IsOutsidePath instance rows count level ↔ (level < greatest)

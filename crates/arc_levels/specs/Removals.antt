@@ -40,7 +40,8 @@ pub record AreLines (instance : Instance) (rows : List (List ℕ)) (lines : List
   pub good : (n : ℕ) → n < length lines → IsGoodLine instance lines n
 
 -- what holds while the choices are removed that are outside the arcs of a level
-pub record AreRemovals (instance : Instance) (level : ℕ) (rows : List (List ℕ)) (lines : List Line) : Type 0 where
+pub record AreRemovals (instance : Instance) (level : ℕ) (rows : List (List ℕ))
+    (lines : List Line) : Type 0 where
   pub heights : AreHeights instance rows
   pub clear : (path index : ℕ) → height_at rows path index ≤ level → height_at rows path index ≡ 0
   pub wide : IsWideAt instance level rows
@@ -48,23 +49,29 @@ pub record AreRemovals (instance : Instance) (level : ℕ) (rows : List (List �
 
 -- the rows with one height written
 abbrev pub marked : List (List ℕ) → ℕ → ℕ → ℕ → List (List ℕ)
-marked rows path index height = slice_set rows path (slice_set (slice_index_or rows path []) index height)
+marked rows path index height =
+    slice_set rows path (slice_set (slice_index_or rows path []) index height)
 
 -- a choice is removed at a level
-pub record IsRemoval (level : ℕ) (a : Literal) (old new : List (List ℕ)) (before after : List Line) : Type 0 where
+pub record IsRemoval (level : ℕ) (a : Literal) (old new : List (List ℕ))
+    (before after : List Line) : Type 0 where
   pub line : Line
   pub is : IsLineAt a (level + 1) line
   pub lines : after ≡ before ++ line ∷ []
   pub rows : new ≡ marked old a.path a.choice (level + 1)
 
--- what a turn that removes choices does to the heights: nothing is removed, or fewer choices are left
-pub record IsTurn (instance : Instance) (level : ℕ) (old new : List (List ℕ)) (changed : Bool) : Type 0 where
+-- what a turn that removes choices does to the heights: nothing is removed, or fewer choices are
+-- left
+pub record IsTurn (instance : Instance) (level : ℕ) (old new : List (List ℕ))
+    (changed : Bool) : Type 0 where
   pub falls : Falls level old new
   pub stays : changed ≡ false → new ≡ old
   pub loses : changed ≡ true → size_of instance level new < size_of instance level old
 
--- a turn that removes choices of one path alone, after which each that it keeps has a partner on another one
-pub record IsRevision (instance : Instance) (level path other : ℕ) (old new : List (List ℕ)) (changed : Bool) : Type 0 where
+-- a turn that removes choices of one path alone, after which each that it keeps has a partner on
+-- another one
+pub record IsRevision (instance : Instance) (level path other : ℕ) (old new : List (List ℕ))
+    (changed : Bool) : Type 0 where
   pub turn : IsTurn instance level old new changed
   pub others : (p index : ℕ) → p ≢ path → height_at new p index ≡ height_at old p index
   pub served : HasPartners instance level new path other
@@ -74,19 +81,23 @@ abbrev pub is_stale : List Bool → ℕ → Bool
 is_stale stale path = slice_index_or stale path true
 
 -- where none may have been, each choice of the neighbours has a partner on the path
-pub record AreFresh (instance : Instance) (level : ℕ) (rows : List (List ℕ)) (stale : List Bool) : Type 0 where
+pub record AreFresh (instance : Instance) (level : ℕ) (rows : List (List ℕ))
+    (stale : List Bool) : Type 0 where
   pub whole : length stale ≡ length instance.paths
-  pub served : (path other : ℕ) → IsTrue (shares_record instance path other) → is_stale stale other ≡ false →
+  pub served : (path other : ℕ) → IsTrue (shares_record instance path other) →
+      is_stale stale other ≡ false →
       HasPartners instance level rows path other
 
 -- a turn after which each choice has its partners, or that changed something
-pub record IsSweep (instance : Instance) (level : ℕ) (old new : List (List ℕ)) (changed : Bool) : Type 0 where
+pub record IsSweep (instance : Instance) (level : ℕ) (old new : List (List ℕ))
+    (changed : Bool) : Type 0 where
   pub turn : IsTurn instance level old new changed
   pub served : changed ≡ false → (path other : ℕ) → IsTrue (shares_record instance path other) →
       HasPartners instance level new path other
 
 -- what a table of the arcs keeps
-pub record IsArcTable (instance : Instance) (rows : List (List ℕ)) (lines : List Line) : Type 0 where
+pub record IsArcTable (instance : Instance) (rows : List (List ℕ))
+    (lines : List Line) : Type 0 where
   pub valid : IsInstance instance
   pub arcs : AreArcs instance rows
   pub lined : AreLines instance rows lines
@@ -94,4 +105,5 @@ pub record IsArcTable (instance : Instance) (rows : List (List ℕ)) (lines : Li
 -- a height of 0 for each choice of so many paths
 pub record AreBlank (instance : Instance) (rows : List (List ℕ)) (count : ℕ) : Type 0 where
   pub paths : length rows ≡ count
-  pub blank : (path : ℕ) → path < count → slice_index_or rows path [] ≡ replicate (count_at instance path) 0
+  pub blank : (path : ℕ) → path < count →
+      slice_index_or rows path [] ≡ replicate (count_at instance path) 0

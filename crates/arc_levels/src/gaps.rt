@@ -28,7 +28,8 @@ pub fn pair_at<'t>(tables: &'t Tables, level: u32, other: u16, place: usize) -> 
     requires other { other < length tables.now.paths }
     requires place { place < length (neighbours_of tables.now other) }
     ensures pair { IsPair result }
-    ensures of { IsPairOf tables.now level (slice_index (neighbours_of tables.now other) place) other result }
+    ensures of { IsPairOf tables.now level (slice_index (neighbours_of tables.now other) place)
+        other result }
 {
     Edge {
         instance: tables.instance(),
@@ -87,7 +88,8 @@ fn unlike(middle: u32, number: u32, far: u32) -> u32
     }
 }
 
-/// The next frequency from that of a choice on at which it is not closer to another one than the distance of a level.
+/// The next frequency from that of a choice on at which it is not closer to another one than the
+/// distance of a level.
 fn level_next(dist: &[u32], level: u32, first: Choice, second: Choice) -> u32
     requires first { IsNumber first.freq }
     requires second { IsNumber second.freq }
@@ -99,7 +101,8 @@ fn level_next(dist: &[u32], level: u32, first: Choice, second: Choice) -> u32
     }
 }
 
-/// The next frequency from that of a choice on at which a record is not hard-bad against another choice.
+/// The next frequency from that of a choice on at which a record is not hard-bad against another
+/// choice.
 fn record_next(constraint: &Record, level: u32, first: Choice, second: Choice) -> u32
     requires first { IsNumber first.freq }
     requires second { IsNumber second.freq }
@@ -120,7 +123,8 @@ fn record_next(constraint: &Record, level: u32, first: Choice, second: Choice) -
     }
 }
 
-/// The next frequency from that of a choice of the other path on at which no record of the pair is hard-bad.
+/// The next frequency from that of a choice of the other path on at which no record of the pair is
+/// hard-bad.
 pub fn pair_next(pair: &Edge, first: Choice, second: Choice) -> u32
     requires pair { IsPair pair.now }
     requires first { IsNumber first.freq }

@@ -2,8 +2,8 @@ ghost use Rattle.std.specs.Prelude.{◌≡◌, ◌<◌, length, slice_set};
 
 use std::marker::Model;
 
-/// A height for each choice of a path: 0 while it is within the arcs, and one more than the level at which it was
-/// removed from then on.
+/// A height for each choice of a path: 0 while it is within the arcs, and one more than the level
+/// at which it was removed from then on.
 #[derive(Debug, Drop)]
 pub struct Heights {
     heights: Vec<u8>,

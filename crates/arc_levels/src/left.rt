@@ -42,7 +42,8 @@ fn left_at(
     requires rows { AreHeights instance.now removals.now.rows.items }
     requires path { path < length instance.now.paths }
     ensures { IfOk result (λ freqs. freqs.items ≡
-        left_freqs instance.now level removals.now.rows.items path polarization (count_at instance.now path)) }
+        left_freqs instance.now level removals.now.rows.items path polarization
+        (count_at instance.now path)) }
 {
     let owner = path_at(instance, path);
     let mut freqs = Vec::new(alloc);
@@ -119,12 +120,16 @@ fn has_partner(pair: &Edge, first: Choice, left: &Left) -> bool
 pub fn is_lonely(pair: &Edge, left: &Left, removals: &Removals, choice: u16) -> bool
     requires pair { IsPair pair.now }
     requires rows { AreHeights pair.now.instance.now removals.now.rows.items }
-    requires left { IsLeft pair.now.instance.now pair.now.level removals.now.rows.items pair.now.other left.now }
+    requires left { IsLeft pair.now.instance.now pair.now.level removals.now.rows.items
+        pair.now.other left.now }
     requires choice { choice < count_at pair.now.instance.now pair.now.path }
-    ensures yes { IsTrue result → IsLonely pair.now.instance.now pair.now.level removals.now.rows.items
+    ensures yes { IsTrue result → IsLonely pair.now.instance.now pair.now.level
+        removals.now.rows.items
         (literal pair.now.path choice) pair.now.other }
-    ensures no { result ≡ false → IsTrue (arc_of removals.now.rows.items pair.now.level (literal pair.now.path choice)) →
-        HasPartner pair.now.instance.now pair.now.level (arc_of removals.now.rows.items pair.now.level)
+    ensures no { result ≡ false → IsTrue (arc_of removals.now.rows.items pair.now.level
+        (literal pair.now.path choice)) →
+        HasPartner pair.now.instance.now pair.now.level
+        (arc_of removals.now.rows.items pair.now.level)
         (literal pair.now.path choice) pair.now.other }
 {
     let first = choice_at(path_at(pair.instance, pair.path), u32::from(choice));

@@ -23,8 +23,8 @@ pub fn blank_rows(alloc: Global, instance: &Instance) -> Result<Vec<Heights>, No
     Ok(rows)
 }
 
-/// Removes the choices outside the arcs of each level, from the highest down: what is outside at a level is outside at
-/// each lower one.
+/// Removes the choices outside the arcs of each level, from the highest down: what is outside at a
+/// level is outside at each lower one.
 pub fn settle_all(alloc: Global, tables: &Tables, removals: &mut Removals) -> Result<(), NoMemory>
     requires valid { IsInstance tables.now }
     requires rows { AreHeights tables.now removals.old.rows.items }

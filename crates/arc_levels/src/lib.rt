@@ -2,10 +2,10 @@
 #![tactic(auto)]
 
 mod gaps;
+mod heights;
 mod laws;
 mod left;
 mod levels;
-mod heights;
 mod removals;
 mod rounds;
 mod table;

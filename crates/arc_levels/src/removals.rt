@@ -9,8 +9,8 @@ use cert_lines::{Line, Rule};
 use fapp_model::{Items, Literal, MAX_LEVELS, NoMemory, Triple, tag_of};
 use std::alloc::Global;
 
-/// The choices that were removed from the arcs: heights of all choices, and a line for each removed one in the order of
-/// removal.
+/// The choices that were removed from the arcs: heights of all choices, and a line for each removed
+/// one in the order of removal.
 #[derive(Debug, Drop)]
 pub struct Removals {
     pub rows: Vec<Heights>,
@@ -66,7 +66,8 @@ impl Removals {
         requires path { path < length self.old.rows.items }
         requires choice { choice < length (slice_index_or self.old.rows.items path []) }
         requires level { level ≤ MAX_LEVELS }
-        ensures { OnOk result (IsRemoval level (literal path choice) self.old.rows.items self.new.rows.items
+        ensures { OnOk result (IsRemoval level (literal path choice) self.old.rows.items
+            self.new.rows.items
             self.old.lines self.new.lines) }
     {
         let line = line_at(alloc, level + 1, path, choice)?;

@@ -36,8 +36,8 @@ pub fn count(instance: &Instance, path: u16) -> u32
     choice_count(path_at(instance, path))
 }
 
-/// Removes the choices of a pair's path that have no partner among those left of the other one, and answers whether
-/// there were any.
+/// Removes the choices of a pair's path that have no partner among those left of the other one, and
+/// answers whether there were any.
 fn revise(
     alloc: Global,
     pair: &Edge,
@@ -45,11 +45,15 @@ fn revise(
     removals: &mut Removals,
 ) -> Result<bool, NoMemory>
     requires pair { IsPair pair.now }
-    requires left { IsLeft pair.now.instance.now pair.now.level removals.old.rows.items pair.now.other left.now }
-    requires removals { AreRemovals pair.now.instance.now pair.now.level removals.old.rows.items removals.old.lines }
+    requires left { IsLeft pair.now.instance.now pair.now.level removals.old.rows.items
+        pair.now.other left.now }
+    requires removals { AreRemovals pair.now.instance.now pair.now.level removals.old.rows.items
+        removals.old.lines }
     ensures removals { OnOk result (
-        AreRemovals pair.now.instance.now pair.now.level removals.new.rows.items removals.new.lines) }
-    ensures revision { IfOk result (IsRevision pair.now.instance.now pair.now.level pair.now.path pair.now.other
+        AreRemovals pair.now.instance.now pair.now.level removals.new.rows.items
+        removals.new.lines) }
+    ensures revision { IfOk result (IsRevision pair.now.instance.now pair.now.level pair.now.path
+        pair.now.other
         removals.old.rows.items removals.new.rows.items) }
 {
     let mut changed = false;
@@ -63,8 +67,8 @@ fn revise(
     Ok(changed)
 }
 
-/// Removes the choices of a path's neighbours that have no partner left on the path, and answers whether there were
-/// any.
+/// Removes the choices of a path's neighbours that have no partner left on the path, and answers
+/// whether there were any.
 fn turn(
     alloc: Global,
     tables: &Tables,
@@ -78,10 +82,13 @@ fn turn(
     requires other { other < length tables.now.paths }
     requires removals { AreRemovals tables.now level removals.old.rows.items removals.old.lines }
     requires fresh { AreFresh tables.now level removals.old.rows.items stale.old }
-    ensures removals { OnOk result (AreRemovals tables.now level removals.new.rows.items removals.new.lines) }
+    ensures removals { OnOk result (AreRemovals tables.now level removals.new.rows.items
+        removals.new.lines) }
     ensures fresh { OnOk result (AreFresh tables.now level removals.new.rows.items stale.new) }
-    ensures turn { IfOk result (IsTurn tables.now level removals.old.rows.items removals.new.rows.items) }
-    ensures same { IfOk result (λ changed. changed ≡ false → stale.new ≡ slice_set stale.old other false) }
+    ensures turn { IfOk result (IsTurn tables.now level removals.old.rows.items
+        removals.new.rows.items) }
+    ensures same { IfOk result (λ changed. changed ≡ false →
+        stale.new ≡ slice_set stale.old other false) }
 {
     let mut changed = false;
     let left = left_of(alloc, tables.instance(), removals, level, other)?;
@@ -108,9 +115,11 @@ fn sweep(
     requires level { level ≤ MAX_LEVELS }
     requires removals { AreRemovals tables.now level removals.old.rows.items removals.old.lines }
     requires fresh { AreFresh tables.now level removals.old.rows.items stale.old }
-    ensures removals { OnOk result (AreRemovals tables.now level removals.new.rows.items removals.new.lines) }
+    ensures removals { OnOk result (AreRemovals tables.now level removals.new.rows.items
+        removals.new.lines) }
     ensures fresh { OnOk result (AreFresh tables.now level removals.new.rows.items stale.new) }
-    ensures sweep { IfOk result (IsSweep tables.now level removals.old.rows.items removals.new.rows.items) }
+    ensures sweep { IfOk result (IsSweep tables.now level removals.old.rows.items
+        removals.new.rows.items) }
 {
     let mut changed = false;
     for path in 0..tables.instance().paths.len() as u16 {
@@ -132,7 +141,8 @@ pub fn settle(
     requires valid { IsInstance tables.now }
     requires level { level ≤ MAX_LEVELS }
     requires removals { AreRemovals tables.now level removals.old.rows.items removals.old.lines }
-    ensures removals { OnOk result (AreRemovals tables.now level removals.new.rows.items removals.new.lines) }
+    ensures removals { OnOk result (AreRemovals tables.now level removals.new.rows.items
+        removals.new.lines) }
     ensures falls { OnOk result (Falls level removals.old.rows.items removals.new.rows.items) }
     ensures arcs { OnOk result (IsArcs tables.now level (arc_of removals.new.rows.items level)) }
 {

@@ -58,7 +58,8 @@ fn least_height(instance: &Instance, removals: &Removals, path: u16) -> u32
     requires instance { IsInstance instance.now }
     requires heights { AreHeights instance.now removals.now.rows.items }
     requires path { path < length instance.now.paths }
-    ensures { IsLeastHeight instance.now removals.now.rows.items path (count_at instance.now path) result }
+    ensures { IsLeastHeight instance.now removals.now.rows.items path (count_at instance.now path)
+        result }
 {
     let mut least = levels(instance) + 1;
     for choice in 0..count(instance, path) {
@@ -71,7 +72,8 @@ fn least_height(instance: &Instance, removals: &Removals, path: u16) -> u32
 fn greatest_least(instance: &Instance, removals: &Removals) -> u32
     requires instance { IsInstance instance.now }
     requires heights { AreHeights instance.now removals.now.rows.items }
-    ensures { IsGreatestLeast instance.now removals.now.rows.items (length instance.now.paths) result }
+    ensures { IsGreatestLeast instance.now removals.now.rows.items (length instance.now.paths)
+        result }
 {
     let mut greatest = 0;
     for path in 0..instance.paths.len() as u16 {
@@ -84,8 +86,8 @@ fn greatest_least(instance: &Instance, removals: &Removals) -> u32
 }
 
 impl<'a> ArcTable<'a> {
-    /// Finds the arcs of each level. While it runs it takes four bytes for each choice of one path besides, and a byte a
-    /// path. `NoMemory` comes where room could not be had.
+    /// Finds the arcs of each level. While it runs it takes four bytes for each choice of one path
+    /// besides, and a byte a path. `NoMemory` comes where room could not be had.
     pub fn build(alloc: Global, tables: &Tables<'a>) -> Result<ArcTable<'a>, NoMemory>
         ensures { IfOk result (λ arcs. arcs ≡ tables.now) }
     {
@@ -107,8 +109,8 @@ impl<'a> ArcTable<'a> {
         level < u32::from(self.removals.height(path, choice))
     }
 
-    /// The tag (`l + 1`, 0, 0) for the greatest level `l`, from 0 to the instance's number of levels, at which a choice
-    /// is outside the arcs, else (0, 0, 0).
+    /// The tag (`l + 1`, 0, 0) for the greatest level `l`, from 0 to the instance's number of
+    /// levels, at which a choice is outside the arcs, else (0, 0, 0).
     pub fn tag_at(&self, path: u16, choice: u16) -> Tag
         requires { IsLiteral self.now (literal path choice) }
         ensures { IsOutsideTag self.now (literal path choice) (triple_from result.code) }
@@ -116,16 +118,16 @@ impl<'a> ArcTable<'a> {
         plain_tag(u32::from(self.removals.height(path, choice)))
     }
 
-    /// The tag (`l + 1`, 0, 0) for the greatest level `l` at which some path has no choice in the arcs, else
-    /// (0, 0, 0).
+    /// The tag (`l + 1`, 0, 0) for the greatest level `l` at which some path has no choice in the
+    /// arcs, else (0, 0, 0).
     pub fn root_tag(&self) -> Tag
         ensures { IsRootTag self.now (triple_from result.code) }
     {
         plain_tag(greatest_least(self.instance, &self.removals))
     }
 
-    /// One Count line with one literal and no cites for each choice whose tag is above (0, 0, 0), at that tag, in an
-    /// order in which each is good from those before it.
+    /// One Count line with one literal and no cites for each choice whose tag is above (0, 0, 0),
+    /// at that tag, in an order in which each is good from those before it.
     pub fn lines(&self) -> &[Line]
         ensures { AreArcLines self.now result.now }
     {

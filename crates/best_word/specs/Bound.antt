@@ -27,7 +27,8 @@ is_spent v = v.spent
 abbrev pub share_of : BestView → ℕ
 share_of v = v.share
 
--- what the word is to a seat: at most the least that it read or offered, which is at most each offer and each word found
+-- what the word is to a seat: at most the least that it read or offered, which is at most each
+-- offer and each word found
 pub record Knows (levels word : ℕ) (v : BestView) : Type 0 where
   pub same_levels : v.levels ≡ levels
   pub below : word ≤ v.least
@@ -39,7 +40,8 @@ pub record Knows (levels word : ℕ) (v : BestView) : Type 0 where
 abbrev pub IsSeatOffer : List BestView → ℕ → Type 0
 IsSeatOffer views n = SomeLive is_spent (λ v. Contains v.offers n) views
 
--- what holds between any two steps: the word is a tag, offered or the first one, and no more than what each seat knows
+-- what holds between any two steps: the word is a tag, offered or the first one, and no more than
+-- what each seat knows
 pub record IsBestWord (levels : ℕ) (s : Words) : Type 0 where
   pub one : length s.words ≡ 1
   pub tag : IsCodeFor levels (word_of s)
@@ -49,7 +51,15 @@ pub record IsBestWord (levels : ℕ) (s : Words) : Type 0 where
 
 -- the view of the seat that is there first
 abbrev pub first_view : ℕ → BestView
-first_view levels = record { levels = levels; spent = false; share = WHOLE_SHARE; least = top_code levels; offers = []; found = [] }
+first_view levels =
+    record {
+      levels = levels;
+      spent = false;
+      share = WHOLE_SHARE;
+      least = top_code levels;
+      offers = [];
+      found = [];
+    }
 
 -- the view of a seat that was joined into another
 abbrev pub spent_view : BestView
@@ -57,19 +67,59 @@ spent_view = record { levels = 0; spent = true; share = 0; least = 0; offers = [
 
 -- what a seat keeps, and what a new one gets, at a split
 abbrev pub kept_half : BestView → BestView
-kept_half v = record { levels = v.levels; spent = false; share = v.share - v.share / 2; least = v.least; offers = v.offers; found = v.found }
+kept_half v =
+    record {
+      levels = v.levels;
+      spent = false;
+      share = v.share - v.share / 2;
+      least = v.least;
+      offers = v.offers;
+      found = v.found;
+    }
 
 abbrev pub given_half : BestView → BestView
-given_half v = record { levels = v.levels; spent = false; share = v.share / 2; least = v.least; offers = []; found = [] }
+given_half v =
+    record {
+      levels = v.levels;
+      spent = false;
+      share = v.share / 2;
+      least = v.least;
+      offers = [];
+      found = [];
+    }
 
 -- what a seat knows after another was joined into it
 abbrev pub after_join : BestView → BestView → BestView
-after_join v w = record { levels = v.levels; spent = false; share = v.share + w.share; least = min v.least w.least; offers = v.offers ++ w.offers; found = v.found ++ w.found }
+after_join v w =
+    record {
+      levels = v.levels;
+      spent = false;
+      share = v.share + w.share;
+      least = min v.least w.least;
+      offers = v.offers ++ w.offers;
+      found = v.found ++ w.found;
+    }
 
 -- what it knows after a load found n
 abbrev pub after_load : BestView → ℕ → BestView
-after_load v n = record { levels = v.levels; spent = false; share = v.share; least = n; offers = v.offers; found = v.found ++ n ∷ [] }
+after_load v n =
+    record {
+      levels = v.levels;
+      spent = false;
+      share = v.share;
+      least = n;
+      offers = v.offers;
+      found = v.found ++ n ∷ [];
+    }
 
 -- after an offer of k found n
 abbrev pub after_offer : BestView → ℕ → ℕ → BestView
-after_offer v k n = record { levels = v.levels; spent = false; share = v.share; least = min n k; offers = v.offers ++ k ∷ []; found = v.found ++ n ∷ [] }
+after_offer v k n =
+    record {
+      levels = v.levels;
+      spent = false;
+      share = v.share;
+      least = min n k;
+      offers = v.offers ++ k ∷ [];
+      found = v.found ++ n ∷ [];
+    }

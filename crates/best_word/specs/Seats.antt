@@ -53,7 +53,8 @@ pub record IsTopOfOne (seats : List BestSeat) (n : ℕ) : Type 0 where
   pub among : Contains seats seat
   pub top : n ≡ top_code (view_of seat).levels
 
--- a code that one of the seats offered, or the top one; and at most all that each of them read or offered
+-- a code that one of the seats offered, or the top one; and at most all that each of them read or
+-- offered
 pub record IsLeastOfAll (seats : List BestSeat) (n : ℕ) : Type 0 where
   pub from : IsTopOfOne seats n ⊎ IsOfferedByOne seats n
   pub least : All (λ seat. n ≤ (view_of seat).least) seats

@@ -8,8 +8,8 @@ use fapp_model::{MAX_LEVELS, NoMemory, Tag};
 use std::alloc::Global;
 
 impl BestWord {
-    /// The word for costs of an instance with so many levels, and a seat for each of so many holders. No seat has
-    /// offered or found anything. All memory is taken here.
+    /// The word for costs of an instance with so many levels, and a seat for each of so many
+    /// holders. No seat has offered or found anything. All memory is taken here.
     pub fn with_seats(
         alloc: Global,
         levels: u32,
@@ -19,7 +19,8 @@ impl BestWord {
         requires holders { (0 < holders) × (holders ≤ 32) }
         ensures count { IfOk result (λ made. length made.1.items ≡ holders) }
         ensures own { IfOk result (λ made. All (IsSeatOf made.0) made.1.items) }
-        ensures new { IfOk result (λ made. All (λ seat. IsNewSeat levels (view_of seat)) made.1.items) }
+        ensures new { IfOk result (λ made.
+            All (λ seat. IsNewSeat levels (view_of seat)) made.1.items) }
         ensures shares { IfOk result (λ made. shares_of made.1.items ≡ WHOLE_SHARE) }
     {
         let (word, mut seat) = BestWord::new(alloc, levels)?;
@@ -31,8 +32,8 @@ impl BestWord {
         Ok((word, seats))
     }
 
-    /// The word at the end, once all seats came back: the least tag that one of them offered, or the top tag. It is at
-    /// most all that they read or offered.
+    /// The word at the end, once all seats came back: the least tag that one of them offered, or
+    /// the top tag. It is at most all that they read or offered.
     pub fn close_seats(self, seats: Vec<BestSeat>) -> Tag
         requires some { 0 < length seats.items }
         requires own { All (IsSeatOf self) seats.items }

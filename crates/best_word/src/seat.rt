@@ -14,7 +14,8 @@ pub struct BestWord {
     ghost sizes: { (table.shared.table_id.words ≡ 1) × (table.shared.table_id.slots ≡ 0) },
 }
 
-/// A right to step on the word, with what its holder knows. It is given only to calls of the word that it was made from.
+/// A right to step on the word, with what its holder knows. It is given only to calls of the word
+/// that it was made from.
 #[derive(Drop)]
 pub struct BestSeat {
     pub(crate) seat: Seat<(), BestView>,

@@ -22,7 +22,8 @@ fn calls_of_one_seat(rt: HostRuntime) -> Result<(), NoMemory> {
     Ok(())
 }
 
-/// Offers each triple by a seat of its own, in threads of their own, and gives all seats back as one.
+/// Offers each triple by a seat of its own, in threads of their own, and gives all seats back as
+/// one.
 fn offer_all<R: Threads + Sync>(
     rt: &R,
     word: &BestWord,
@@ -55,12 +56,19 @@ fn offer_all<R: Threads + Sync>(
     let (mut first, second) = join(
         rt,
         move || -> BestSeat
-            requires { IsSync R.row × IsSeatOf word.now other × (length left.now ≤ (view_of other).share) × All (λ level. level ≤ 11) left.now × ((view_of other).levels ≡ 11) }
-            ensures { IsSeatOf word.entry.now result × ((view_of result).share ≡ (view_of other).share) × ((view_of result).levels ≡ 11) }
+            requires { IsSync R.row × IsSeatOf word.now other
+                × (length left.now ≤ (view_of other).share) × All (λ level. level ≤ 11) left.now
+                × ((view_of other).levels ≡ 11) }
+            ensures { IsSeatOf word.entry.now result
+                × ((view_of result).share ≡ (view_of other).share)
+                × ((view_of result).levels ≡ 11) }
         { offer_all(rt, word, other, left) },
         move || -> BestSeat
-            requires { IsSync R.row × IsSeatOf word.now seat × (length right.now ≤ (view_of seat).share) × All (λ level. level ≤ 11) right.now × ((view_of seat).levels ≡ 11) }
-            ensures { IsSeatOf word.entry.now result × ((view_of result).share ≡ (view_of seat).share) × ((view_of result).levels ≡ 11) }
+            requires { IsSync R.row × IsSeatOf word.now seat
+                × (length right.now ≤ (view_of seat).share) × All (λ level. level ≤ 11) right.now
+                × ((view_of seat).levels ≡ 11) }
+            ensures { IsSeatOf word.entry.now result
+                × ((view_of result).share ≡ (view_of seat).share) × ((view_of result).levels ≡ 11) }
         { offer_all(rt, word, seat, right) },
     );
     word.join(&mut first, second);

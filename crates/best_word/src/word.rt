@@ -27,11 +27,13 @@ impl BestSeat {
 }
 
 impl BestWord {
-    /// The word for costs of an instance with so many levels, and the first seat. The word is the top tag,
-    /// (levels + 1, 0, 0), below which every feasible assignment costs. All memory is taken here.
+    /// The word for costs of an instance with so many levels, and the first seat. The word is the
+    /// top tag, (levels + 1, 0, 0), below which every feasible assignment costs. All memory is
+    /// taken here.
     pub fn new(alloc: Global, levels: u32) -> Result<(BestWord, BestSeat), NoMemory>
         requires { (1 ≤ levels) × (levels ≤ MAX_LEVELS) }
-        ensures { IfOk result (λ made. IsSeatOf made.0 made.1 × (view_of made.1 ≡ first_view levels)) }
+        ensures { IfOk result (λ made. IsSeatOf made.0 made.1
+            × (view_of made.1 ≡ first_view levels)) }
     {
         let top = tag_of(Triple {
             k: levels + 1,
@@ -63,8 +65,8 @@ impl BestWord {
         found
     }
 
-    /// Lowers the word to the tag where that is less, and answers the word before, by one step. The tag is one of an
-    /// instance with the word's levels.
+    /// Lowers the word to the tag where that is less, and answers the word before, by one step. The
+    /// tag is one of an instance with the word's levels.
     pub fn offer(&self, seat: &mut BestSeat, tag: Tag) -> Tag
         requires own { IsSeatOf self.now seat.old }
         requires tag { tag.code ≤ top_code (view_of seat.old).levels }
@@ -100,7 +102,8 @@ impl BestWord {
         }
     }
 
-    /// Takes in another seat: its share, its offers, the words that it found, and the lesser of the two least tags.
+    /// Takes in another seat: its share, its offers, the words that it found, and the lesser of the
+    /// two least tags.
     pub fn join(&self, seat: &mut BestSeat, other: BestSeat)
         requires { IsSeatOf self.now seat.old × IsSeatOf self.now other }
         ensures same { IsSameSeat seat.old seat.new }
@@ -120,8 +123,8 @@ impl BestWord {
         }
     }
 
-    /// The word at the end, once every other seat was joined: the least tag offered, or the top tag. It is at most all
-    /// that this seat or a joined one read or offered.
+    /// The word at the end, once every other seat was joined: the least tag offered, or the top
+    /// tag. It is at most all that this seat or a joined one read or offered.
     pub fn close(self, seat: BestSeat) -> Tag
         requires own { IsSeatOf self seat }
         requires share { (view_of seat).share ≡ WHOLE_SHARE }

@@ -33,20 +33,24 @@ pub record AreDeleters (lines : List Line) (deleters : List ℕ) : Type 0 where
   pub whole : length deleters ≡ length lines
   pub each : (k : ℕ) → k < length lines → slice_index_or deleters k 0 ≡ deleter_of lines (k + 1)
 
--- the lines of one literal, by path and choice, the lines that delete others, and the records by path
+-- the lines of one literal, by path and choice, the lines that delete others, and the records by
+-- path
 pub record IsMarks (instance : Instance) (lines : List Line) (marks : Marks) : Type 0 where
   pub paths : length marks.ones ≡ length instance.paths
-  pub choices : (path : ℕ) → path < length instance.paths → length (marked_row marks.ones path) ≡ count_at instance path
+  pub choices : (path : ℕ) → path < length instance.paths →
+      length (marked_row marks.ones path) ≡ count_at instance path
   pub ones : (path index : ℕ) → path < length instance.paths → index < count_at instance path →
       marked_row (marked_row marks.ones path) index ≡ ones_of lines (literal path index)
   pub deleters : AreDeleters lines marks.deleters
   pub rows : length marks.places ≡ length instance.paths
-  pub places : (path : ℕ) → path < length instance.paths → marked_row marks.places path ≡ places_of instance path
+  pub places : (path : ℕ) → path < length instance.paths →
+      marked_row marks.places path ≡ places_of instance path
 
 -- a position stands before n, has at least the tag, and is deleted by none of the first n lines
 abbrev pub is_mark : List Line → ℕ → Tag → ℕ → Bool
 is_mark lines n t k =
-    nat_lt k n && (nat_le t.code (line_on lines k).tag.code && not (is_deleted (take n lines) (k + 1)))
+    nat_lt k n && (nat_le t.code (line_on lines k).tag.code
+    && not (is_deleted (take n lines) (k + 1)))
 
 -- one of some positions is such a one
 abbrev pub has_mark : List Line → ℕ → Tag → List ℕ → Bool

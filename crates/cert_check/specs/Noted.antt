@@ -6,4 +6,5 @@ use Rattle.std.specs.List.{list_any}
 pub record AreNoted (old new cites : List ℕ) (place : ℕ) : Type 0 where
   pub whole : length new ≡ length old
   pub each : (k : ℕ) → k < length old →
-      slice_index_or new k 0 ≡ (if list_any (λ m. m == k + 1) cites then place else slice_index_or old k 0)
+      slice_index_or new k 0 ≡ (if list_any (λ m. m == k + 1) cites then place
+      else slice_index_or old k 0)

@@ -22,12 +22,15 @@ abbrev pub choice_on : List Line → ℕ → ℕ
 choice_on lines k = (first_literal (line_on lines k).lits).choice
 
 unfoldable pub ones_by_path : List Line → ℕ → List ℕ
-ones_by_path lines path = filter (λ k. is_one_of path (line_on lines k).lits) (range_with_len 0 (length lines))
+ones_by_path lines path =
+    filter (λ k. is_one_of path (line_on lines k).lits) (range_with_len 0 (length lines))
 
 -- a line's position is added to the row of its path, where it has one literal
-pub record IsLineAdded (old new : List (List ℕ)) (literals : List Literal) (place : ℕ) : Type 0 where
+pub record IsLineAdded (old new : List (List ℕ)) (literals : List Literal)
+    (place : ℕ) : Type 0 where
   pub whole : length new ≡ length old
-  pub rows : (path : ℕ) → marked_row new path ≡ marked_row old path ++ (if is_one_of path literals then (place ∷ []) else [])
+  pub rows : (path : ℕ) → marked_row new path ≡ marked_row old path
+      ++ (if is_one_of path literals then (place ∷ []) else [])
 
 -- by path, the lines of one literal
 pub record AreOnesByPath (lines : List Line) (rows : ℕ) (table : List (List ℕ)) : Type 0 where
@@ -35,7 +38,8 @@ pub record AreOnesByPath (lines : List Line) (rows : ℕ) (table : List (List �
   pub each : (path : ℕ) → marked_row table path ≡ ones_by_path lines path
 
 -- by choice, some of the positions
-pub record AreByChoice (lines : List Line) (ones : List ℕ) (rows : ℕ) (table : List (List ℕ)) : Type 0 where
+pub record AreByChoice (lines : List Line) (ones : List ℕ) (rows : ℕ)
+    (table : List (List ℕ)) : Type 0 where
   pub whole : length table ≡ rows
   pub each : (index : ℕ) → marked_row table index ≡ filter (λ k. choice_on lines k == index) ones
 
@@ -46,11 +50,14 @@ pub record AreLow (lines : List Line) (count : ℕ) (ones : List ℕ) : Type 0 w
   pub low : All (λ k. choice_on lines k < count) ones
 
 -- by choice, the lines of one literal of a path
-pub record IsRowsOf (instance : Instance) (lines : List Line) (path : ℕ) (table : List (List ℕ)) : Type 0 where
+pub record IsRowsOf (instance : Instance) (lines : List Line) (path : ℕ)
+    (table : List (List ℕ)) : Type 0 where
   pub whole : length table ≡ count_at instance path
   pub each : (index : ℕ) → marked_row table index ≡ ones_of lines (literal path index)
 
 -- by path and choice
-pub record IsOnes (instance : Instance) (lines : List Line) (table : List (List (List ℕ))) : Type 0 where
+pub record IsOnes (instance : Instance) (lines : List Line)
+    (table : List (List (List ℕ))) : Type 0 where
   pub paths : length table ≡ length instance.paths
-  pub rows : (path : ℕ) → path < length instance.paths → IsRowsOf instance lines path (marked_row table path)
+  pub rows : (path : ℕ) → path < length instance.paths →
+      IsRowsOf instance lines path (marked_row table path)

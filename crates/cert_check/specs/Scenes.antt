@@ -38,25 +38,30 @@ excluded_by scene literals a = is_excluded (earlier_of scene) scene.tag scene.ci
 -- each choice of a path is excluded
 abbrev pub all_excluded : Scene → List Literal → ℕ → Bool
 all_excluded scene literals path =
-    list_all (λ index. excluded_by scene literals (literal path index)) (range_with_len 0 (count_at scene.instance.now path))
+    list_all (λ index. excluded_by scene literals (literal path index))
+    (range_with_len 0 (count_at scene.instance.now path))
 
 -- a choice remains
 abbrev pub remains_by : Scene → List Literal → Literal → Bool
-remains_by scene literals a = remains (excluded_by scene literals) scene.instance.now scene.level literals a
+remains_by scene literals a =
+    remains (excluded_by scene literals) scene.instance.now scene.level literals a
 
 -- one more choice of a path, looked at for the least pair
 abbrev pub choice_by : Scene → List Literal → ℕ → Option Pair → ℕ → Option Pair
 choice_by scene literals path found index =
-    with_choice (excluded_by scene literals) scene.instance.now scene.level literals path found index
+    with_choice (excluded_by scene literals) scene.instance.now scene.level literals path found
+    index
 
 -- the least pair of a path
 abbrev pub pair_by : Scene → List Literal → ℕ → Option Pair
-pair_by scene literals path = least_pair (excluded_by scene literals) scene.instance.now scene.level literals path
+pair_by scene literals path =
+    least_pair (excluded_by scene literals) scene.instance.now scene.level literals path
 
 -- the literals are judged dead
 abbrev pub dead_by : Scene → List Literal → Bool
 dead_by scene literals =
-    judged_dead (excluded_by scene literals) scene.instance.now (triple_from scene.tag.code) literals
+    judged_dead (excluded_by scene literals) scene.instance.now (triple_from scene.tag.code)
+    literals
 
 -- a choice has a child, or the literals with it are judged dead
 abbrev pub settled_by : Scene → List Literal → ℕ → List Child → ℕ → Bool
@@ -65,8 +70,10 @@ settled_by scene literals path children index =
 
 abbrev pub all_settled : Scene → List Literal → ℕ → List Child → Bool
 all_settled scene literals path children =
-    list_all (settled_by scene literals path children) (range_with_len 0 (count_at scene.instance.now path))
+    list_all (settled_by scene literals path children)
+    (range_with_len 0 (count_at scene.instance.now path))
 
 -- the first fault of a line, by its rule
 abbrev pub fault_by : Scene → List Literal → Rule → Option RejectCause
-fault_by scene literals rule = rule_fault scene.instance.now (earlier_of scene) scene.tag literals rule
+fault_by scene literals rule =
+    rule_fault scene.instance.now (earlier_of scene) scene.tag literals rule

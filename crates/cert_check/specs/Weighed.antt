@@ -28,7 +28,8 @@ IsWeighedRow instance level literals a (Some w) = (clashes_with instance level l
 abbrev pub IsOwn : Instance → ℕ → List Literal → Option Weight → Type 0
 IsOwn instance level literals None = has_clash instance level literals ≡ true
 IsOwn instance level literals (Some w) = (has_clash instance level literals ≡ false)
-    × (w.v ≡ inside instance (bad_before level) literals) × (w.s ≡ inside instance (bad_further level) literals)
+    × (w.v ≡ inside instance (bad_before level) literals)
+    × (w.s ≡ inside instance (bad_further level) literals)
     × (w.v ≤ length literals * row_most) × (w.s ≤ length literals * row_most)
 
 abbrev pub near_at : List Bool → ℕ → Bool
@@ -45,7 +46,8 @@ weighed_paths scene = range_with_len 0 (length scene.instance.now.paths)
 
 -- a path has no choice left
 abbrev pub stuck_by : Scene → List Literal → ℕ → Bool
-stuck_by scene literals path = is_stuck (excluded_by scene literals) scene.instance.now scene.level literals path
+stuck_by scene literals path =
+    is_stuck (excluded_by scene literals) scene.instance.now scene.level literals path
 
 abbrev pub least_by : Scene → List Literal → ℕ → Pair
 least_by scene literals path = or_no_pair (pair_by scene literals path)
@@ -53,7 +55,8 @@ least_by scene literals path = or_no_pair (pair_by scene literals path)
 -- a marked path is stuck, or what the path adds
 abbrev pub IsStep : Scene → List Literal → List Bool → ℕ → Option Weight → Type 0
 IsStep scene literals near path None = (near_at near path && stuck_by scene literals path) ≡ true
-IsStep scene literals near path (Some w) = ((near_at near path && stuck_by scene literals path) ≡ false)
+IsStep scene literals near path (Some w) =
+    ((near_at near path && stuck_by scene literals path) ≡ false)
     × (w.v ≡ (if names literals path then 0 else (least_by scene literals path).v))
     × (w.s ≡ (if names literals path then 0 else (least_by scene literals path).s))
     × (w.v ≤ added_most) × (w.s ≤ added_most)
@@ -75,7 +78,8 @@ any_stuck scene literals = list_any (stuck_by scene literals) (weighed_paths sce
 -- the tag has a limit, and both weights together come to it
 abbrev pub over_by : Scene → Weight → Weight → Bool
 over_by scene own more = has_limit (triple_from scene.tag.code)
-    && is_pair_at_most (limit_of (triple_from scene.tag.code)) (record { v = own.v + more.v; s = own.s + more.s })
+    && is_pair_at_most (limit_of (triple_from scene.tag.code))
+    (record { v = own.v + more.v; s = own.s + more.s })
 
 -- some marked path is stuck, or what the further paths add
 abbrev pub IsWeighed : Scene → List Literal → List Bool → Option Weight → Type 0

@@ -12,7 +12,8 @@ pair_of w = record { v = w.v; s = w.s }
 abbrev pub pair_most : ℕ
 pair_most = MAX_RECORDS * MAX_LEVELS
 
--- no less than what the records add between a literal and at most 2^14 others that name its path first
+-- no less than what the records add between a literal and at most 2^14 others that name its path
+-- first
 abbrev pub row_most : ℕ
 row_most = 2 ^ 14 * pair_most
 

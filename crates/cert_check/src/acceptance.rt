@@ -74,8 +74,9 @@ fn lines_fault(
     Ok(None)
 }
 
-/// Accepts an answer, or refuses it with its first fault: the plan's, then a certificate line's, then the root's.
-/// Lists are in range and in order as `read_answer` gives them. `NoMemory` comes where room could not be had.
+/// Accepts an answer, or refuses it with its first fault: the plan's, then a certificate line's,
+/// then the root's. Lists are in range and in order as `read_answer` gives them. `NoMemory` comes
+/// where room could not be had.
 pub fn check(alloc: Global, instance: &Instance, answer: &Answer) -> Result<(), CheckError>
     requires instance { IsInstance instance.now }
     requires answer { IsWellFormed instance.now answer.now }

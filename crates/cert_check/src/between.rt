@@ -89,7 +89,8 @@ fn weight_of(
     }
 }
 
-/// Whether one of some records that name the first literal's path first is hard-bad between the two.
+/// Whether one of some records that name the first literal's path first is hard-bad between the
+/// two.
 fn blocks(instance: &Instance, places: &[u32], level: u32, a: Literal, b: Literal) -> bool
     requires instance { IsInstance instance.now }
     requires places { ArePlaces instance.now places.now }

@@ -11,7 +11,8 @@ use crate::least::names;
 use cert_lines::{Child, RejectCause};
 use fapp_model::Literal;
 
-/// Whether a list has each literal of another but at most one, and that one is of a path that it doesn't name.
+/// Whether a list has each literal of another but at most one, and that one is of a path that it
+/// doesn't name.
 fn has_all_but_one(literals: &[Literal], cited: &[Literal]) -> bool
     ensures { result ≡ has_all_but_one literals.now cited.now }
 {
@@ -37,7 +38,8 @@ fn one_unless(holds: bool) -> usize
 /// The first fault of a Count line's cite.
 fn cite_fault(scene: Scene, literals: &[Literal], cite: u32) -> Option<RejectCause>
     requires { IsScene scene }
-    ensures { result ≡ cite_fault (earlier_of scene.entry) scene.entry.tag (has_all_but_one literals.now) cite }
+    ensures { result ≡ cite_fault (earlier_of scene.entry) scene.entry.tag
+        (has_all_but_one literals.now) cite }
 {
     if !(cite > 0 && cite as usize <= scene.n) {
         return Some(RejectCause::CiteNotEarlier);
@@ -58,7 +60,8 @@ fn cite_fault(scene: Scene, literals: &[Literal], cite: u32) -> Option<RejectCau
 /// The first fault of a Branch line's child.
 fn child_fault(scene: Scene, literals: &[Literal], path: u16, child: Child) -> Option<RejectCause>
     requires { IsScene scene }
-    ensures { result ≡ child_fault (earlier_of scene.entry) scene.entry.tag literals.now path child }
+    ensures { result ≡ child_fault (earlier_of scene.entry) scene.entry.tag literals.now path
+        child }
 {
     if !(child.cite > 0 && child.cite as usize <= scene.n) {
         return Some(RejectCause::CiteNotEarlier);
@@ -82,7 +85,8 @@ fn child_fault(scene: Scene, literals: &[Literal], path: u16, child: Child) -> O
 
 pub(crate) fn cites_fault(scene: Scene, literals: &[Literal], cites: &[u32]) -> Option<RejectCause>
     requires { IsScene scene }
-    ensures { result ≡ first_of (cite_fault (earlier_of scene.entry) scene.entry.tag (has_all_but_one literals.now)) cites.now }
+    ensures { result ≡ first_of (cite_fault (earlier_of scene.entry) scene.entry.tag
+        (has_all_but_one literals.now)) cites.now }
 {
     for cite in cites {
         if let Some(cause) = cite_fault(scene, literals, *cite) {
@@ -99,7 +103,8 @@ pub(crate) fn children_fault(
     children: &[Child],
 ) -> Option<RejectCause>
     requires { IsScene scene }
-    ensures { result ≡ first_of (child_fault (earlier_of scene.entry) scene.entry.tag literals.now path) children.now }
+    ensures { result ≡ first_of (child_fault (earlier_of scene.entry) scene.entry.tag literals.now
+        path) children.now }
 {
     for child in children {
         if let Some(cause) = child_fault(scene, literals, path, *child) {

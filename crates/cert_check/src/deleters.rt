@@ -20,7 +20,8 @@ fn note(table: &mut [u32], cites: &[u32], place: u32)
     }
 }
 
-/// By line, the position of the first line that deletes it, or how many lines there are where none does.
+/// By line, the position of the first line that deletes it, or how many lines there are where none
+/// does.
 pub(crate) fn deleters_of(alloc: Global, lines: &[Line]) -> Result<Items<u32>, NoMemory>
     requires few { length lines.now < 2 ^ 32 }
     ensures { IfOk result (AreDeleters lines.now) }

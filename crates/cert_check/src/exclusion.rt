@@ -86,11 +86,13 @@ fn ones_at<'a>(_instance: &Instance, marks: &'a Marks, _lines: &[Line], a: Liter
     rows[a.choice as usize].as_slice()
 }
 
-/// Whether one of the first n lines that none of them deletes has this literal alone, and at least the tag.
+/// Whether one of the first n lines that none of them deletes has this literal alone, and at least
+/// the tag.
 pub(crate) fn is_marked(scene: Scene, a: Literal) -> bool
     requires scene { IsScene scene }
     requires literal { IsLiteral scene.instance.now a }
-    ensures { result ≡ is_marked (kept (take scene.entry.n scene.entry.lines.now)) scene.entry.tag a }
+    ensures { result ≡ is_marked (kept (take scene.entry.n scene.entry.lines.now)) scene.entry.tag
+        a }
 {
     let ones = ones_at(scene.instance, scene.marks, scene.lines, a);
     has_mark(scene, ones)
@@ -110,7 +112,8 @@ fn is_cited(earlier: &[Line], cites: &[u32], literals: &[Literal], a: Literal) -
     false
 }
 
-/// What a line is judged by: its instance, the index, the lines, of which the first n count, its tag and cites.
+/// What a line is judged by: its instance, the index, the lines, of which the first n count, its
+/// tag and cites.
 #[derive(Clone, Copy)]
 pub(crate) struct Scene<'a> {
     pub(crate) instance: &'a Instance,

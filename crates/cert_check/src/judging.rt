@@ -1,5 +1,5 @@
-//! Whether literals are judged dead: a record between them is hard-bad, one of them is excluded, a further path has no
-//! choice left, or they weigh too much.
+//! Whether literals are judged dead: a record between them is hard-bad, one of them is excluded, a
+//! further path has no choice left, or they weigh too much.
 
 ghost use Rattle.std.specs.Prelude.{◌≡◌, ◌<◌, ◌≤◌, ◌^◌, length, IfOk, All, not, ◌&&◌};
 ghost use Rattle.std.specs.List.{list_any};
@@ -20,7 +20,8 @@ use crate::weight::Weight;
 use fapp_model::{Instance, Literal, NoMemory, choice_count, triple_of};
 use std::alloc::Global;
 
-/// What the records between a literal and the others add that name its path first. `None` where one is hard-bad.
+/// What the records between a literal and the others add that name its path first. `None` where one
+/// is hard-bad.
 fn own_row(
     alloc: Global,
     scene: Scene,
@@ -201,8 +202,8 @@ fn is_over(scene: Scene, own: Weight, more: Weight) -> bool
     })
 }
 
-/// Whether literals are judged dead. Only paths that share a record with them are counted; the others are looked
-/// at where the literals are not dead without them.
+/// Whether literals are judged dead. Only paths that share a record with them are counted; the
+/// others are looked at where the literals are not dead without them.
 pub(crate) fn is_dead(alloc: Global, scene: Scene, literals: &[Literal]) -> Result<bool, NoMemory>
     requires scene { IsScene scene }
     requires level { scene.level ≡ mode_level (triple_from scene.tag.code) }

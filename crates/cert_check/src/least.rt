@@ -52,7 +52,8 @@ pub(crate) fn ties_of(
 ) -> Result<Vec<u32>, NoMemory>
     requires scene { IsScene scene }
     requires path { path < length scene.instance.now.paths }
-    ensures { IfOk result (λ ties. ties.items ≡ ties_of scene.entry.instance.now literals.now path) }
+    ensures { IfOk result (λ ties. ties.items ≡ ties_of scene.entry.instance.now literals.now
+        path) }
 {
     let places = places_at(scene, path);
     let constraints = scene.instance.records.as_slice();
@@ -101,7 +102,8 @@ fn added_to(scene: Scene, ties: &[u32], literals: &[Literal], a: Literal) -> Wei
     requires few { length literals.now ≤ 2 ^ 14 }
     requires literal { IsLiteral scene.instance.now a }
     requires ties { ties.now ≡ ties_of scene.instance.now literals.now a.path }
-    ensures pair { pair_of result ≡ added_pair scene.entry.instance.now scene.entry.level literals.now a }
+    ensures pair { pair_of result ≡ added_pair scene.entry.instance.now scene.entry.level
+        literals.now a }
     ensures small_v { result.v ≤ added_most }
     ensures small_s { result.s ≤ added_most }
 {
@@ -122,7 +124,8 @@ fn with_choice(
     requires ties { ties.now ≡ ties_of scene.instance.now literals.now a.path }
     requires small { IfSome found (λ w. (w.v ≤ added_most) × (w.s ≤ added_most)) }
     ensures small { IfSome result (λ w. (w.v ≤ added_most) × (w.s ≤ added_most)) }
-    ensures pair { option_map pair_of result ≡ choice_by scene.entry literals.now a.path (option_map pair_of found) a.choice }
+    ensures pair { option_map pair_of result
+        ≡ choice_by scene.entry literals.now a.path (option_map pair_of found) a.choice }
 {
     if remains(scene, ties, literals, a) {
         Some(lesser(found, added_to(scene, ties, literals, a)))
@@ -142,8 +145,10 @@ pub(crate) fn least(
     requires literals { All (IsLiteral scene.instance.now) literals.now }
     requires few { length literals.now ≤ 2 ^ 14 }
     requires path { path < length scene.instance.now.paths }
-    ensures pair { IfOk result (λ found. option_map pair_of found ≡ pair_by scene.entry literals.now path) }
-    ensures small { IfOk result (λ found. IfSome found (λ w. (w.v ≤ added_most) × (w.s ≤ added_most))) }
+    ensures pair { IfOk result (λ found. option_map pair_of found
+        ≡ pair_by scene.entry literals.now path) }
+    ensures small { IfOk result (λ found.
+        IfSome found (λ w. (w.v ≤ added_most) × (w.s ≤ added_most))) }
 {
     let ties = ties_of(alloc, scene, literals, path)?;
     let count = choice_count(&scene.instance.paths.as_slice()[path as usize]);

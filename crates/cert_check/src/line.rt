@@ -60,7 +60,8 @@ fn is_settled(
     requires path { path < length scene.instance.now.paths }
     requires index { index < count_at scene.instance.now path }
     requires index_fits { index < 2 ^ 16 }
-    ensures { IfOk result (λ settled. settled ≡ settled_by scene.entry literals.now path children.now index) }
+    ensures { IfOk result (λ settled. settled ≡ settled_by scene.entry literals.now path
+        children.now index) }
 {
     if is_listed(children, index) {
         return Ok(true);
@@ -86,7 +87,8 @@ fn all_settled(
     requires literals { All (IsLiteral scene.instance.now) literals.now }
     requires few { length literals.now < 2 ^ 14 }
     requires path { path < length scene.instance.now.paths }
-    ensures { IfOk result (λ settled. settled ≡ all_settled scene.entry literals.now path children.now) }
+    ensures { IfOk result (λ settled. settled ≡ all_settled scene.entry literals.now path
+        children.now) }
 {
     let count = count_of(scene.instance, path);
     for index in 0..count {
@@ -108,7 +110,8 @@ fn count_fault(
     requires level { scene.level ≡ mode_level (triple_from scene.tag.code) }
     requires literals { All (IsLiteral scene.instance.now) literals.now }
     requires few { length literals.now < 2 ^ 14 }
-    ensures { IfOk result (λ fault. fault ≡ fault_by scene.entry literals.now (Rule.Count cites.now)) }
+    ensures { IfOk result (λ fault. fault ≡ fault_by scene.entry literals.now
+        (Rule.Count cites.now)) }
 {
     if let Some(cause) = cites_fault(scene, literals, cites) {
         return Ok(Some(cause));
@@ -150,7 +153,8 @@ fn branch_fault(
     requires literals { All (IsLiteral scene.instance.now) literals.now }
     requires few { length literals.now < 2 ^ 14 }
     requires path { path < length scene.instance.now.paths }
-    ensures { IfOk result (λ fault. fault ≡ fault_by scene.entry literals.now (Rule.Branch path children.now)) }
+    ensures { IfOk result (λ fault. fault ≡ fault_by scene.entry literals.now
+        (Rule.Branch path children.now)) }
 {
     if names(literals, path) {
         return Ok(Some(RejectCause::WrongPath));
@@ -191,7 +195,8 @@ fn deleting_fault(
     requires marks { IsMarks instance.now lines.now marks.now }
     requires n { n < length lines.now }
     requires lines { All (IsLineOrDelete instance.now) lines.now }
-    ensures { result ≡ first_of (delete_fault (take n lines.now)) (deletes (line_on lines.now n).rule) }
+    ensures { result ≡ first_of (delete_fault (take n lines.now))
+        (deletes (line_on lines.now n).rule) }
 {
     let line = &lines[n];
     let scene = Scene {
@@ -206,7 +211,8 @@ fn deleting_fault(
     deletes_fault(scene, deletes(&line.rule))
 }
 
-/// The first fault of the line at a position, from 0. A line that deletes others has the tag (0, 0, 0).
+/// The first fault of the line at a position, from 0. A line that deletes others has the tag (0, 0,
+/// 0).
 pub(crate) fn line_fault(
     alloc: Global,
     instance: &Instance,
@@ -218,7 +224,8 @@ pub(crate) fn line_fault(
     requires marks { IsMarks instance.now lines.now marks.now }
     requires n { n < length lines.now }
     requires lines { All (IsLineOrDelete instance.now) lines.now }
-    ensures { IfOk result (λ fault. fault ≡ line_fault instance.now (take n lines.now) (line_on lines.now n)) }
+    ensures { IfOk result (λ fault. fault ≡ line_fault instance.now (take n lines.now)
+        (line_on lines.now n)) }
 {
     let line = &lines[n];
     if line.tag.code == 0 {

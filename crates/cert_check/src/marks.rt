@@ -12,8 +12,8 @@ use cert_lines::Answer;
 use fapp_model::{Instance, Items, MAX_NUMBER, NoMemory};
 use std::alloc::Global;
 
-/// An index of an answer's lines and of its instance's records, made once for all lines. It is only read, so that
-/// several may judge lines by it side by side.
+/// An index of an answer's lines and of its instance's records, made once for all lines. It is only
+/// read, so that several may judge lines by it side by side.
 #[derive(Debug, Drop)]
 pub struct Marks {
     /// By path and choice, the positions of the lines that have this literal alone.

@@ -94,7 +94,8 @@ fn lines_by_path(
 ) -> Result<Vec<Items<u32>>, NoMemory>
     requires lines { All (IsLineOrDelete instance.now) lines.now }
     requires few { length lines.now < 2 ^ 32 }
-    ensures { IfOk result (λ table. AreOnesByPath lines.now (length instance.now.paths) table.items) }
+    ensures { IfOk result (λ table. AreOnesByPath lines.now (length instance.now.paths)
+        table.items) }
 {
     let mut table = empty_rows(alloc, instance.paths.len())?;
     add_lines(table.as_mut_slice(), instance, lines)?;

@@ -40,7 +40,8 @@ fn chosen_at(_instance: &Instance, shown: &[Choice], position: u16) -> Choice
     shown[position as usize]
 }
 
-/// What a plan costs, by its choices, each one of its path's. `None` where it breaks an imperative record.
+/// What a plan costs, by its choices, each one of its path's. `None` where it breaks an imperative
+/// record.
 fn cost(instance: &Instance, shown: &[Choice]) -> Option<Triple>
     requires instance { IsInstance instance.now }
     requires whole { length shown.now ≡ length instance.now.paths }
@@ -138,7 +139,8 @@ fn demanded(instance: &Instance, verdict: &Verdict) -> Option<Triple>
 #[tactic(auto, unfolding(cert_lines::specs::acceptance::PlanFaults::plan_fault))]
 pub fn judge_plan(instance: &Instance, answer: &Answer) -> Option<Rejected>
     requires { IsInstance instance.now }
-    ensures { result ≡ option_map (rejected_at 0) (plan_fault instance.now answer.now.plan answer.now.verdict) }
+    ensures { result ≡ option_map (rejected_at 0)
+        (plan_fault instance.now answer.now.plan answer.now.verdict) }
 {
     let shown = answer.plan.as_slice();
     let cause = match demanded(instance, &answer.verdict) {

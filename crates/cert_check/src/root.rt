@@ -58,19 +58,22 @@ fn fault_of(claimed: Tag, found: Option<Tag>) -> Option<RejectCause>
 #[tactic(auto, unfolding(cert_lines::specs::acceptance::RootFaults::root_fault))]
 pub fn judge_root(instance: &Instance, answer: &Answer) -> Option<Rejected>
     requires { IsWellFormed instance.now answer.now }
-    ensures { result ≡ option_map (rejected_at 0) (root_fault instance.now answer.now.verdict answer.now.lines) }
+    ensures { result ≡ option_map (rejected_at 0)
+        (root_fault instance.now answer.now.verdict answer.now.lines) }
 {
     let claimed = verdict_tag(instance, &answer.verdict);
     let found = kept_root_tag(answer.lines.as_slice());
     rejected_at(0, fault_of(claimed, found))
 }
 
-/// What `judge_root` answers, by the index of the answer's lines: it goes through the lines once, and takes no memory.
+/// What `judge_root` answers, by the index of the answer's lines: it goes through the lines once,
+/// and takes no memory.
 #[tactic(auto, unfolding(cert_lines::specs::acceptance::RootFaults::root_fault))]
 pub fn root_fault(instance: &Instance, answer: &Answer, marks: &Marks) -> Option<Rejected>
     requires answer { IsWellFormed instance.now answer.now }
     requires marks { IsMarks instance.now answer.now.lines marks.now }
-    ensures { result ≡ option_map (rejected_at 0) (root_fault instance.now answer.now.verdict answer.now.lines) }
+    ensures { result ≡ option_map (rejected_at 0)
+        (root_fault instance.now answer.now.verdict answer.now.lines) }
 {
     let claimed = verdict_tag(instance, &answer.verdict);
     let found = root_tag_by(answer.lines.as_slice(), marks.deleters.as_slice());
@@ -90,7 +93,8 @@ fn root_tag_by(lines: &[Line], deleters: &[u32]) -> Option<Tag>
     found
 }
 
-/// The greatest tag so far, and that of the line at a position where it is a root line that is kept.
+/// The greatest tag so far, and that of the line at a position where it is a root line that is
+/// kept.
 fn with_kept(found: Option<Tag>, lines: &[Line], deleters: &[u32], place: usize) -> Option<Tag>
     requires deleters { AreDeleters lines.now deleters.now }
     requires place { place < length lines.now }

@@ -1,4 +1,5 @@
-//! Whether a path has no choice left. Where a tag has no limit, nothing more is asked of the further paths.
+//! Whether a path has no choice left. Where a tag has no limit, nothing more is asked of the
+//! further paths.
 
 ghost use Rattle.std.specs.Prelude.{◌≡◌, ◌<◌, length, is_none, IfOk, All, ◌&&◌};
 ghost use Rattle.fapp_model.specs.search.Partials.{IsLiteral};
@@ -44,7 +45,8 @@ fn is_near_stuck(
     requires literals { All (IsLiteral scene.instance.now) literals.now }
     requires near { length near.now ≡ length scene.instance.now.paths }
     requires path { path < length scene.instance.now.paths }
-    ensures { IfOk result (λ stuck. stuck ≡ (near_at near.now path && stuck_by scene.entry literals.now path)) }
+    ensures { IfOk result (λ stuck. stuck ≡ (near_at near.now path
+        && stuck_by scene.entry literals.now path)) }
 {
     if !near[path as usize] {
         return Ok(false);

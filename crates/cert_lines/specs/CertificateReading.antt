@@ -38,7 +38,10 @@ unfoldable pub certificate_line : ℕ → Instance → List (List ℕ) → Resul
 certificate_line version instance fields = do
   word ← field_at fields
   if bytes_eq word.0 (codes "END") then (ended word.1 >>= λ end. Ok None)
-      else if bytes_eq word.0 (codes "C") then (count_line instance word.1 >>= λ line. Ok (Some line))
-      else if bytes_eq word.0 (codes "B") then (branch_line instance word.1 >>= λ line. Ok (Some line))
-      else if (version == 2) && bytes_eq word.0 (codes "D") then (delete_line word.1 >>= λ line. Ok (Some line))
+      else if bytes_eq word.0 (codes "C")
+      then (count_line instance word.1 >>= λ line. Ok (Some line))
+      else if bytes_eq word.0 (codes "B")
+      then (branch_line instance word.1 >>= λ line. Ok (Some line))
+      else if (version == 2) && bytes_eq word.0 (codes "D")
+      then (delete_line word.1 >>= λ line. Ok (Some line))
       else Err BadKind

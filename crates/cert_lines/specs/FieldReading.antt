@@ -34,7 +34,8 @@ is_padded field = nat_lt 1 (length field) && (slice_index field 0 == 48)
 
 -- `0`, or digits without a leading zero, of a value that a text may have
 abbrev pub number_of : List ℕ → Result ℕ CertCause
-number_of field = if is_padded field then Err BadNumber else or_fault BadNumber (digits.number_of field)
+number_of field =
+    if is_padded field then Err BadNumber else or_fault BadNumber (digits.number_of field)
 
 unfoldable pub number_at : List (List ℕ) → Result (ℕ × List (List ℕ)) CertCause
 number_at fields = do

@@ -1,4 +1,5 @@
--- Lists in the midst of a line. Where an order is wanted, a step is given the least number that may come.
+-- Lists in the midst of a line. Where an order is wanted, a step is given the least number that may
+-- come.
 use Rattle.std.specs.Prelude.{ℕ, zero, suc, ◌+◌, nat_lt, nat_le, List, [], ◌∷◌, length, Result, Ok}
 use Rattle.fapp_model.specs.declared.instance.Instance.{Instance}
 use Rattle.fapp_model.specs.declared.literal.Literal.{Literal}

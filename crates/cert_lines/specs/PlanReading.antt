@@ -20,11 +20,13 @@ polarization_at fields = do
 
 -- what a number in another path's place is
 abbrev pub misplaced : Instance → ℕ → CertCause
-misplaced instance number = if list_any (λ path. path.number == number) instance.paths then BadOrder else UnknownPath
+misplaced instance number =
+    if list_any (λ path. path.number == number) instance.paths then BadOrder else UnknownPath
 
 -- the number is that of the path at a place
 abbrev pub is_turn : Instance → ℕ → ℕ → Bool
-is_turn instance place number = nat_lt place (length instance.paths) && ((path_at instance place).number == number)
+is_turn instance place number =
+    nat_lt place (length instance.paths) && ((path_at instance place).number == number)
 
 -- the choice of the path at a place
 unfoldable pub choice_line : Instance → ℕ → List (List ℕ) → Result Choice CertCause
@@ -41,4 +43,5 @@ unfoldable pub plan_line : Instance → ℕ → List (List ℕ) → Result (Opti
 plan_line instance place fields = do
   word ← field_at fields
   if bytes_eq word.0 (codes "--") then (ended word.1 >>= λ end. Ok None)
-      else if bytes_eq word.0 (codes "AL") then (choice_line instance place word.1 >>= λ choice. Ok (Some choice)) else Err BadKind
+      else if bytes_eq word.0 (codes "AL")
+      then (choice_line instance place word.1 >>= λ choice. Ok (Some choice)) else Err BadKind

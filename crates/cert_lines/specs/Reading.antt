@@ -37,7 +37,8 @@ next_line (number, last ∷ []) = Err (fault number NoEnd)
 next_line (number, line ∷ next ∷ parts) = Ok (fields_of line, (number + 1, next ∷ parts))
 
 -- the next line, read by its fields
-unfoldable pub line_by : {A : Type 0} → (List (List ℕ) → Result A CertCause) → Rest → Result (A × Rest) TextFault
+unfoldable pub line_by : {A : Type 0} → (List (List ℕ) → Result A CertCause) → Rest →
+    Result (A × Rest) TextFault
 line_by read rest = do
   line ← next_line rest
   found ← at_line rest.0 (read line.0)
@@ -50,7 +51,8 @@ and_then None more rest = Ok ([], rest)
 and_then (Some x) more rest = more >>= λ others. Ok (x ∷ others.0, others.1)
 
 -- the lines up to the one that ends them, each read by the count of those before it
-abbrev pub until : {A : Type 0} → (ℕ → List (List ℕ) → Result (Option A) CertCause) → ℕ → ℕ → List (List ℕ) →
+abbrev pub until : {A : Type 0} → (ℕ → List (List ℕ) → Result (Option A) CertCause) → ℕ → ℕ →
+    List (List ℕ) →
     Result (List A × Rest) TextFault
 until read place number [] = Err (fault number NoEnd)
 until read place number (line ∷ parts) = line_by (read place) (number, line ∷ parts) >>=
@@ -90,9 +92,10 @@ fault_in (Err found) = Some found
 abbrev pub first_fault : Instance → List ℕ → Option TextFault
 first_fault instance bytes = fault_in (reading instance bytes)
 
--- What was read is well formed, and the bytes are its text. A fault is the first one of the bytes. Memory may
--- run out at any text.
+-- What was read is well formed, and the bytes are its text. A fault is the first one of the bytes.
+-- Memory may run out at any text.
 abbrev pub IsReading : Instance → List ℕ → Result Answer (Failure TextFault) → Type 0
-IsReading instance bytes (Ok answer) = IsWellFormed instance answer × (bytes ≡ answer_text instance answer)
+IsReading instance bytes (Ok answer) =
+    IsWellFormed instance answer × (bytes ≡ answer_text instance answer)
 IsReading instance bytes (Err NoMemory) = Unit {0}
 IsReading instance bytes (Err (Bad found)) = first_fault instance bytes ≡ Some found

@@ -1,4 +1,5 @@
--- The causes for which an answer is not accepted: their numbers, and what they are called where they are printed.
+-- The causes for which an answer is not accepted: their numbers, and what they are called where
+-- they are printed.
 use Rattle.std.specs.Prelude.{ℕ, List, codes}
 use Rattle.cert_lines.specs.declared.reject.RejectCause.{RejectCause}
 use Rattle.cert_lines.specs.declared.reject.RejectCause.TheVariants.{CiteNotEarlier, CiteNotContained, CiteTagTooLow, NotDead, WrongPath, AssignmentLength, ChoiceNotInDomain, ImperativeBroken, TripleDiffers, NoRootLine, RootTagTooLow, CiteDeleted, DeleteNotEarlier, DeletedTwice}

@@ -15,7 +15,8 @@ renumbered_rule number (Branch path children) = Branch path (map (renumbered_chi
 renumbered_rule number (Delete cites) = Delete (map number cites)
 
 abbrev pub renumbered : (ℕ → ℕ) → Line → Line
-renumbered number line = record { tag = line.tag; lits = line.lits; rule = renumbered_rule number line.rule }
+renumbered number line =
+    record { tag = line.tag; lits = line.lits; rule = renumbered_rule number line.rule }
 
 -- what a Count or Branch line cites
 abbrev pub cited : Rule → List ℕ

@@ -55,7 +55,8 @@ front_numbers line (Delete cites) = []
 
 -- the fields of a certificate line
 abbrev pub certificate_fields : Line → List (List ℕ)
-certificate_fields line = rule_word line.rule ∷ map decimal (front_numbers line line.rule ++ rule_numbers line.rule)
+certificate_fields line =
+    rule_word line.rule ∷ map decimal (front_numbers line line.rule ++ rule_numbers line.rule)
 
 -- the fields of a verdict
 abbrev pub verdict_fields : Verdict → List (List ℕ)
@@ -67,7 +68,8 @@ verdict_fields (Open best lower level prefix) = codes "OPEN" ∷ map decimal (tr
 
 -- the fields of what a plan chooses for a path
 abbrev pub choice_fields : Path → Choice → List (List ℕ)
-choice_fields path choice = codes "AL" ∷ decimal path.number ∷ decimal choice.freq ∷ signed_decimal choice.pol ∷ []
+choice_fields path choice =
+    codes "AL" ∷ decimal path.number ∷ decimal choice.freq ∷ signed_decimal choice.pol ∷ []
 
 -- one line for each choice of a plan, in the order of the paths
 abbrev pub plan_lines : List Path → List Choice → List (List (List ℕ))
@@ -95,4 +97,5 @@ lines_text lines = flat_map (λ line. line_text (certificate_fields line)) lines
 
 -- the text of an answer
 abbrev pub answer_text : Instance → Answer → List ℕ
-answer_text instance answer = head_text instance answer ++ lines_text answer.lines ++ line_text (codes "END" ∷ [])
+answer_text instance answer =
+    head_text instance answer ++ lines_text answer.lines ++ line_text (codes "END" ∷ [])

@@ -10,7 +10,8 @@ use Rattle.cert_lines.specs.Renumbering.{cited, renumbered}
 abbrev pub stays : Line → Bool
 stays line = not (is_delete line.rule)
 
--- the number that the line of a number has without the Delete lines: how many lines up to it are none
+-- the number that the line of a number has without the Delete lines: how many lines up to it are
+-- none
 abbrev pub stripped_number : List Line → ℕ → ℕ
 stripped_number lines n = count_by stays (take n lines)
 
@@ -23,9 +24,11 @@ bare_rule (Delete cites) = Delete []
 abbrev pub bare : Line → Line
 bare line = record { tag = line.tag; lits = line.lits; rule = bare_rule line.rule }
 
--- a line as it stands without the Delete lines: its cites by their new numbers, and none at the tag (0, 0, 0)
+-- a line as it stands without the Delete lines: its cites by their new numbers, and none at the tag
+-- (0, 0, 0)
 abbrev pub stripped_line : List Line → Line → Line
-stripped_line lines line = if line.tag.code == 0 then bare line else renumbered (stripped_number lines) line
+stripped_line lines line =
+    if line.tag.code == 0 then bare line else renumbered (stripped_number lines) line
 
 abbrev pub stripped_from : List Line → List Line → List Line
 stripped_from lines some = map (stripped_line lines) (filter stays some)
@@ -34,7 +37,8 @@ stripped_from lines some = map (stripped_line lines) (filter stays some)
 unfoldable pub stripped : List Line → List Line
 stripped lines = stripped_from lines lines
 
--- at a tag above (0, 0, 0) the line of a number cites earlier lines, and none of them is a Delete line
+-- at a tag above (0, 0, 0) the line of a number cites earlier lines, and none of them is a Delete
+-- line
 abbrev pub IsStrippable : List Line → ℕ → Type 0
 IsStrippable lines n = 0 < (line_at lines n).tag.code →
     All (λ k. (0 < k) × ((k < n) × IsTrue (stays (line_at lines k)))) (cited (line_at lines n).rule)

@@ -18,4 +18,5 @@ second_version fields = do
 unfoldable pub version_line : List (List ℕ) → Result (Option ℕ) CertCause
 version_line fields = do
   word ← field_at fields
-  if bytes_eq word.0 (codes "V") then (second_version word.1 >>= λ version. Ok (Some version)) else Ok None
+  if bytes_eq word.0 (codes "V") then (second_version word.1 >>= λ version. Ok (Some version))
+      else Ok None

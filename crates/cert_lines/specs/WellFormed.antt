@@ -41,7 +41,8 @@ pub record AreChildren (instance : Instance) (path : ℕ) (children : List Child
 
 abbrev pub IsRule : Instance → Rule → Type 0
 IsRule instance (Count cites) = AreCites cites
-IsRule instance (Branch path children) = (path < length instance.paths) × AreChildren instance path children
+IsRule instance (Branch path children) =
+    (path < length instance.paths) × AreChildren instance path children
 IsRule instance (Delete cites) = ⊥
 
 -- a Count or Branch line
@@ -81,7 +82,8 @@ abbrev pub IsVerdict : Instance → Verdict → Type 0
 IsVerdict instance (Best t) = IsTrue (is_cost (levels_of instance) t)
 IsVerdict instance NoneFeasible = Unit {0}
 IsVerdict instance (Open best lower level prefix) =
-    IsTrue (is_shown (levels_of instance) best) × IsTagFor instance lower × (level ≤ levels_of instance)
+    IsTrue (is_shown (levels_of instance) best) × IsTagFor instance lower
+    × (level ≤ levels_of instance)
     × AreLiterals instance prefix
 
 pub record IsWellFormed (instance : Instance) (answer : Answer) : Type 0 where

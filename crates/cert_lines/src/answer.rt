@@ -16,15 +16,15 @@ pub struct Child {
 pub enum Rule {
     /// It follows by counting, with the help of the cited lines. Their numbers ascend.
     Count { cites: Items<u32> },
-    /// It follows for each choice of a path, given by its position. The children's choices ascend, and a choice
-    /// without a child needs no citation.
+    /// It follows for each choice of a path, given by its position. The children's choices ascend,
+    /// and a choice without a child needs no citation.
     Branch { path: u16, children: Items<Child> },
     /// Nothing: no later line cites the named ones. Their numbers ascend.
     Delete { cites: Items<u32> },
 }
 
-/// A line of a certificate: no assignment that extends its literals and breaks no imperative record costs less
-/// than its tag.
+/// A line of a certificate: no assignment that extends its literals and breaks no imperative record
+/// costs less than its tag.
 #[derive(Debug, Drop)]
 pub struct Line {
     pub tag: Tag,

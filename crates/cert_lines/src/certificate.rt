@@ -70,7 +70,8 @@ pub(crate) fn certificate_line(
     fields: Fields,
 ) -> Result<Option<Line>, LineError>
     requires { IsInstance instance.now }
-    ensures { Gives (λ x. x) result (certificate_line version instance.now (fields_left fields.entry)) }
+    ensures { Gives (λ x. x) result (certificate_line version instance.now
+        (fields_left fields.entry)) }
 {
     let (word, rest) = field_at(fields)?;
     if is(word, b"END") {

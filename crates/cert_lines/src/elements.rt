@@ -21,14 +21,16 @@ pub(crate) trait ElementReader {
 
     ghost step: { Self → State → Result (Self.Element × State) Cause };
 
-    /// An element whose key is at least `low`, the least key that may follow it, and the fields behind it.
+    /// An element whose key is at least `low`, the least key that may follow it, and the fields
+    /// behind it.
     fn element_at<'a>(
         &self,
         low: u64,
         fields: Fields<'a>,
     ) -> Result<(Self::Element, u64, Fields<'a>), LineError>
         requires { valid self.now }
-        ensures { Gives (λ x. (x.0, (x.1, fields_left x.2))) result (step self.now (low, fields_left fields.entry)) };
+        ensures { Gives (λ x. (x.0, (x.1, fields_left x.2))) result
+            (step self.now (low, fields_left fields.entry)) };
 }
 
 /// Literals, by their paths' positions.

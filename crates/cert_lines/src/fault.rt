@@ -11,8 +11,8 @@ use std::fmt;
 pub enum CertCause {
     /// The line ends before the fields that its kind and its counts demand, or has more.
     FieldCount = 1,
-    /// A field that must be a number is none, a polarization is not `1` or `-1`, a level is too high, or a version is
-    /// not `2`.
+    /// A field that must be a number is none, a polarization is not `1` or `-1`, a level is too
+    /// high, or a version is not `2`.
     BadNumber = 2,
     /// A field that must be one of a few words is another.
     BadKind = 3,

@@ -107,7 +107,8 @@ pub(crate) fn tag_at<'a>(
     instance: &Instance,
     fields: Fields<'a>,
 ) -> Result<(Tag, Fields<'a>), LineError>
-    ensures { Gives (λ x. (x.0, fields_left x.1)) result (tag_at instance.now (fields_left fields.entry)) }
+    ensures { Gives (λ x. (x.0, fields_left x.1)) result
+        (tag_at instance.now (fields_left fields.entry)) }
 {
     let (t, rest) = triple_at(fields)?;
     if !is_tag(levels(instance), t) {

@@ -1,4 +1,5 @@
-//! Answers and their text: a plan, a verdict on it, and the certificate lines that prove the verdict.
+//! Answers and their text: a plan, a verdict on it, and the certificate lines that prove the
+//! verdict.
 #![tactic(auto)]
 
 mod answer;

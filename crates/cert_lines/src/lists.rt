@@ -18,7 +18,8 @@ pub(crate) fn position_at<'a>(
     fields: Fields<'a>,
 ) -> Result<(u16, Fields<'a>), LineError>
     requires { IsInstance instance.now }
-    ensures gives { Gives (λ x. (x.0, fields_left x.1)) result (position_at instance.now (fields_left fields.entry)) }
+    ensures gives { Gives (λ x. (x.0, fields_left x.1)) result
+        (position_at instance.now (fields_left fields.entry)) }
     ensures in_range { IfOk result (λ x. x.0 < length instance.now.paths) }
 {
     let (path, rest) = number_at(fields)?;
@@ -36,7 +37,8 @@ pub(crate) fn index_at<'a>(
 ) -> Result<(u16, Fields<'a>), LineError>
     requires instance { IsInstance instance.now }
     requires path { path < length instance.now.paths }
-    ensures { Gives (λ x. (x.0, fields_left x.1)) result (index_at instance.now path (fields_left fields.entry)) }
+    ensures { Gives (λ x. (x.0, fields_left x.1)) result
+        (index_at instance.now path (fields_left fields.entry)) }
 {
     let (choice, rest) = number_at(fields)?;
     let count = choice_count(&instance.paths.as_slice()[path as usize]);
@@ -54,7 +56,8 @@ pub(crate) fn list_at<'a, R: ElementReader>(
     fields: Fields<'a>,
 ) -> Result<(Items<R::Element>, Fields<'a>), LineError>
     requires { R.valid reader.now }
-    ensures { Gives (λ x. (x.0, fields_left x.1)) result (list_at (R.step reader.now) (fields_left fields.entry)) }
+    ensures { Gives (λ x. (x.0, fields_left x.1)) result
+        (list_at (R.step reader.now) (fields_left fields.entry)) }
 {
     let (count, rest) = number_at(fields)?;
     counted(alloc, reader, count, rest)
@@ -68,7 +71,8 @@ fn counted<'a, R: ElementReader>(
     fields: Fields<'a>,
 ) -> Result<(Items<R::Element>, Fields<'a>), LineError>
     requires { R.valid reader.now }
-    ensures { Gives (λ x. (x.0, fields_left x.1)) result (counted (R.step reader.now) count (fields_left fields.entry)) }
+    ensures { Gives (λ x. (x.0, fields_left x.1)) result
+        (counted (R.step reader.now) count (fields_left fields.entry)) }
 {
     let mut elements = Vec::new(alloc);
     let mut low = 0;

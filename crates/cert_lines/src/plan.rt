@@ -13,7 +13,8 @@ use fapp_text::{is, sign};
 
 #[tactic(auto, unfolding(crate::specs::PlanReading::polarization_at))]
 fn polarization_at<'a>(fields: Fields<'a>) -> Result<(i8, Fields<'a>), LineError>
-    ensures { Gives (λ x. (x.0, fields_left x.1)) result (polarization_at (fields_left fields.entry)) }
+    ensures { Gives (λ x. (x.0, fields_left x.1)) result
+        (polarization_at (fields_left fields.entry)) }
 {
     let (field, rest) = field_at(fields)?;
     match sign(field) {

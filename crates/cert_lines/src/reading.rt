@@ -17,8 +17,8 @@ use fapp_model::{Instance, Items};
 use fapp_text::{MAX_TEXT, failure_at, fault_at};
 use std::alloc::Global;
 
-/// The answer that a text of at most `MAX_TEXT` bytes is. `Bad` is the first fault of a text that is no answer's,
-/// and `NoMemory` comes where room could not be had.
+/// The answer that a text of at most `MAX_TEXT` bytes is. `Bad` is the first fault of a text that
+/// is no answer's, and `NoMemory` comes where room could not be had.
 pub fn read_answer(alloc: Global, instance: &Instance, bytes: &[u8]) -> Result<Answer, AnswerError>
     requires instance { IsInstance instance.now }
     requires size { length bytes.now ≤ MAX_TEXT }
@@ -29,7 +29,8 @@ pub fn read_answer(alloc: Global, instance: &Instance, bytes: &[u8]) -> Result<A
 
 /// The fields of the next line, and the text after it.
 fn next_line<'a>(text: Text<'a>) -> Result<(Fields<'a>, Text<'a>), AnswerError>
-    ensures gives { Gives (λ x. (fields_left x.0, text_left x.1)) result (next_line (text_left text.entry)) }
+    ensures gives { Gives (λ x. (fields_left x.0, text_left x.1)) result
+        (next_line (text_left text.entry)) }
     ensures shorter { IfOk result (λ x. length x.1.rest.now < length text.entry.rest.now) }
 {
     let bytes = text.rest;
@@ -60,7 +61,8 @@ fn line_by<'t, R: LineReader>(
     text: Text<'t>,
 ) -> Result<(R::Found, Text<'t>), AnswerError>
     requires { R.valid reader.now }
-    ensures gives { Gives (λ x. (x.0, text_left x.1)) result (line_by (R.read reader.now place) (text_left text.entry)) }
+    ensures gives { Gives (λ x. (x.0, text_left x.1)) result
+        (line_by (R.read reader.now place) (text_left text.entry)) }
     ensures shorter { IfOk result (λ x. length x.1.rest.now < length text.entry.rest.now) }
 {
     let (fields, after) = next_line(text)?;
@@ -92,7 +94,8 @@ fn until<'t, T: Drop, R: LineReader<Found = Option<T>>>(
     }
 }
 
-/// The version, and the text after the line that says it. A text without such a line is of version 1.
+/// The version, and the text after the line that says it. A text without such a line is of version
+/// 1.
 #[tactic(auto, unfolding(crate::specs::Reading::version_at))]
 fn version_at<'t>(alloc: Global, text: Text<'t>) -> Result<(u32, Text<'t>), AnswerError>
     ensures { Gives (λ x. (x.0, text_left x.1)) result (version_at (text_left text.entry)) }

@@ -29,7 +29,8 @@ pub enum RejectCause {
     TripleDiffers { claimed: Triple, found: Triple },
     /// No Count or Branch line is without literals, or each such line is deleted.
     NoRootLine,
-    /// No Count or Branch line without literals that no line deletes has the verdict's tag or a greater one.
+    /// No Count or Branch line without literals that no line deletes has the verdict's tag or a
+    /// greater one.
     RootTagTooLow { claimed: Tag, found: Tag },
     /// An earlier line deletes a cited one.
     CiteDeleted,
@@ -39,7 +40,8 @@ pub enum RejectCause {
     DeletedTwice,
 }
 
-/// The first fault of an answer: the certificate's line, from 1, or 0 for a fault of the plan or of the root.
+/// The first fault of an answer: the certificate's line, from 1, or 0 for a fault of the plan or of
+/// the root.
 #[derive(Clone, Copy, Debug, PartialEq, Eq)]
 pub struct Rejected {
     pub line: u32,

@@ -14,7 +14,8 @@ fn number_in(numbers: &[u32], n: u32) -> u32
     numbers.get(n as usize).copied().unwrap_or(0)
 }
 
-/// The numbers at some places of a table, with 0 for a place past its end. `NoMemory` comes where room could not be had.
+/// The numbers at some places of a table, with 0 for a place past its end. `NoMemory` comes where
+/// room could not be had.
 pub fn renumbered_cites(
     alloc: Global,
     cites: &[u32],
@@ -63,8 +64,9 @@ fn renumbered_rule(alloc: Global, rule: &Rule, numbers: &[u32]) -> Result<Rule, 
     })
 }
 
-/// A copy of a line, in which each cited number is replaced by the one at its place in a table. A number past the
-/// table's end becomes 0. `NoMemory` comes where room for the copy could not be had.
+/// A copy of a line, in which each cited number is replaced by the one at its place in a table. A
+/// number past the table's end becomes 0. `NoMemory` comes where room for the copy could not be
+/// had.
 pub fn renumbered(alloc: Global, line: &Line, numbers: &[u32]) -> Result<Line, NoMemory>
     ensures { IfOk result (λ copy. copy ≡ renumbered (number_in numbers.now) line.now) }
 {

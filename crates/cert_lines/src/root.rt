@@ -42,7 +42,8 @@ pub fn root_tag(lines: &[Line]) -> Option<Tag>
     found
 }
 
-/// The same with the line at a position, from 0, where it is kept. Whether it is matters for a root line alone.
+/// The same with the line at a position, from 0, where it is kept. Whether it is matters for a root
+/// line alone.
 fn with_kept(found: Option<Tag>, lines: &[Line], place: usize) -> Option<Tag>
     requires { place < length lines.now }
     ensures { let line = line_at lines.now (place + 1) in
@@ -55,8 +56,8 @@ fn with_kept(found: Option<Tag>, lines: &[Line], place: usize) -> Option<Tag>
     }
 }
 
-/// The greatest tag of the lines without literals that are no Delete lines, and that none deletes. `None` where
-/// there is no such line. It looks through the lines again for each of these.
+/// The greatest tag of the lines without literals that are no Delete lines, and that none deletes.
+/// `None` where there is no such line. It looks through the lines again for each of these.
 #[tactic(auto, unfolding(crate::specs::acceptance::RootFaults::root_tag, crate::specs::acceptance::Deleted::kept))]
 pub fn kept_root_tag(lines: &[Line]) -> Option<Tag>
     ensures { result ≡ root_tag (kept lines.now) }

@@ -25,7 +25,11 @@ fn count(alloc: Global, tag: Tag, cites: &[u32]) -> Result<Line, AllocError>
 }
 
 fn delete(alloc: Global, tag: Tag, cites: &[u32]) -> Result<Line, AllocError>
-    ensures { IfOk result (λ line. line ≡ record { tag = tag; lits = []; rule = Delete cites.now }) }
+    ensures { IfOk result (λ line. line ≡ record {
+      tag = tag;
+      lits = [];
+      rule = Delete cites.now;
+    }) }
 {
     Ok(Line {
         tag,
@@ -38,8 +42,10 @@ fn delete(alloc: Global, tag: Tag, cites: &[u32]) -> Result<Line, AllocError>
 
 /// A line is deleted, and one behind it cites another behind it.
 fn short(alloc: Global, tag: Tag, least: Tag) -> Result<Vec<Line>, AllocError>
-    ensures { IfOk result (λ lines. lines.items ≡ record { tag = tag; lits = []; rule = Count [] } ∷ record { tag = tag; lits = []; rule = Count (1 ∷ []) }
-        ∷ record { tag = least; lits = []; rule = Delete (1 ∷ []) } ∷ record { tag = tag; lits = []; rule = Count (2 ∷ []) }
+    ensures { IfOk result (λ lines. lines.items ≡ record { tag = tag; lits = []; rule = Count [] }
+        ∷ record { tag = tag; lits = []; rule = Count (1 ∷ []) }
+        ∷ record { tag = least; lits = []; rule = Delete (1 ∷ []) }
+        ∷ record { tag = tag; lits = []; rule = Count (2 ∷ []) }
         ∷ record { tag = tag; lits = []; rule = Count (2 ∷ 4 ∷ []) } ∷ []) }
 {
     let mut lines = Vec::new(alloc);

@@ -12,9 +12,10 @@ use crate::{Line, NoMemory, Rule};
 use fapp_model::{Items, MAX_NUMBER};
 use std::alloc::Global;
 
-/// The lines that are no Delete lines, in their order. Each cite has the number that the cited line has among them, and
-/// a line of the tag (0, 0, 0) cites nothing. At a tag above that a line may cite only earlier lines that are no Delete
-/// lines. `NoMemory` comes where room could not be had, and where there are more than 1,000,000,000 lines.
+/// The lines that are no Delete lines, in their order. Each cite has the number that the cited line
+/// has among them, and a line of the tag (0, 0, 0) cites nothing. At a tag above that a line may
+/// cite only earlier lines that are no Delete lines. `NoMemory` comes where room could not be had,
+/// and where there are more than 1,000,000,000 lines.
 pub fn strip(alloc: Global, lines: &[Line]) -> Result<Vec<Line>, NoMemory>
     requires { (n : ℕ) → 0 < n → n ≤ length lines.now → IsStrippable lines.now n }
     ensures { IfOk result (λ out. out.items ≡ stripped lines.now) }
@@ -31,7 +32,8 @@ pub fn strip(alloc: Global, lines: &[Line]) -> Result<Vec<Line>, NoMemory>
 
 /// For 0 and each line's number how many lines up to it are no Delete lines.
 fn stripped_numbers(alloc: Global, lines: &[Line]) -> Result<Vec<u32>, NoMemory>
-    ensures { IfOk result (λ numbers. numbers.items ≡ map (stripped_number lines.now) (range_with_len 0 (length lines.now + 1))) }
+    ensures { IfOk result (λ numbers. numbers.items
+        ≡ map (stripped_number lines.now) (range_with_len 0 (length lines.now + 1))) }
 {
     if lines.len() > MAX_NUMBER as usize {
         return Err(NoMemory);
@@ -50,7 +52,8 @@ fn stripped_numbers(alloc: Global, lines: &[Line]) -> Result<Vec<u32>, NoMemory>
 
 /// A line with the numbers of a table, which cites nothing at the tag (0, 0, 0).
 fn stripped_line(alloc: Global, line: &Line, numbers: &[u32]) -> Result<Line, NoMemory>
-    ensures { IfOk result (λ copy. copy ≡ (if line.now.tag.code == 0 then bare line.now else renumbered (number_in numbers.now) line.now)) }
+    ensures { IfOk result (λ copy. copy ≡ (if line.now.tag.code == 0 then bare line.now
+        else renumbered (number_in numbers.now) line.now)) }
 {
     if line.tag.code == 0 {
         bare(alloc, line)

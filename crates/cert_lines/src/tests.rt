@@ -72,7 +72,8 @@ fn is_kept(alloc: Global, instance: &Instance, text: &str) -> bool
     written.as_slice() == text.as_bytes() && is_in_parts(alloc, instance, &answer, text)
 }
 
-/// Whether a text is an answer's head, its certificate lines and the line `END`, and the head ends as it must.
+/// Whether a text is an answer's head, its certificate lines and the line `END`, and the head ends
+/// as it must.
 fn is_in_parts(alloc: Global, instance: &Instance, answer: &Answer, text: &str) -> bool
     requires { IsWellFormed instance.now answer.now }
 {

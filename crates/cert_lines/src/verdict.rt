@@ -64,7 +64,8 @@ fn judged<'a, F: Fn(Triple) -> bool>(
 /// A level of the instance, or the one at which nothing is violated.
 #[tactic(auto, unfolding(crate::specs::VerdictReading::level_at))]
 fn level_at<'a>(instance: &Instance, fields: Fields<'a>) -> Result<(u32, Fields<'a>), LineError>
-    ensures { Gives (λ x. (x.0, fields_left x.1)) result (level_at instance.now (fields_left fields.entry)) }
+    ensures { Gives (λ x. (x.0, fields_left x.1)) result
+        (level_at instance.now (fields_left fields.entry)) }
 {
     let (level, rest) = number_at(fields)?;
     if level > levels(instance) {

@@ -28,7 +28,8 @@ pub fn write_answer(
     Ok(out)
 }
 
-/// The text of a well-formed answer before its certificate lines. `NoMemory` comes where its room could not be had.
+/// The text of a well-formed answer before its certificate lines. `NoMemory` comes where its room
+/// could not be had.
 pub fn head_text(alloc: Global, instance: &Instance, answer: &Answer) -> Result<Vec<u8>, NoMemory>
     requires { IsWellFormed instance.now answer.now }
     ensures { IfOk result (λ text. text.items ≡ head_text instance.now answer.now) }
@@ -38,10 +39,12 @@ pub fn head_text(alloc: Global, instance: &Instance, answer: &Answer) -> Result<
     Ok(out)
 }
 
-/// The lines of a plan that is no longer than the paths. `NoMemory` comes where their room could not be had.
+/// The lines of a plan that is no longer than the paths. `NoMemory` comes where their room could
+/// not be had.
 pub fn plan_text(alloc: Global, instance: &Instance, plan: &[Choice]) -> Result<Vec<u8>, NoMemory>
     requires { length plan.now ≤ length instance.now.paths }
-    ensures { IfOk result (λ text. text.items ≡ flat_map line_text (plan_lines instance.now.paths plan.now)) }
+    ensures { IfOk result (λ text. text.items ≡ flat_map line_text
+        (plan_lines instance.now.paths plan.now)) }
 {
     let mut out = Vec::new(alloc);
     push_plan(&mut out, instance.paths.as_slice(), plan)?;
@@ -79,7 +82,8 @@ fn push_head(out: &mut Vec<u8>, instance: &Instance, answer: &Answer) -> Result<
 /// One line for each choice of a plan.
 fn push_plan(out: &mut Vec<u8>, paths: &[Path], plan: &[Choice]) -> Result<(), NoMemory>
     requires { length plan.now ≤ length paths.now }
-    ensures { OnOk result (out.new.items ≡ out.old.items ++ flat_map line_text (plan_lines paths.now plan.now)) }
+    ensures { OnOk result (out.new.items ≡ out.old.items
+        ++ flat_map line_text (plan_lines paths.now plan.now)) }
 {
     for (place, choice) in plan.iter().enumerate() {
         push_choice(out, &paths[place], *choice)?;
@@ -88,7 +92,8 @@ fn push_plan(out: &mut Vec<u8>, paths: &[Path], plan: &[Choice]) -> Result<(), N
 }
 
 fn push_choice(out: &mut Vec<u8>, path: &Path, choice: Choice) -> Result<(), NoMemory>
-    ensures { OnOk result (out.new.items ≡ out.old.items ++ line_text (choice_fields path.now choice)) }
+    ensures { OnOk result (out.new.items ≡ out.old.items
+        ++ line_text (choice_fields path.now choice)) }
 {
     out.extend_from_slice(b"AL")?;
     push_numbers(out, &[path.number, choice.freq])?;
@@ -132,7 +137,8 @@ fn push_open(
     level: u32,
     prefix: &[Literal],
 ) -> Result<(), NoMemory>
-    ensures { OnOk result (out.new.items ≡ out.old.items ++ verdict_text (Verdict.Open best lower level prefix.now)) }
+    ensures { OnOk result (out.new.items ≡ out.old.items
+        ++ verdict_text (Verdict.Open best lower level prefix.now)) }
 {
     out.extend_from_slice(b"OPEN")?;
     push_triple(out, best)?;
@@ -165,7 +171,8 @@ fn push_lines(out: &mut Vec<u8>, lines: &[Line]) -> Result<(), NoMemory>
 }
 
 fn push_line(out: &mut Vec<u8>, line: &Line) -> Result<(), NoMemory>
-    ensures { OnOk result (out.new.items ≡ out.old.items ++ line_text (certificate_fields line.now)) }
+    ensures { OnOk result (out.new.items ≡ out.old.items
+        ++ line_text (certificate_fields line.now)) }
 {
     out.extend_from_slice(rule_word(&line.rule))?;
     push_front(out, line)?;
@@ -174,9 +181,11 @@ fn push_line(out: &mut Vec<u8>, line: &Line) -> Result<(), NoMemory>
     Ok(())
 }
 
-/// What stands before a rule's own numbers: the tag and the literals, which a Delete line leaves out.
+/// What stands before a rule's own numbers: the tag and the literals, which a Delete line leaves
+/// out.
 fn push_front(out: &mut Vec<u8>, line: &Line) -> Result<(), NoMemory>
-    ensures { OnOk result (out.new.items ≡ out.old.items ++ spaced (front_numbers line.now line.now.rule)) }
+    ensures { OnOk result (out.new.items ≡ out.old.items
+        ++ spaced (front_numbers line.now line.now.rule)) }
 {
     if is_delete(&line.rule) {
         return Ok(());
@@ -185,7 +194,8 @@ fn push_front(out: &mut Vec<u8>, line: &Line) -> Result<(), NoMemory>
 }
 
 fn push_tag_and_literals(out: &mut Vec<u8>, line: &Line) -> Result<(), NoMemory>
-    ensures { OnOk result (out.new.items ≡ out.old.items ++ spaced (tag_numbers line.now.tag ++ list_numbers line.now.lits)) }
+    ensures { OnOk result (out.new.items ≡ out.old.items
+        ++ spaced (tag_numbers line.now.tag ++ list_numbers line.now.lits)) }
 {
     push_triple(out, triple_of(line.tag))?;
     push_literals(out, line.lits.as_slice())
@@ -222,7 +232,8 @@ fn push_cites(out: &mut Vec<u8>, cites: &[u32]) -> Result<(), NoMemory>
 }
 
 fn push_children(out: &mut Vec<u8>, children: &[Child]) -> Result<(), NoMemory>
-    ensures { OnOk result (out.new.items ≡ out.old.items ++ spaced (length children.now ∷ flat_map child_numbers children.now)) }
+    ensures { OnOk result (out.new.items ≡ out.old.items
+        ++ spaced (length children.now ∷ flat_map child_numbers children.now)) }
 {
     push_length(out, children.len())?;
     for child in children {

@@ -26,4 +26,5 @@ pub record AreEnded (lines : List Line) (rows : List (List ℕ)) : Type 0 where
 
 -- the Delete line for some lines, by their numbers in a table, where there are any
 abbrev pub delete_by : List ℕ → List ℕ → List Line
-delete_by numbers ended = if is_empty ended then [] else (delete_line (map (number_in numbers) ended) ∷ [])
+delete_by numbers ended =
+    if is_empty ended then [] else (delete_line (map (number_in numbers) ended) ∷ [])

@@ -27,7 +27,8 @@ merged_with_line s line = with_out s (s.out ++ line ∷ [])
 
 -- a piece's row is lower, or both are of one row and its log and place are not behind
 abbrev pub IsPieceNotAfter : Piece → Piece → Type 0
-IsPieceNotAfter p q = (p.row < q.row) ⊎ ((p.row ≡ q.row) × ((p.log < q.log) ⊎ ((p.log ≡ q.log) × (p.last ≤ q.last))))
+IsPieceNotAfter p q =
+    (p.row < q.row) ⊎ ((p.row ≡ q.row) × ((p.log < q.log) ⊎ ((p.log ≡ q.log) × (p.last ≤ q.last))))
 
 -- there is room for the numbers of a piece's log and row
 pub record HasRoomFor (s : Merged) (p : Piece) : Type 0 where
@@ -40,12 +41,14 @@ pub record IsSameRoom (old new : Merged) : Type 0 where
   pub row : length new.row ≡ length old.row
 
 -- what is left of each log: its lines that are not done
-pub record AreLeft (logs : List (List LogLine)) (s : Merged) (rests : List (List LogLine)) : Type 0 where
+pub record AreLeft (logs : List (List LogLine)) (s : Merged)
+    (rests : List (List LogLine)) : Type 0 where
   pub count : length rests ≡ length logs
   pub each : (log : ℕ) → lines_of rests log ≡ drop (done_of s log) (lines_of logs log)
 
 -- the old lines, the arc lines, the segments of the logs by row and the rests of the logs
-pub record AreGatheredLines (old : List Line) (placed : List (ℕ × ℕ)) (arcs : List Line) (logs : List LogState) (s : Merged) : Type 0 where
+pub record AreGatheredLines (old : List Line) (placed : List (ℕ × ℕ)) (arcs : List Line)
+    (logs : List LogState) (s : Merged) : Type 0 where
   pub pieces : List Piece
   pub by_row : AreByRow logs pieces
   pub room : ℕ
@@ -58,14 +61,16 @@ abbrev pub IsStepOf : Instance → Step → Type 0
 IsStepOf instance step = step.choices ≡ count_at instance step.path
 
 abbrev pub AreStepsOf : Instance → List Step → Type 0
-AreStepsOf instance steps = All (λ step. IsStepOf instance step × (step.choices ≤ MAX_PATH_CHOICES)) steps
+AreStepsOf instance steps =
+    All (λ step. IsStepOf instance step × (step.choices ≤ MAX_PATH_CHOICES)) steps
 
 abbrev pub step_paths : List Step → List ℕ
 step_paths steps = map (λ step. step.path) steps
 
 -- children for so many choices, which cite lines one after another
 abbrev pub children_by : ℕ → ℕ → List Child
-children_by choices next = map (λ index. record { choice = index; cite = next + index }) (range_with_len 0 choices)
+children_by choices next =
+    map (λ index. record { choice = index; cite = next + index }) (range_with_len 0 choices)
 
 -- literals of different paths
 abbrev pub AreOnPathsApart : List Literal → Type 0
@@ -73,7 +78,8 @@ AreOnPathsApart literals = AllPairs (λ a b. a.path ≢ b.path) literals
 
 -- the paths of each list and some further ones all differ
 abbrev pub AreWithSteps : List ℕ → List (List Literal) → Type 0
-AreWithSteps paths lists = All (λ list. AllPairs (λ p q. p ≢ q) (map (λ a. a.path) list ++ paths)) lists
+AreWithSteps paths lists =
+    All (λ list. AllPairs (λ p q. p ≢ q) (map (λ a. a.path) list ++ paths)) lists
 
 -- the lists that are longer by a choice of each of some paths
 abbrev pub deepest : Instance → List ℕ → List (List Literal) → List (List Literal)

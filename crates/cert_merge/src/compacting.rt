@@ -11,11 +11,13 @@ use cert_lines::{Line, Rule, renumbered, renumbered_cites};
 use fapp_model::{Items, MAX_NUMBER, NoMemory, Tag};
 use std::alloc::Global;
 
-/// The lines with Delete lines: behind each line that is the last to cite some lines of two or more literals stands one
-/// that names these. Each cite has the number that the cited line has among the result's lines.
+/// The lines with Delete lines: behind each line that is the last to cite some lines of two or more
+/// literals stands one that names these. Each cite has the number that the cited line has among the
+/// result's lines.
 ///
-/// No line is a Delete line, each cites earlier lines alone, and a line of the tag (0, 0, 0) cites nothing. `NoMemory`
-/// comes where room could not be had, and where there would be more than 1,000,000,000 lines.
+/// No line is a Delete line, each cites earlier lines alone, and a line of the tag (0, 0, 0) cites
+/// nothing. `NoMemory` comes where room could not be had, and where there would be more than
+/// 1,000,000,000 lines.
 pub fn compact(alloc: Global, lines: &[Line]) -> Result<Vec<Line>, NoMemory>
     requires plain { All (λ line. is_delete line.rule ≡ false) lines.now }
     requires cites { (n : ℕ) → 0 < n → n ≤ length lines.now → IsCompactable lines.now n }
@@ -41,7 +43,8 @@ pub fn compact(alloc: Global, lines: &[Line]) -> Result<Vec<Line>, NoMemory>
     Ok(out)
 }
 
-/// Adds a line with the numbers of a table, its own number to the table, and the Delete line for what the line ends.
+/// Adds a line with the numbers of a table, its own number to the table, and the Delete line for
+/// what the line ends.
 fn add_compacted(
     alloc: Global,
     out: &mut Vec<Line>,
@@ -49,8 +52,11 @@ fn add_compacted(
     line: &Line,
     ended: &[u32],
 ) -> Result<(), NoMemory>
-    ensures lines { OnOk result (out.new.items ≡ out.old.items ++ (renumbered (number_in numbers.old.items) line.now ∷ delete_by numbers.new.items ended.now)) }
-    ensures numbers { OnOk result (numbers.new.items ≡ numbers.old.items ++ (length out.old.items + 1) ∷ []) }
+    ensures lines { OnOk result (out.new.items ≡ out.old.items
+        ++ (renumbered (number_in numbers.old.items) line.now
+        ∷ delete_by numbers.new.items ended.now)) }
+    ensures numbers { OnOk result (numbers.new.items ≡ numbers.old.items
+        ++ (length out.old.items + 1) ∷ []) }
     ensures few { OnOk result (IsNumber (length out.new.items)) }
 {
     let number = add(out, renumbered(alloc, line, numbers)?)?;

@@ -12,8 +12,7 @@ use crate::remainder::Remainder;
 use crate::segments::{Parts, parted, room_of, sort_by_row};
 use cert_lines::Line;
 use fapp_model::NoMemory;
-use search_log::Piece;
-use search_log::Log;
+use search_log::{Log, Piece};
 use std::alloc::Global;
 
 impl Certificate {
@@ -42,8 +41,10 @@ impl Certificate {
     fn write_piece(&mut self, rests: &mut [Remainder], piece: &Piece) -> Result<(), NoMemory>
         requires within { HasRoomFor self.old piece.now }
         requires rests { length rests.old ≡ length self.old.own }
-        ensures writes { (logs : List (List LogLine)) → AreLeft logs self.old rests.old → OnOk result (self.new ≡ emit_piece logs piece.now self.old) }
-        ensures left { (logs : List (List LogLine)) → AreLeft logs self.old rests.old → OnOk result (AreLeft logs self.new rests.new) }
+        ensures writes { (logs : List (List LogLine)) → AreLeft logs self.old rests.old →
+            OnOk result (self.new ≡ emit_piece logs piece.now self.old) }
+        ensures left { (logs : List (List LogLine)) → AreLeft logs self.old rests.old →
+            OnOk result (AreLeft logs self.new rests.new) }
         ensures room { OnOk result (IsSameRoom self.old self.new) }
     {
         let log = piece.log as usize;
@@ -57,8 +58,10 @@ impl Certificate {
     fn write_pieces(&mut self, rests: &mut [Remainder], pieces: &[Piece]) -> Result<(), NoMemory>
         requires within { All (HasRoomFor self.old) pieces.now }
         requires rests { length rests.old ≡ length self.old.own }
-        ensures writes { (logs : List (List LogLine)) → AreLeft logs self.old rests.old → OnOk result (self.new ≡ emit_pieces logs pieces.now self.old) }
-        ensures left { (logs : List (List LogLine)) → AreLeft logs self.old rests.old → OnOk result (AreLeft logs self.new rests.new) }
+        ensures writes { (logs : List (List LogLine)) → AreLeft logs self.old rests.old →
+            OnOk result (self.new ≡ emit_pieces logs pieces.now self.old) }
+        ensures left { (logs : List (List LogLine)) → AreLeft logs self.old rests.old →
+            OnOk result (AreLeft logs self.new rests.new) }
         ensures room { OnOk result (IsSameRoom self.old self.new) }
     {
         for piece in pieces {
@@ -95,7 +98,8 @@ fn room_for(pieces: &[Piece], placed: &[(u32, u32)]) -> usize
     }
 }
 
-/// The old lines, the arc lines, then the segments of the logs by row, then what is left of each log.
+/// The old lines, the arc lines, then the segments of the logs by row, then what is left of each
+/// log.
 pub(crate) fn gathered(
     alloc: Global,
     old: &[Line],

@@ -40,7 +40,8 @@ fn level_line(
     requires apart { AreOnPathsApart list.now }
     requires choices { step.now.choices ≤ MAX_PATH_CHOICES }
     requires next { next + step.now.choices ≤ MAX_NUMBER + 1 }
-    ensures { (instance : Network) → IsStepOf instance step.now → IfOk result (λ line. line ≡ level_line instance tag step.now.path next list.now) }
+    ensures { (instance : Network) → IsStepOf instance step.now →
+        IfOk result (λ line. line ≡ level_line instance tag step.now.path next list.now) }
 {
     Ok(Line {
         tag,
@@ -53,7 +54,8 @@ fn level_line(
 }
 
 impl Certificate {
-    /// A Branch line on the next path for each list. The children cite the lines from a number on, one after another.
+    /// A Branch line on the next path for each list. The children cite the lines from a number on,
+    /// one after another.
     pub(crate) fn write_level(
         &mut self,
         tag: Tag,
@@ -64,7 +66,8 @@ impl Certificate {
         requires apart { All AreOnPathsApart lists.now }
         requires choices { step.now.choices ≤ MAX_PATH_CHOICES }
         requires numbers { first + length lists.now * step.now.choices ≤ MAX_NUMBER + 1 }
-        ensures { (instance : Network) → IsStepOf instance step.now → OnOk result (self.new ≡ with_out self.old
+        ensures { (instance : Network) → IsStepOf instance step.now →
+            OnOk result (self.new ≡ with_out self.old
             (emit_level instance tag step.now.path first lists.now self.old.out)) }
     {
         let mut next = first;

@@ -13,8 +13,8 @@ use search_log::{ChoiceRef, LogLine, Ref};
 use std::alloc::Global;
 use std::marker::Model;
 
-/// A certificate so far, with the numbers in it of the logs' lines and of the rows: 0 for what was left out. It has at
-/// most 1,000,000,000 lines.
+/// A certificate so far, with the numbers in it of the logs' lines and of the rows: 0 for what was
+/// left out. It has at most 1,000,000,000 lines.
 #[derive(Drop)]
 pub(crate) struct Certificate {
     alloc: Global,
@@ -64,7 +64,8 @@ impl Certificate {
         Ok(())
     }
 
-    /// The old lines and the arc lines, with room for the numbers of so many logs and rows, of which some are placed.
+    /// The old lines and the arc lines, with room for the numbers of so many logs and rows, of
+    /// which some are placed.
     pub(crate) fn start(
         alloc: Global,
         old: &[Line],
@@ -74,7 +75,8 @@ impl Certificate {
         rows: usize,
     ) -> Result<Certificate, NoMemory>
         requires { All (λ p. p.0 < rows) placed.now }
-        ensures { IfOk result (λ merged. merged ≡ start (old.now ++ arcs.now) placed.now logs rows) }
+        ensures { IfOk result (λ merged. merged ≡ start (old.now ++ arcs.now) placed.now logs
+            rows) }
     {
         let mut merged = Certificate::empty(alloc, placed, logs, rows)?;
         merged.add_copies(old)?;
@@ -132,9 +134,11 @@ impl Certificate {
         }
     }
 
-    /// Adds a line, and answers its number. NoMemory also comes where there are 1,000,000,000 lines.
+    /// Adds a line, and answers its number. NoMemory also comes where there are 1,000,000,000
+    /// lines.
     pub(crate) fn add(&mut self, line: Line) -> Result<u32, NoMemory>
-        ensures { IfOk result (λ number. (self.new ≡ merged_with_line self.old line) × (number ≡ length self.old.out + 1)) }
+        ensures { IfOk result (λ number. (self.new ≡ merged_with_line self.old line)
+            × (number ≡ length self.old.out + 1)) }
     {
         if self.lines.len() >= MAX_NUMBER as usize {
             return Err(NoMemory);
@@ -145,7 +149,8 @@ impl Certificate {
 
     /// The children of a Branch line of a log, without those whose lines were left out.
     fn children(&self, log: usize, refs: &[ChoiceRef]) -> Result<Items<Child>, NoMemory>
-        ensures { IfOk result (λ children. children ≡ flat_map (written_child (merged_number self.now log)) refs.now) }
+        ensures { IfOk result (λ children.
+            children ≡ flat_map (written_child (merged_number self.now log)) refs.now) }
     {
         let mut children = Vec::with_capacity(self.alloc, refs.len())?;
         for cited in refs {
@@ -163,7 +168,11 @@ impl Certificate {
     /// Keeps the number of a log's next line.
     fn note(&mut self, log: usize, number: u32) -> Result<(), NoMemory>
         requires { log < length self.old.own }
-        ensures { OnOk result (self.new ≡ record { out = self.old.out; own = noted self.old.own log number; row = self.old.row }) }
+        ensures { OnOk result (self.new ≡ record {
+          out = self.old.out;
+          own = noted self.old.own log number;
+          row = self.old.row;
+        }) }
     {
         self.own[log].push(number)?;
         Ok(())

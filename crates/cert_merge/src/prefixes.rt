@@ -38,7 +38,8 @@ fn prefix_line(alloc: Global, tag: Tag, prefix: &[Literal], number: u32) -> Resu
 }
 
 impl Certificate {
-    /// The number of the line that settles a prefix at a tag, or 0 where that was left out or there is none.
+    /// The number of the line that settles a prefix at a tag, or 0 where that was left out or there
+    /// is none.
     fn prefix_number(&self, plan: &Plan, collected: &Collected, tag: Tag, place: u32) -> u32
         requires planned { length collected.now ≡ job_count plan.now.instance plan.now.split }
         requires place { place < length (prefixes plan.now.instance plan.now.split) }
@@ -62,7 +63,8 @@ impl Certificate {
         requires prefixes { lists.now ≡ prefixes plan.now.instance plan.now.split }
         requires apart { All AreOnPathsApart lists.now }
         ensures { OnOk result (self.new ≡ with_out self.old (emit_prefixes tag
-            (prefix_number plan.now.instance collected.now tag.code self.old) 0 lists.now self.old.out)) }
+            (prefix_number plan.now.instance collected.now tag.code self.old) 0 lists.now
+            self.old.out)) }
     {
         for place in 0..plan.prefix_count() {
             let number = self.prefix_number(plan, collected, tag, place);

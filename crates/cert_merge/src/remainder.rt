@@ -32,7 +32,8 @@ impl Remainder {
 
     /// The next line. None comes exactly where none is left.
     pub(crate) fn next(&mut self) -> Option<LogLine>
-        ensures { MatchOption result ((self.old ≡ []) × (self.new ≡ [])) (λ line. self.old ≡ line ∷ self.new) }
+        ensures { MatchOption result ((self.old ≡ [])
+            × (self.new ≡ [])) (λ line. self.old ≡ line ∷ self.new) }
     {
         self.lines.pop_front()
     }

@@ -7,9 +7,7 @@ ghost use Rattle.cert_merge.specs.Growth.{IsPieceNotAfter};
 
 use crate::remainder::Remainder;
 use fapp_model::NoMemory;
-use search_log::Segment;
-use search_log::Piece;
-use search_log::Log;
+use search_log::{Log, Piece, Segment};
 use std::alloc::Global;
 
 /// Some logs, taken apart.

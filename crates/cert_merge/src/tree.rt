@@ -34,7 +34,8 @@ fn push_longer(
     step: &Step,
 ) -> Result<(), NoMemory>
     requires { step.now.choices ≤ MAX_PATH_CHOICES }
-    ensures { (instance : Network) → IsStepOf instance step.now → OnOk result (lists.new.items ≡ lists.old.items ++ longer instance step.now.path list.now) }
+    ensures { (instance : Network) → IsStepOf instance step.now →
+        OnOk result (lists.new.items ≡ lists.old.items ++ longer instance step.now.path list.now) }
 {
     for index in 0..step.choices {
         let literal = Literal {
@@ -53,7 +54,8 @@ fn longer(
     step: &Step,
 ) -> Result<Vec<Items<Literal>>, NoMemory>
     requires { step.now.choices ≤ MAX_PATH_CHOICES }
-    ensures { (instance : Network) → IsStepOf instance step.now → IfOk result (λ more. more.items ≡ flat_map (longer instance step.now.path) lists.now) }
+    ensures { (instance : Network) → IsStepOf instance step.now →
+        IfOk result (λ more. more.items ≡ flat_map (longer instance step.now.path) lists.now) }
 {
     let mut more = Vec::new(alloc);
     for list in lists {
@@ -63,8 +65,8 @@ fn longer(
 }
 
 impl Certificate {
-    /// The tree from some lists on: first the lists that are longer along the steps, the longest first, then a line for
-    /// each of these lists.
+    /// The tree from some lists on: first the lists that are longer along the steps, the longest
+    /// first, then a line for each of these lists.
     pub(crate) fn write_tree(
         &mut self,
         plan: &Plan,
@@ -76,9 +78,11 @@ impl Certificate {
         requires planned { length collected.now ≡ job_count plan.now.instance plan.now.split }
         requires steps { AreStepsOf plan.now.instance steps.now }
         requires apart { AreWithSteps (step_paths steps.now) lists.now }
-        requires prefixes { deepest plan.now.instance (step_paths steps.now) lists.now ≡ prefixes plan.now.instance plan.now.split }
+        requires prefixes { deepest plan.now.instance (step_paths steps.now) lists.now
+            ≡ prefixes plan.now.instance plan.now.split }
         ensures { OnOk result (self.new ≡ with_out self.old (emit_tree plan.now.instance tag
-            (prefix_number plan.now.instance collected.now tag.code self.old) (step_paths steps.now) lists.now self.old.out)) }
+            (prefix_number plan.now.instance collected.now tag.code self.old) (step_paths steps.now)
+            lists.now self.old.out)) }
     {
         let Some((step, rest)) = steps.split_first() else {
             return self.write_prefixes(plan, collected, tag, lists);

@@ -8,11 +8,13 @@ use Rattle.cert_relay.specs.declared.task.Task.{Task}
 
 -- the job that a message tells
 abbrev pub told_job : Message → Job
-told_job x = record { instance = x.instance.value; answer = x.answer.value; senders = x.senders.value }
+told_job x =
+    record { instance = x.instance.value; answer = x.answer.value; senders = x.senders.value }
 
 -- the job that is worked at
 abbrev pub job_of : Task → Job
-job_of task = record { instance = task.instance.now; answer = task.answer.now; senders = task.senders }
+job_of task =
+    record { instance = task.instance.now; answer = task.answer.now; senders = task.senders }
 
 -- a well-formed answer whose lines can be counted, and 1 to 8 senders
 pub record IsRelayJob (job : Job) : Type 0 where

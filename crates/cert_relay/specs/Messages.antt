@@ -13,14 +13,17 @@ numbers messages = map (λ message. message.number) messages
 abbrev pub times : ℕ → List ℕ → ℕ
 times number all = count_by (λ n. number == n) all
 
--- the numbers of one sender among some: a sender has those that leave its own when divided by the number of senders
+-- the numbers of one sender among some: a sender has those that leave its own when divided by the
+-- number of senders
 abbrev pub those_of : ℕ → ℕ → List ℕ → List ℕ
 those_of senders sender all = filter (λ n. n % senders == sender) all
 
 -- where a message has a text, it is that of the piece of its number
 abbrev pub IsRightMessage : Instance → Answer → Message → Type 0
-IsRightMessage instance answer message = IfSome message.text (λ text. text ≡ piece_text instance answer message.number)
+IsRightMessage instance answer message =
+    IfSome message.text (λ text. text ≡ piece_text instance answer message.number)
 
 -- a message of this number has no text
 abbrev pub LacksText : List Message → ℕ → Type 0
-LacksText messages number = Any (λ message. (message.number ≡ number) × (message.text ≡ None)) messages
+LacksText messages number =
+    Any (λ message. (message.number ≡ number) × (message.text ≡ None)) messages

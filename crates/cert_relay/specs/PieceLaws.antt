@@ -7,4 +7,6 @@ use Rattle.cert_relay.specs.Pieces.{piece_count, text_before}
 
 -- all pieces, in order, are the text of the answer
 abbrev pub PiecesAreText : Type 0
-PiecesAreText = (instance : Instance) (answer : Answer) → text_before instance answer (piece_count answer) ≡ answer_text instance answer
+PiecesAreText =
+    (instance : Instance) (answer : Answer) →
+    text_before instance answer (piece_count answer) ≡ answer_text instance answer

@@ -13,9 +13,11 @@ edge count from slice = min count (from + SLICE * slice)
 
 -- the first fault of the lines behind so many and up to so many
 abbrev pub fault_between : Instance → List Line → ℕ → ℕ → Option Rejected
-fault_between instance lines from to = first_of (fault_at instance lines) (range_with_len from (to - from))
+fault_between instance lines from to =
+    first_of (fault_at instance lines) (range_with_len from (to - from))
 
 -- the first fault of a slice
 abbrev pub slice_fault : Instance → List Line → ℕ → ℕ → Option Rejected
 slice_fault instance lines from slice =
-    fault_between instance lines (edge (length lines) from slice) (edge (length lines) from (slice + 1))
+    fault_between instance lines (edge (length lines) from slice)
+    (edge (length lines) from (slice + 1))

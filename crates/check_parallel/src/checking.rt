@@ -13,9 +13,10 @@ use fapp_model::{Instance, MAX_NUMBER, NoMemory};
 use std::alloc::Global;
 use std::thread::Threads;
 
-/// Accepts an answer, or refuses it with its first fault: the plan's, then a certificate line's, then the root's. It is
-/// what `check` answers, for every number of workers from 1 to 32. `NoMemory` comes where room could not be had, in
-/// whichever thread. Nothing says that two lines are judged at the same time.
+/// Accepts an answer, or refuses it with its first fault: the plan's, then a certificate line's,
+/// then the root's. It is what `check` answers, for every number of workers from 1 to 32.
+/// `NoMemory` comes where room could not be had, in whichever thread. Nothing says that two lines
+/// are judged at the same time.
 pub fn check_parallel(
     rt: &(impl Threads + Sync),
     alloc: Global,

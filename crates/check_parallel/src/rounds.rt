@@ -18,7 +18,8 @@ use std::thread::Threads;
 /// How many lines a slice has.
 pub(crate) const SLICE: usize = 4096;
 
-/// The first fault of the lines, judged in rounds of a slice for each worker. No round follows one with a fault.
+/// The first fault of the lines, judged in rounds of a slice for each worker. No round follows one
+/// with a fault.
 pub(crate) fn lines_fault(
     rt: &(impl Threads + Sync),
     alloc: Global,
@@ -63,7 +64,8 @@ fn round_fault(
     requires workers { workers ≤ 32 }
     requires from { from ≤ length answer.now.lines }
     ensures { let lines = answer.now.lines in
-        IfOk result (λ fault. fault ≡ fault_between instance.now lines from (edge (length lines) from workers)) }
+        IfOk result (λ fault. fault ≡ fault_between instance.now lines from
+        (edge (length lines) from workers)) }
 {
     let faults = slice_faults(rt, alloc, instance, answer, marks, workers, from)?;
     for k in 0..faults.len() {
@@ -75,7 +77,8 @@ fn round_fault(
     Ok(None)
 }
 
-/// The first fault of each slice of a round. One item of `rayon` is one slice, so no more threads than workers judge.
+/// The first fault of each slice of a round. One item of `rayon` is one slice, so no more threads
+/// than workers judge.
 fn slice_faults(
     rt: &(impl Threads + Sync),
     alloc: Global,
@@ -91,15 +94,21 @@ fn slice_faults(
     requires few { length answer.now.lines ≤ MAX_NUMBER }
     requires workers { workers ≤ 32 }
     requires from { from ≤ length answer.now.lines }
-    ensures { IfOk result (λ faults. AllZip (λ k fault. IfOk fault (λ f. f ≡ slice_fault instance.now answer.now.lines from k)) (range_with_len 0 workers) faults.items) }
+    ensures { IfOk result (λ faults. AllZip (λ k fault.
+        IfOk fault (λ f. f ≡ slice_fault instance.now answer.now.lines from k))
+        (range_with_len 0 workers) faults.items) }
 {
     let faults = (0..workers)
         .into_par_iter()
         .with_min_len(1)
         .map(
             |slice: u32| -> Result<Option<Rejected>, NoMemory>
-                requires { (slice < 32) × (from ≤ length answer.now.lines) × IsInstance instance.now × IsWellFormed instance.now answer.now × IsMarks instance.now answer.now.lines marks.now × (length answer.now.lines ≤ MAX_NUMBER) }
-                ensures { IfOk result (λ fault. fault ≡ slice_fault instance.entry.now answer.entry.now.lines from slice) }
+                requires { (slice < 32) × (from ≤ length answer.now.lines) × IsInstance instance.now
+                    × IsWellFormed instance.now answer.now
+                    × IsMarks instance.now answer.now.lines marks.now
+                    × (length answer.now.lines ≤ MAX_NUMBER) }
+                ensures { IfOk result (λ fault.
+                    fault ≡ slice_fault instance.entry.now answer.entry.now.lines from slice) }
             { slice_fault(alloc, instance, answer, marks, from, slice) },
         )
         .collect::<Vec<Result<Option<Rejected>, NoMemory>>>(rt, alloc)?;

@@ -17,8 +17,8 @@ const PLAN: &str = "AL 1 10 1\nAL 2 10 1\n--\nBEST 11 1 10\n";
 
 const NO_PLAN: &str = "AL 1 10 1\nAL 2 20 1\n--\nBEST 11 1 10\n";
 
-// A root line that says nothing, a good line that is no root line, one whose literals are not dead, and one that cites
-// itself or a later line.
+// A root line that says nothing, a good line that is no root line, one whose literals are not dead,
+// and one that cites itself or a later line.
 const ZERO: &str = "C 0 0 0 0 0\n";
 
 const GOOD: &str = "C 12 0 0 1 1 0 0\n";
@@ -27,8 +27,8 @@ const ALIVE: &str = "C 12 0 0 1 1 1 0\n";
 
 const CITES: &str = "C 12 0 0 1 1 0 1 10000\n";
 
-// What stands before 10,000 lines; the line that 9,999 of them are, before the certificate line; two of the lines that
-// are others (0: none); the line that is refused and why.
+// What stands before 10,000 lines; the line that 9,999 of them are, before the certificate line;
+// two of the lines that are others (0: none); the line that is refused and why.
 type Row = (
     &'static str,
     &'static str,
@@ -169,7 +169,8 @@ fn text_of(alloc: Global, row: &Row) -> Result<Vec<u8>, Fail>
 
 fn answer_of(alloc: Global, instance: &Instance, text: &[u8]) -> Result<Answer, Fail>
     requires { IsInstance instance.now × (length text.now ≤ MAX_TEXT) }
-    ensures { IfOk result (λ answer. IsWellFormed instance.now answer × (length answer.lines ≤ MAX_NUMBER)) }
+    ensures { IfOk result (λ answer. IsWellFormed instance.now answer
+        × (length answer.lines ≤ MAX_NUMBER)) }
 {
     let Ok(answer) = read_answer(alloc, instance, text) else {
         return Err("unread".into());

@@ -13,14 +13,20 @@ use Rattle.choice_counts.specs.CountedSums.{IsCountedSum, IsCalm}
 
 -- Literals that are not dead at a tag are calm at its mode's level.
 abbrev pub AliveIsCalm : Type 0
-AliveIsCalm = (instance : Instance) (t : Triple) (literals : List Literal) → IsInstance instance → IsPartial instance literals →
+AliveIsCalm =
+    (instance : Instance) (t : Triple) (literals : List Literal) → IsInstance instance →
+    IsPartial instance literals →
     (Dead instance t literals → ⊥) → IsCalm instance (mode_level t) literals
 
 -- Calm literals are dead at a tag exactly where it is (0, 0, 0) or its limit is at most their sum.
 abbrev pub DeadIsOverBound : Type 0
-DeadIsOverBound = (instance : Instance) (t : Triple) (literals : List Literal) (n : ℕ) → IsInstance instance → IsTagOf instance t →
-    IsPartial instance literals → IsCalm instance (mode_level t) literals → IsCountedSum instance (mode_level t) literals n →
-    Dead instance t literals ↔ ((t ≡ least_tag) ⊎ (IsTrue (has_limit t) × (pair_code (limit_of t) ≤ n)))
+DeadIsOverBound =
+    (instance : Instance) (t : Triple) (literals : List Literal) (n : ℕ) → IsInstance instance →
+    IsTagOf instance t →
+    IsPartial instance literals → IsCalm instance (mode_level t) literals →
+    IsCountedSum instance (mode_level t) literals n →
+    Dead instance t literals ↔ ((t ≡ least_tag)
+    ⊎ (IsTrue (has_limit t) × (pair_code (limit_of t) ≤ n)))
 
 -- The sum of a level is one number.
 abbrev pub OneBound : Type 0

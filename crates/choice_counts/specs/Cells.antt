@@ -41,12 +41,17 @@ pub record AreWhole (cells : List Cell) : Type 0 where
 abbrev pub reaching : Cell → ℕ → Cell
 reaching cell reach = record { reach = reach; same = cell.same; other = cell.other }
 
--- a cell is added behind the others, or the last of them, which has the same tallies, reaches as far as it
+-- a cell is added behind the others, or the last of them, which has the same tallies, reaches as
+-- far as it
 abbrev pub AddsCell : List Cell → Cell → List Cell → Type 0
 AddsCell old cell new = (new ≡ old ++ cell ∷ [])
-    ⊎ ((0 < length old) × (new ≡ slice_set old (length old - 1) cell) × (reaching (cell_at old (length old - 1)) cell.reach ≡ cell))
+    ⊎ ((0 < length old) × (new ≡ slice_set old (length old - 1) cell)
+    × (reaching (cell_at old (length old - 1)) cell.reach ≡ cell))
 
--- from the distance on, where the last cell starts, nothing is counted; none if that one counts something
+-- from the distance on, where the last cell starts, nothing is counted; none if that one counts
+-- something
 abbrev pub IsFar : List Cell → ℕ → Type 0
 IsFar cells distance = (distance ≡ NO_REACH)
-    ⊎ ((distance ≡ start_of cells (length cells - 1)) × (((cell_at cells (length cells - 1)).same ≡ 0) × ((cell_at cells (length cells - 1)).other ≡ 0)))
+    ⊎ ((distance ≡ start_of cells (length cells - 1))
+    × (((cell_at cells (length cells - 1)).same ≡ 0)
+    × ((cell_at cells (length cells - 1)).other ≡ 0)))

@@ -22,11 +22,13 @@ clash_part instance level a b = if clashes instance level a b then 1 else 0
 
 -- what a literal counts in a choice's tally
 abbrev pub pair_tally : Instance → ℕ → Literal → Literal → ℕ
-pair_tally instance level a b = clash_part instance level a b * HARD + both_between instance (coded_part level) a b
+pair_tally instance level a b =
+    clash_part instance level a b * HARD + both_between instance (coded_part level) a b
 
 -- how many literals clash with a choice, one more where it is outside the arcs
 abbrev pub hard_of : Instance → ℕ → (Literal → Bool) → List Literal → Literal → ℕ
-hard_of instance level arc literals a = outside_part arc a + sum_by (clash_part instance level a) literals
+hard_of instance level arc literals a =
+    outside_part arc a + sum_by (clash_part instance level a) literals
 
 -- a choice's tally
 abbrev pub tally_of : Instance → ℕ → (Literal → Bool) → List Literal → Literal → ℕ
@@ -36,16 +38,19 @@ tally_of instance level arc literals a =
 -- the tallies of a path
 abbrev pub tallies_of : Instance → ℕ → (Literal → Bool) → List Literal → ℕ → List ℕ
 tallies_of instance level arc literals path =
-    map (λ index. tally_of instance level arc literals (literal path index)) (range_with_len 0 (count_at instance path))
+    map (λ index. tally_of instance level arc literals (literal path index))
+    (range_with_len 0 (count_at instance path))
 
 -- the rows of all paths
 abbrev pub rows_of : Instance → ℕ → (Literal → Bool) → List Literal → List PathTallies
 rows_of instance level arc literals =
-    map (λ path. tallies_by (tallies_of instance level arc literals path)) (range_with_len 0 (length instance.paths))
+    map (λ path. tallies_by (tallies_of instance level arc literals path))
+    (range_with_len 0 (length instance.paths))
 
 -- how many pairs of literals clash, each seen from both sides
 abbrev pub clash_pairs : Instance → ℕ → List Literal → ℕ
-clash_pairs instance level literals = sum_by (λ a. sum_by (clash_part instance level a) literals) literals
+clash_pairs instance level literals =
+    sum_by (λ a. sum_by (clash_part instance level a) literals) literals
 
 -- how many literals are outside the arcs
 abbrev pub outsiders : (Literal → Bool) → List Literal → ℕ

@@ -13,7 +13,8 @@ tally_by hard sum = if nat_lt 0 hard then HARD + sum else sum
 -- for a choice of each path
 abbrev pub choices_tally : Instance → ℕ → ℕ → ℕ → Choice → Choice → ℕ
 choices_tally instance level path other a b =
-    tally_by (between_choices instance (hard_part level) path other a b) (between_choices instance (coded_part level) path other a b)
+    tally_by (between_choices instance (hard_part level) path other a b)
+    (between_choices instance (coded_part level) path other a b)
 
 -- two choices of one polarization or of two, whose frequencies are so far apart
 abbrev pub near : Choice
@@ -24,4 +25,5 @@ far same distance = record { freq = distance; pol = if same then pos 1 else negs
 
 -- for frequencies so far apart, and polarizations that are one or two
 abbrev pub tally_apart : Instance → ℕ → ℕ → ℕ → Bool → ℕ → ℕ
-tally_apart instance level path other same distance = choices_tally instance level path other near (far same distance)
+tally_apart instance level path other same distance =
+    choices_tally instance level path other near (far same distance)

@@ -7,7 +7,8 @@ use Rattle.fapp_model.specs.search.Partials.{literal}
 use Rattle.nogood.specs.Literals.{other_paths}
 use Rattle.nogood.specs.Partials.{GivesChoice}
 
--- an instance, the level at which counts are kept, and the literals pushed, in order: the last one pushed stands last
+-- an instance, the level at which counts are kept, and the literals pushed, in order: the last one
+-- pushed stands last
 pub record ForwardState : Type 0 where
   pub instance : Instance
   pub level : ℕ
@@ -19,7 +20,8 @@ nothing_pushed instance = record { instance = instance; level = levels_of instan
 
 -- the same instance and level with other literals
 abbrev pub with_literals : ForwardState → List Literal → ForwardState
-with_literals state literals = record { instance = state.instance; level = state.level; pushed = literals }
+with_literals state literals =
+    record { instance = state.instance; level = state.level; pushed = literals }
 
 abbrev pub with_pushed : ForwardState → ℕ → ℕ → ForwardState
 with_pushed state path choice = with_literals state (state.pushed ++ literal path choice ∷ [])
@@ -34,6 +36,7 @@ abbrev pub at_level : ForwardState → ℕ → ForwardState
 at_level state level = record { instance = state.instance; level = level; pushed = state.pushed }
 
 -- choices by path, one for each path of the instance, that are those of the literals
-pub record AreSlots (instance : Instance) (literals : List Literal) (slots : List (Option ℕ)) : Type 0 where
+pub record AreSlots (instance : Instance) (literals : List Literal)
+    (slots : List (Option ℕ)) : Type 0 where
   pub whole : length slots ≡ length instance.paths
   pub given : (a : Literal) → GivesChoice slots a ↔ Contains literals a

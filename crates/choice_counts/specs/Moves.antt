@@ -17,7 +17,8 @@ moved false tally pair = tally + pair
 -- the tallies of a path with what a literal adds to them, taken away or added
 abbrev pub tallies_with : Bool → Instance → ℕ → Literal → ℕ → List ℕ → List ℕ
 tallies_with taking instance level a other tallies =
-    map (λ index. moved taking (tally_at tallies index) (pair_tally instance level (literal other index) a)) (range_with_len 0 (length tallies))
+    map (λ index. moved taking (tally_at tallies index)
+    (pair_tally instance level (literal other index) a)) (range_with_len 0 (length tallies))
 
 -- the rows of all paths, where those that share a record with the literal's path get what it adds
 abbrev pub rows_with : Bool → Instance → ℕ → Literal → List PathTallies → List PathTallies

@@ -24,17 +24,21 @@ pair_cells_at links place = slice_index_or links place no_pair_cells
 pub record AreLinksOf (instance : Instance) (level path : ℕ) (links : List PairCells) : Type 0 where
   pub count : length links ≡ length (neighbours_of instance path)
   pub each : (place : ℕ) → place < length (neighbours_of instance path) →
-      IsPairCells instance level path (slice_index (neighbours_of instance path) place) (pair_cells_at links place)
+      IsPairCells instance level path (slice_index (neighbours_of instance path) place)
+      (pair_cells_at links place)
 
 abbrev pub links_of : List (List PairCells) → ℕ → List PairCells
 links_of table path = slice_index_or table path []
 
 -- a link for each path and neighbour
-pub record ArePairCells (instance : Instance) (level : ℕ) (table : List (List PairCells)) : Type 0 where
+pub record ArePairCells (instance : Instance) (level : ℕ)
+    (table : List (List PairCells)) : Type 0 where
   pub count : length table ≡ length instance.paths
-  pub each : (path : ℕ) → path < length instance.paths → AreLinksOf instance level path (links_of table path)
+  pub each : (path : ℕ) → path < length instance.paths →
+      AreLinksOf instance level path (links_of table path)
 
 -- as many links as neighbours, for each of so many paths
 pub record HasLinks (instance : Instance) (table : List (List PairCells)) (paths : ℕ) : Type 0 where
   pub count : length table ≡ paths
-  pub each : (path : ℕ) → path < paths → length (links_of table path) ≡ length (neighbours_of instance path)
+  pub each : (path : ℕ) → path < paths → length (links_of table path)
+      ≡ length (neighbours_of instance path)

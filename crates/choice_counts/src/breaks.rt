@@ -11,7 +11,8 @@ pub const NO_REACH: u64 = 1 << 32;
 fn least_above(dist: &[u32; MAX_LEVELS as usize], distance: u32) -> u64
     ensures above { distance < result }
     ensures within { result ≤ NO_REACH }
-    ensures least { (level : ℕ) → (slice_index dist.now level ≤ distance) ⊎ (result ≤ slice_index dist.now level) }
+    ensures least { (level : ℕ) → (slice_index dist.now level ≤ distance)
+        ⊎ (result ≤ slice_index dist.now level) }
 {
     let mut least = NO_REACH;
     for reach in dist {
@@ -43,7 +44,8 @@ fn next_break(constraint: &Record, distance: u32) -> u64
     }
 }
 
-/// A distance up to which each of some records says of two choices what it says at another distance.
+/// A distance up to which each of some records says of two choices what it says at another
+/// distance.
 pub fn next_reach(instance: &Instance, positions: &[u32], distance: u32) -> u64
     requires positions { All (λ k. k < length instance.now.records) positions.now }
     ensures above { distance < result }

@@ -5,8 +5,8 @@ use fapp_model::NoMemory;
 use std::alloc::Global;
 use std::marker::Model;
 
-/// What two choices count in each other's tallies where their frequencies are further apart than the cell before reaches,
-/// and less than this one does.
+/// What two choices count in each other's tallies where their frequencies are further apart than
+/// the cell before reaches, and less than this one does.
 #[derive(Clone, Copy, Debug)]
 pub struct Cell {
     pub reach: u64,
@@ -28,7 +28,8 @@ impl Cell {
 /// So many hints for distances that are evenly spread.
 const HINTS: usize = 64;
 
-/// Cells that follow one another, and hints where to look for those of some distances. Contracts see the list of cells.
+/// Cells that follow one another, and hints where to look for those of some distances. Contracts
+/// see the list of cells.
 #[derive(Debug, Drop)]
 pub struct Cells {
     cells: Vec<Cell>,
@@ -90,8 +91,8 @@ impl Cells {
         self.cells.clear();
     }
 
-    /// Adds a cell behind the others, where there is room, or lets the last one reach as far where it has the same tallies. It
-    /// takes no memory.
+    /// Adds a cell behind the others, where there is room, or lets the last one reach as far where
+    /// it has the same tallies. It takes no memory.
     pub fn extend(&mut self, cell: Cell) -> bool
         ensures added { IsTrue result → AddsCell self.old cell self.new }
         ensures full { result ≡ false → self.new ≡ self.old }

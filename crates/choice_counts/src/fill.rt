@@ -23,7 +23,8 @@ pub struct PairCells {
 fn add_cells(pair: &Edge, cells: &mut Cells) -> bool
     requires instance { IsInstance pair.now.instance.now }
     requires none { cells.old ≡ [] }
-    ensures cells { AreCells pair.now.instance.now pair.now.level pair.now.path pair.now.other cells.new }
+    ensures cells { AreCells pair.now.instance.now pair.now.level pair.now.path pair.now.other
+        cells.new }
     ensures whole { IsTrue result → AreWhole cells.new }
 {
     let mut distance = 0;
@@ -56,7 +57,8 @@ impl PairCells {
     /// Makes the cells of two paths anew.
     pub fn fill(&mut self, pair: &Edge)
         requires { IsInstance pair.now.instance.now }
-        ensures { IsPairCells pair.now.instance.now pair.now.level pair.now.path pair.now.other self.new }
+        ensures { IsPairCells pair.now.instance.now pair.now.level pair.now.path pair.now.other
+            self.new }
     {
         self.cells.clear();
         self.far = NO_REACH;

@@ -1,6 +1,6 @@
-//! What is counted for pushed literals, as plain data: one count a choice, sums of all paths, and what the choices of two
-//! neighbouring paths count in each other's counts at a level, by how far apart their frequencies are. Laws over it say
-//! what the counts tell of dead literals.
+//! What is counted for pushed literals, as plain data: one count a choice, sums of all paths, and
+//! what the choices of two neighbouring paths count in each other's counts at a level, by how far
+//! apart their frequencies are. Laws over it say what the counts tell of dead literals.
 #![tactic(auto)]
 
 mod breaks;

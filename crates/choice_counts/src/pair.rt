@@ -6,9 +6,9 @@ ghost use Rattle.fapp_model.specs.declared.level.TheConstants.{MAX_LEVELS};
 ghost use Rattle.fapp_model.specs.Instances.{IsInstance};
 ghost use Rattle.fapp_tables.specs.Indexes.{records_of};
 
+use crate::HARD;
 use crate::breaks::next_reach;
 use crate::cells::Cell;
-use crate::HARD;
 use fapp_model::{Choice, Instance};
 use fapp_tables::pair_counts;
 
@@ -51,11 +51,12 @@ fn far(same: bool, distance: u32) -> Choice
 }
 
 impl<'a> Edge<'a> {
-    /// What a choice of the path and one of the other path count in each other's tallies: the sum of the pairs of the records
-    /// between them, and `HARD` where one of these is hard-bad.
+    /// What a choice of the path and one of the other path count in each other's tallies: the sum
+    /// of the pairs of the records between them, and `HARD` where one of these is hard-bad.
     pub fn tally(&self, first: Choice, second: Choice) -> u64
         requires { IsInstance self.now.instance.now }
-        ensures tally { result ≡ choices_tally self.now.instance.now self.now.level self.now.path self.now.other first second }
+        ensures tally { result ≡ choices_tally self.now.instance.now self.now.level self.now.path
+            self.now.other first second }
         ensures small { result ≤ 2 ^ 49 }
     {
         let counts = pair_counts(
@@ -77,7 +78,8 @@ impl<'a> Edge<'a> {
     /// The tally of choices that are so far apart.
     fn tally_apart(&self, same: bool, distance: u32) -> u64
         requires { IsInstance self.now.instance.now }
-        ensures { result ≡ tally_apart self.now.instance.now self.now.level self.now.path self.now.other same distance }
+        ensures { result ≡ tally_apart self.now.instance.now self.now.level self.now.path
+            self.now.other same distance }
     {
         self.tally(near(), far(same, distance))
     }
@@ -87,7 +89,8 @@ impl<'a> Edge<'a> {
         requires { IsInstance self.now.instance.now }
         ensures above { distance < result.reach }
         ensures within { result.reach ≤ NO_REACH }
-        ensures tallies { IsCell self.now.instance.now self.now.level self.now.path self.now.other distance result }
+        ensures tallies { IsCell self.now.instance.now self.now.level self.now.path self.now.other
+            distance result }
     {
         Cell {
             reach: next_reach(self.instance, self.positions, distance),

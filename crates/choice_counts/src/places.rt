@@ -38,8 +38,8 @@ fn on_from(cells: &[Cell], from: usize, distance: u64) -> usize
     place
 }
 
-/// The place of the cell that has the tallies of a distance. It is looked for from another place on, and found at once where
-/// that one is near.
+/// The place of the cell that has the tallies of a distance. It is looked for from another place
+/// on, and found at once where that one is near.
 fn place_of(cells: &[Cell], from: usize, distance: u64) -> usize
     requires whole { AreWhole cells.now }
     requires distance { distance < NO_REACH }

@@ -2,14 +2,16 @@ ghost use Rattle.std.specs.Prelude.{◌≡◌, ◌<◌, length, slice_set, Conta
 
 use std::marker::Model;
 
-/// What a literal that clashes with a choice counts in the choice's tally, and so does a choice outside the arcs. It is
-/// more than the pairs of all records come to, so a tally below it is the sum of the pairs alone.
+/// What a literal that clashes with a choice counts in the choice's tally, and so does a choice
+/// outside the arcs. It is more than the pairs of all records come to, so a tally below it is the
+/// sum of the pairs alone.
 pub const HARD: u64 = 1 << 48;
 
 /// More than any tally.
 pub const NO_TALLY: u64 = 1 << 62;
 
-/// A tally for each choice of a path, written in place, and a mark at one of them. Contracts see the list.
+/// A tally for each choice of a path, written in place, and a mark at one of them. Contracts see
+/// the list.
 #[derive(Debug, Drop)]
 pub struct Tallies {
     tallies: Vec<u64>,

@@ -117,10 +117,11 @@ fn blank_table(alloc: Global, tables: &Tables) -> Result<Vec<Links>, NoMemory>
     Ok(table)
 }
 
-/// What the choices of neighbouring paths count in each other's tallies at a level. Contracts see the instance and the level.
+/// What the choices of neighbouring paths count in each other's tallies at a level. Contracts see
+/// the instance and the level.
 ///
-/// It takes at most 24 bytes for each of the cells of two paths, which are at most 12 a record and 32 in all, and 64 bytes of
-/// hints, seen from both of the paths.
+/// It takes at most 24 bytes for each of the cells of two paths, which are at most 12 a record and
+/// 32 in all, and 64 bytes of hints, seen from both of the paths.
 #[derive(Debug, Drop)]
 pub struct TallyTable<'a> {
     tables: &'a Tables<'a>,
@@ -137,12 +138,17 @@ impl<'a> Model for TallyTable<'a> {
 
     ghost view = { λ t. record { instance = t.tables.now; level = t.level } };
 
-    ghost invariant = { λ t. (t.level ≤ MAX_LEVELS) × ArePairCells t.tables.now t.level t.table.items };
+    ghost invariant = { λ t. (t.level ≤ MAX_LEVELS)
+        × ArePairCells t.tables.now t.level t.table.items };
 }
 
 impl<'a> TallyTable<'a> {
     /// The tallies of a level. No other call takes memory.
-    pub fn new(alloc: Global, tables: &'a Tables<'a>, level: u32) -> Result<TallyTable<'a>, NoMemory>
+    pub fn new(
+        alloc: Global,
+        tables: &'a Tables<'a>,
+        level: u32,
+    ) -> Result<TallyTable<'a>, NoMemory>
         requires instance { IsInstance tables.now }
         requires level { level ≤ MAX_LEVELS }
         ensures { IfOk result (λ tallies. tallies ≡ tallies_at tables.now level) }
@@ -156,8 +162,8 @@ impl<'a> TallyTable<'a> {
         })
     }
 
-    /// Tells the tallies of another level from now on. It costs at most 128 times the records, and less where few distances
-    /// differ.
+    /// Tells the tallies of another level from now on. It costs at most 128 times the records, and
+    /// less where few distances differ.
     pub fn keep_level(&mut self, level: u32)
         requires instance { IsInstance self.old.instance }
         requires level { level ≤ MAX_LEVELS }
@@ -167,11 +173,13 @@ impl<'a> TallyTable<'a> {
         self.level = level;
     }
 
-    /// The tallies of a path's choices and of those of its neighbour of a place among its neighbours.
+    /// The tallies of a path's choices and of those of its neighbour of a place among its
+    /// neighbours.
     pub fn link(&self, path: u16, place: usize) -> &PairCells
         requires path { path < length self.now.instance.paths }
         requires place { place < length (neighbours_of self.now.instance path) }
-        ensures { IsPairCells self.now.instance self.now.level path (slice_index (neighbours_of self.now.instance path) place) result.now }
+        ensures { IsPairCells self.now.instance self.now.level path
+            (slice_index (neighbours_of self.now.instance path) place) result.now }
     {
         &self.table[path as usize].links[place]
     }

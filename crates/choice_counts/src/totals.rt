@@ -3,8 +3,8 @@ ghost use Rattle.choice_counts.specs.Tallies.{least_part, stuck_part};
 
 use crate::HARD;
 
-/// What is counted for the paths without a literal: how many of them have no choice left, and the sum of the least tallies
-/// of the others.
+/// What is counted for the paths without a literal: how many of them have no choice left, and the
+/// sum of the least tallies of the others.
 #[derive(Clone, Copy, Debug, PartialEq, Eq)]
 pub struct OpenPaths {
     pub stuck: u32,
@@ -15,9 +15,11 @@ pub struct OpenPaths {
 #[derive(Clone, Copy, Debug, PartialEq, Eq)]
 pub struct Totals {
     pub open_paths: OpenPaths,
-    /// How many literals clash with each literal, all these numbers added, and 2 more for each that is outside the arcs.
+    /// How many literals clash with each literal, all these numbers added, and 2 more for each that
+    /// is outside the arcs.
     pub conflicts: u64,
-    /// What each literal adds against all others, all these sums added: twice the sum of the pairs between them.
+    /// What each literal adds against all others, all these sums added: twice the sum of the pairs
+    /// between them.
     pub twice_inside: u64,
 }
 

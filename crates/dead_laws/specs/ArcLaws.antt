@@ -11,9 +11,13 @@ pub record IsArcs (instance : Instance) (level : ℕ) (family : Literal → Bool
   pub members : (a : Literal) → IsTrue (family a) ↔ InArc instance level a
 
 abbrev pub ArcsAreSupported : Type 0
-ArcsAreSupported = (instance : Instance) (level : ℕ) → IsInstance instance → (family : Literal → Bool) × IsArcs instance level family
+ArcsAreSupported =
+    (instance : Instance) (level : ℕ) → IsInstance instance → (family : Literal → Bool)
+    × IsArcs instance level family
 
 -- Every supported family lies within them.
 abbrev pub ArcsHaveEach : Type 0
-ArcsHaveEach = (instance : Instance) (level : ℕ) (family : Literal → Bool) → IsSupported instance level family →
+ArcsHaveEach =
+    (instance : Instance) (level : ℕ) (family : Literal → Bool) →
+    IsSupported instance level family →
     (a : Literal) → IsTrue (family a) → InArc instance level a

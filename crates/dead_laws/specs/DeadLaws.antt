@@ -14,22 +14,27 @@ use Rattle.dead_laws.specs.ArcLaws.{IsArcs}
 use Rattle.fapp_model.specs.search.Partials.{HasAll}
 use Rattle.fapp_model.specs.Triples.{IsAtMost}
 
--- What is judged dead is implied, whatever test stands for outside, where each choice that passes it is implied with
--- the literals.
+-- What is judged dead is implied, whatever test stands for outside, where each choice that passes
+-- it is implied with the literals.
 abbrev pub JudgedDeadIsImplied : Type 0
-JudgedDeadIsImplied = (excluded : Literal → Bool) (instance : Instance) (t : Triple) (literals : List Literal) → IsInstance instance →
-    IsTagOf instance t → IsPartial instance literals → RulesOut instance t literals (λ a. IsTrue (excluded a)) →
+JudgedDeadIsImplied =
+    (excluded : Literal → Bool) (instance : Instance) (t : Triple) (literals : List Literal) →
+    IsInstance instance →
+    IsTagOf instance t → IsPartial instance literals →
+    RulesOut instance t literals (λ a. IsTrue (excluded a)) →
     DeadBy (λ a. IsTrue (excluded a)) instance t literals → Implied instance t literals
 
 -- What is dead is implied.
 abbrev pub DeadIsImplied : Type 0
 DeadIsImplied = (instance : Instance) (t : Triple) (literals : List Literal) → IsInstance instance →
-    IsTagOf instance t → IsPartial instance literals → Dead instance t literals → Implied instance t literals
+    IsTagOf instance t → IsPartial instance literals → Dead instance t literals →
+    Implied instance t literals
 
--- What is judged dead with the choices outside the arcs, and with others that pass a test, is implied, where each
--- choice that passes the test is implied with the literals.
+-- What is judged dead with the choices outside the arcs, and with others that pass a test, is
+-- implied, where each choice that passes the test is implied with the literals.
 abbrev pub DeadByArcsAndTestIsImplied : Type 0
-DeadByArcsAndTestIsImplied = (excluded : Literal → Bool) (instance : Instance) (t : Triple) (literals : List Literal) →
+DeadByArcsAndTestIsImplied =
+    (excluded : Literal → Bool) (instance : Instance) (t : Triple) (literals : List Literal) →
     IsInstance instance → IsTagOf instance t → IsPartial instance literals →
     RulesOut instance t literals (λ a. IsTrue (excluded a)) →
     DeadBy (λ a. OutsideArc instance (mode_level t) a ⊎ IsTrue (excluded a)) instance t literals →
@@ -37,28 +42,35 @@ DeadByArcsAndTestIsImplied = (excluded : Literal → Bool) (instance : Instance)
 
 -- Where literals are dead at the top tag, no assignment that has them meets the imperative records.
 abbrev pub NoneWhereDeadAtTop : Type 0
-NoneWhereDeadAtTop = (instance : Instance) (plan : List ℕ) (literals : List Literal) → IsInstance instance →
-    IsPartial instance literals → Dead instance (top_tag instance) literals → IsFeasible instance plan →
+NoneWhereDeadAtTop =
+    (instance : Instance) (plan : List ℕ) (literals : List Literal) → IsInstance instance →
+    IsPartial instance literals → Dead instance (top_tag instance) literals →
+    IsFeasible instance plan →
     Extends plan literals → ⊥
 
 -- What is dead at a tag is dead at each lower one.
 abbrev pub DeadAtLowerTags : Type 0
-DeadAtLowerTags = (instance : Instance) (t u : Triple) (literals : List Literal) → IsInstance instance →
-    IsTagOf instance t → IsTagOf instance u → IsAtMost u t → Dead instance t literals → Dead instance u literals
+DeadAtLowerTags =
+    (instance : Instance) (t u : Triple) (literals : List Literal) → IsInstance instance →
+    IsTagOf instance t → IsTagOf instance u → IsAtMost u t → Dead instance t literals →
+    Dead instance u literals
 
 -- a literal for each path
 abbrev pub NamesAll : Instance → List Literal → Type 0
-NamesAll instance literals = (path : ℕ) → path < length instance.paths → IsTrue (names literals path)
+NamesAll instance literals =
+    (path : ℕ) → path < length instance.paths → IsTrue (names literals path)
 
 -- For a literal of each path, dead and implied are one.
 abbrev pub FullDeadIsImplied : Type 0
-FullDeadIsImplied = (instance : Instance) (t : Triple) (literals : List Literal) → IsInstance instance →
+FullDeadIsImplied =
+    (instance : Instance) (t : Triple) (literals : List Literal) → IsInstance instance →
     IsTagOf instance t → IsPartial instance literals → NamesAll instance literals →
     Dead instance t literals ↔ Implied instance t literals
 
 -- What is dead for some literals is dead for more.
 abbrev pub DeadInExtensions : Type 0
-DeadInExtensions = (instance : Instance) (t : Triple) (literals more : List Literal) → IsInstance instance →
+DeadInExtensions =
+    (instance : Instance) (t : Triple) (literals more : List Literal) → IsInstance instance →
     IsPartial instance literals → IsPartial instance more → HasAll more literals →
     Dead instance t literals → Dead instance t more
 
@@ -75,4 +87,5 @@ DeadByTest = (instance : Instance) (t : Triple) (literals : List Literal) (arc :
 -- A partial assignment is dead, or it isn't.
 abbrev pub DeadIsDecided : Type 0
 DeadIsDecided = (instance : Instance) (t : Triple) (literals : List Literal) → IsInstance instance →
-    IsTagOf instance t → IsPartial instance literals → Dead instance t literals ⊎ (Dead instance t literals → ⊥)
+    IsTagOf instance t → IsPartial instance literals → Dead instance t literals
+    ⊎ (Dead instance t literals → ⊥)

@@ -17,8 +17,8 @@ instance_with paths records = record { paths = paths; records = records }
 abbrev pub at_each_level : ℕ → List ℕ
 at_each_level distance = replicate MAX_LEVELS distance
 
--- Two paths of one frequency, the second with its polarization free. Equal polarizations are demanded, although they are
--- too close at each level.
+-- Two paths of one frequency, the second with its polarization free. Equal polarizations are
+-- demanded, although they are too close at each level.
 unfoldable pub tied_pair : Instance
 tied_pair = instance_with
     (path_with 1 (10 ∷ []) (pos 1) ∷ path_with 2 (10 ∷ []) (pos 0) ∷ [])
@@ -27,5 +27,6 @@ tied_pair = instance_with
 -- three paths of two frequencies each, no two of which may have one at any level
 unfoldable pub three_alike : Instance
 three_alike = instance_with
-    (path_with 1 (10 ∷ 20 ∷ []) (pos 1) ∷ path_with 2 (10 ∷ 20 ∷ []) (pos 1) ∷ path_with 3 (10 ∷ 20 ∷ []) (pos 1) ∷ [])
+    (path_with 1 (10 ∷ 20 ∷ []) (pos 1) ∷ path_with 2 (10 ∷ 20 ∷ []) (pos 1)
+    ∷ path_with 3 (10 ∷ 20 ∷ []) (pos 1) ∷ [])
     (Same 0 1 (at_each_level 10) ∷ Same 0 2 (at_each_level 10) ∷ Same 1 2 (at_each_level 10) ∷ [])

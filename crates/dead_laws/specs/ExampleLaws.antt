@@ -34,7 +34,8 @@ pub record TiedPairArcs : Type 0 where
 
 -- Up to level 10 the first path has no choice in the arcs, and at level 11 each path has one.
 pub record TiedPairRoots : Type 0 where
-  pub none : (level : ℕ) → level ≤ 10 → (index : ℕ) → index < count_at tied_pair 0 → OutsideArc tied_pair level (literal 0 index)
+  pub none : (level : ℕ) → level ≤ 10 → (index : ℕ) → index < count_at tied_pair 0 →
+      OutsideArc tied_pair level (literal 0 index)
   pub some : (path : ℕ) → path < 2 → (index : ℕ) × InArc tied_pair 11 (literal path index)
 
 -- ---- three paths of which two have one frequency
@@ -47,7 +48,8 @@ OneChoiceLives = Dead three_alike (tag 11 0 0) (literal 0 0 ∷ []) → ⊥
 abbrev pub unlike : List Literal
 unlike = literal 0 0 ∷ literal 1 1 ∷ []
 
--- They leave the third path nothing at level 10. At level 11 they leave it one record that is bad at all eleven levels.
+-- They leave the third path nothing at level 10. At level 11 they leave it one record that is bad
+-- at all eleven levels.
 pub record UnlikeTags : Type 0 where
   pub level : Dead three_alike (tag 11 0 0) unlike
   pub limit : Dead three_alike (tag 11 1 10) unlike
@@ -60,7 +62,8 @@ eleven_levels = record { v = 1; s = 10 }
 -- The third path adds that much, and the two nothing.
 pub record UnlikeSum : Type 0 where
   pub least : IsLeastAdded (OutsideArc three_alike 11) three_alike 11 unlike 2 eleven_levels
-  pub sum : (least : ℕ → Pair) → IsLeastAdded (OutsideArc three_alike 11) three_alike 11 unlike 2 (least 2) →
+  pub sum : (least : ℕ → Pair) → IsLeastAdded (OutsideArc three_alike 11) three_alike 11 unlike 2
+      (least 2) →
       pair_with three_alike 11 unlike least ≡ eleven_levels
 
 -- a choice of each of three paths
@@ -74,4 +77,6 @@ pub record DiesBelowLast (prefix : List Literal) : Type 0 where
 
 -- However the three choose, two of them have one frequency.
 abbrev pub EachThreeDie : Type 0
-EachThreeDie = (first second third : ℕ) → first < 2 → second < 2 → third < 2 → DiesBelowLast (three_choices first second third)
+EachThreeDie =
+    (first second third : ℕ) → first < 2 → second < 2 → third < 2 →
+    DiesBelowLast (three_choices first second third)

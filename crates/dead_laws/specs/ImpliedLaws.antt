@@ -17,21 +17,30 @@ ImpliedAtLowerTags = (instance : Instance) (t u : Triple) (literals : List Liter
 
 -- What is implied at two tags is implied at the greater of them.
 abbrev pub ImpliedAtGreater : Type 0
-ImpliedAtGreater = (instance : Instance) (t u greater : Triple) (literals : List Literal) → (greater ≡ t) ⊎ (greater ≡ u) →
+ImpliedAtGreater =
+    (instance : Instance) (t u greater : Triple) (literals : List Literal) → (greater ≡ t)
+    ⊎ (greater ≡ u) →
     Implied instance t literals → Implied instance u literals → Implied instance greater literals
 
 -- What is implied for some literals is implied for more.
 abbrev pub ImpliedInExtensions : Type 0
-ImpliedInExtensions = (instance : Instance) (t : Triple) (literals more : List Literal) → HasAll more literals →
+ImpliedInExtensions =
+    (instance : Instance) (t : Triple) (literals more : List Literal) → HasAll more literals →
     Implied instance t literals → Implied instance t more
 
 -- What is implied with each choice of a path is implied without.
 abbrev pub ImpliedByBranch : Type 0
-ImpliedByBranch = (instance : Instance) (t : Triple) (literals : List Literal) (path : ℕ) → path < length instance.paths →
-    ((index : ℕ) → index < count_at instance path → Implied instance t (literal path index ∷ literals)) →
+ImpliedByBranch =
+    (instance : Instance) (t : Triple) (literals : List Literal) (path : ℕ) →
+    path < length instance.paths →
+    ((index : ℕ) → index < count_at instance path →
+    Implied instance t (literal path index ∷ literals)) →
     Implied instance t literals
 
--- Where literals are implied at the top tag, no assignment that has them meets the imperative records.
+-- Where literals are implied at the top tag, no assignment that has them meets the imperative
+-- records.
 abbrev pub NoneAtTop : Type 0
-NoneAtTop = (instance : Instance) (plan : List ℕ) (literals : List Literal) → Implied instance (top_tag instance) literals →
+NoneAtTop =
+    (instance : Instance) (plan : List ℕ) (literals : List Literal) →
+    Implied instance (top_tag instance) literals →
     IsFeasible instance plan → Extends plan literals → ⊥

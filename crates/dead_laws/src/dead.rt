@@ -1,12 +1,13 @@
 ghost use Rattle.dead_laws.specs.DeadLaws.{DeadAtLowerTags, DeadByArcsAndTestIsImplied, DeadByTest, DeadInExtensions, DeadIsDecided, DeadIsImplied, FullDeadIsImplied, JudgedDeadIsImplied, NoneWhereDeadAtTop};
 
-/// What is judged dead is implied, whatever test stands for outside, where each choice that passes it is implied.
+/// What is judged dead is implied, whatever test stands for outside, where each choice that passes
+/// it is implied.
 pub fn judged_dead_is_implied()
     ensures { JudgedDeadIsImplied }
 {}
 
-/// What is judged dead with the choices outside the arcs and those that pass a test is implied, where each choice that
-/// passes the test is implied.
+/// What is judged dead with the choices outside the arcs and those that pass a test is implied,
+/// where each choice that passes the test is implied.
 pub fn dead_by_arcs_and_test_is_implied()
     ensures { DeadByArcsAndTestIsImplied }
 {}
@@ -16,7 +17,8 @@ pub fn dead_is_implied()
     ensures { DeadIsImplied }
 {}
 
-/// Where literals are dead at the top tag, no assignment that has them meets the imperative records.
+/// Where literals are dead at the top tag, no assignment that has them meets the imperative
+/// records.
 pub fn none_where_dead_at_top()
     ensures { NoneWhereDeadAtTop }
 {}

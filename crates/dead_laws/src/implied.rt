@@ -20,7 +20,8 @@ pub fn implied_by_branch()
     ensures { ImpliedByBranch }
 {}
 
-/// Where literals are implied at the top tag, no assignment that has them meets the imperative records.
+/// Where literals are implied at the top tag, no assignment that has them meets the imperative
+/// records.
 pub fn none_at_top()
     ensures { NoneAtTop }
 {}

@@ -1,5 +1,5 @@
-//! Laws over the definitions of tags, arcs and dead partial assignments. Each stands as the contract of a function
-//! that does nothing; the lemmas that they rest on are in `proofs/`.
+//! Laws over the definitions of tags, arcs and dead partial assignments. Each stands as the
+//! contract of a function that does nothing; the lemmas that they rest on are in `proofs/`.
 #![tactic(auto)]
 
 mod arcs;

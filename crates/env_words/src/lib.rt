@@ -5,8 +5,8 @@ use std::alloc::AllocError;
 use std::rt::Env;
 use std::{env, io};
 
-/// The words after the program's name. Where some word is no text, one empty word stands for all, which no program takes.
-/// `AllocError` comes where the words' copies could not be had.
+/// The words after the program's name. Where some word is no text, one empty word stands for all,
+/// which no program takes. `AllocError` comes where the words' copies could not be had.
 pub fn given_words<R: Env + AllocGlobal>(rt: &R) -> Result<Vec<String>, AllocError> {
     match words(rt) {
         Ok(words) => Ok(words),

@@ -1,5 +1,6 @@
-//! Plans a radio network, or checks an answer to one: reads it from standard input, and writes an answer with its
-//! certificate, or whether an answer is accepted, to standard output. It also makes networks.
+//! Plans a radio network, or checks an answer to one: reads it from standard input, and writes an
+//! answer with its certificate, or whether an answer is accepted, to standard output. It also makes
+//! networks.
 #![tactic(auto)]
 
 use env_words::given_words;

@@ -13,18 +13,25 @@ pub record HasLeastClearLevel (instance : Instance) (plan : List ℕ) : Type 0 w
   pub within : (cost instance plan).k ≤ levels_of instance
 
 abbrev pub CostHasLeastClearLevel : Type 0
-CostHasLeastClearLevel = (instance : Instance) (plan : List ℕ) → IsInstance instance → HasLeastClearLevel instance plan
+CostHasLeastClearLevel =
+    (instance : Instance) (plan : List ℕ) → IsInstance instance → HasLeastClearLevel instance plan
 
 -- of two plans the one with the lower level costs less
 abbrev pub LowerLevelCostsLess : Type 0
-LowerLevelCostsLess = (instance : Instance) (a b : List ℕ) → (cost instance a).k < (cost instance b).k → IsBelow (cost instance a) (cost instance b)
+LowerLevelCostsLess =
+    (instance : Instance) (a b : List ℕ) → (cost instance a).k < (cost instance b).k →
+    IsBelow (cost instance a) (cost instance b)
 
 -- fewer violations at a level, or as many and a smaller sum of them further below
 abbrev pub HasFewer : Instance → ℕ → List ℕ → List ℕ → Type 0
 HasFewer instance level a b = (violations instance a level < violations instance b level)
-    ⊎ ((violations instance a level ≡ violations instance b level) × (sum_under (violations instance a) level < sum_under (violations instance b) level))
+    ⊎ ((violations instance a level ≡ violations instance b level)
+    × (sum_under (violations instance a) level < sum_under (violations instance b) level))
 
--- at one level, the violations one level below decide, and where they are as many, their sum further below
+-- at one level, the violations one level below decide, and where they are as many, their sum
+-- further below
 abbrev pub ViolationsBelowDecide : Type 0
-ViolationsBelowDecide = (instance : Instance) (a b : List ℕ) (level : ℕ) → (cost instance a).k ≡ suc level → (cost instance b).k ≡ suc level →
+ViolationsBelowDecide =
+    (instance : Instance) (a b : List ℕ) (level : ℕ) → (cost instance a).k ≡ suc level →
+    (cost instance b).k ≡ suc level →
     IsBelow (cost instance a) (cost instance b) ↔ HasFewer instance level a b

@@ -4,7 +4,8 @@ ghost use Rattle.fapp_cost.specs.PlanCost.{IsCostOf};
 
 use fapp_model::{Instance, MAX_LEVELS, Triple, add_violations, chosen, levels, triple_of_counts};
 
-/// The cost of a plan, which has one choice index for each path. `None` where it breaks an imperative record.
+/// The cost of a plan, which has one choice index for each path. `None` where it breaks an
+/// imperative record.
 pub fn cost(instance: &Instance, plan: &[u16]) -> Option<Triple>
     requires instance { IsInstance instance.now }
     requires plan { IsAssignment instance.now plan.now }

@@ -3,7 +3,8 @@
 use std::sync::atomic::{AtomicBool, Ordering};
 use std::thread;
 
-/// What a worker passes before and after each job. Both calls return, and nothing of an answer depends on them.
+/// What a worker passes before and after each job. Both calls return, and nothing of an answer
+/// depends on them.
 pub trait Gate: Sync {
     /// Called before a job.
     fn enter(&self, job: u32);
@@ -22,7 +23,8 @@ impl Gate for OpenGate {
     fn leave(&self, _job: u32) {}
 }
 
-/// Waits until the flag is set, for so many turns at most, each a look and a yield. Answers whether it was.
+/// Waits until the flag is set, for so many turns at most, each a look and a yield. Answers whether
+/// it was.
 pub(crate) fn waits_for(flag: &AtomicBool, turns: u64) -> bool {
     for _ in 0..turns {
         if flag.load(Ordering::SeqCst) {

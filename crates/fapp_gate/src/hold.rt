@@ -3,8 +3,8 @@
 use crate::gate::{Gate, waits_for};
 use std::sync::atomic::{AtomicBool, Ordering};
 
-/// Holds each of two jobs until the other was entered, for so many turns at most. A job was entered once `enter` was
-/// called with it, whether that call has returned or not.
+/// Holds each of two jobs until the other was entered, for so many turns at most. A job was entered
+/// once `enter` was called with it, whether that call has returned or not.
 #[derive(Drop)]
 pub struct HoldGate {
     a: u32,

@@ -3,8 +3,9 @@
 use crate::gate::{Gate, waits_for};
 use std::sync::atomic::{AtomicBool, Ordering};
 
-/// Holds the first of two jobs until the second was entered, and the second until the first was left, each for so many
-/// turns at most. A job was entered once `enter` was called with it, and left once `leave` was.
+/// Holds the first of two jobs until the second was entered, and the second until the first was
+/// left, each for so many turns at most. A job was entered once `enter` was called with it, and
+/// left once `leave` was.
 #[derive(Drop)]
 pub struct OrderGate {
     a: u32,

@@ -13,6 +13,7 @@ spaced numbers = flat_map (λ n. 32 ∷ decimal n) numbers
 abbrev pub numbered : List ℕ → List ℕ → List (List ℕ)
 numbered word numbers = word ∷ map decimal numbers
 
--- a number for each of the eleven levels: the first, and from level to level one that is lower by a step
+-- a number for each of the eleven levels: the first, and from level to level one that is lower by a
+-- step
 unfoldable pub falling : ℕ → ℕ → List ℕ
 falling first step = map (λ level. first - step * level) (range_with_len 0 11)

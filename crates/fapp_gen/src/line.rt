@@ -19,7 +19,8 @@ fn push_numbers(out: &mut Vec<u8>, numbers: &[u64]) -> Result<(), NoMemory>
 
 /// Appends a line of a word and numbers.
 pub(crate) fn push_line(out: &mut Vec<u8>, word: &[u8], numbers: &[u64]) -> Result<(), NoMemory>
-    ensures { OnOk result (out.new.items ≡ out.old.items ++ line_text (numbered word.now numbers.now)) }
+    ensures { OnOk result (out.new.items ≡ out.old.items
+        ++ line_text (numbered word.now numbers.now)) }
 {
     out.extend_from_slice(word)?;
     push_numbers(out, numbers)?;

@@ -15,9 +15,9 @@ pub const MAX_SEED: u32 = 1_000_000_000;
 /// The most paths of a network that is made.
 pub const MAX_GENERATED: u32 = 2_000;
 
-/// The text of the network of 2 to `MAX_GENERATED` paths that a number makes. The first two paths choose among ten
-/// frequencies and two polarizations; each further path is fixed by one of the two and disturbed by the other.
-/// `NoMemory` comes where the text's room could not be had.
+/// The text of the network of 2 to `MAX_GENERATED` paths that a number makes. The first two paths
+/// choose among ten frequencies and two polarizations; each further path is fixed by one of the two
+/// and disturbed by the other. `NoMemory` comes where the text's room could not be had.
 pub fn generate(alloc: Global, number: u32, paths: u32) -> Result<Vec<u8>, NoMemory>
     requires number { number ≤ MAX_SEED }
     requires two { 2 ≤ paths }
@@ -36,7 +36,8 @@ pub fn generate(alloc: Global, number: u32, paths: u32) -> Result<Vec<u8>, NoMem
 
 fn push_domain(out: &mut Vec<u8>, domain: u64, first: u64) -> Result<(), NoMemory>
     requires { first ≤ 3000 }
-    ensures { OnOk result (out.new.items ≡ out.old.items ++ flat_map line_text (domain_lines domain first)) }
+    ensures { OnOk result (out.new.items ≡ out.old.items
+        ++ flat_map line_text (domain_lines domain first)) }
 {
     for place in 0..10 {
         push_line(out, b"DM", &[domain, first + 10 * place])?;
@@ -48,7 +49,8 @@ fn push_paths(out: &mut Vec<u8>, paths: u64) -> Result<(), NoMemory>
     requires two { 2 ≤ paths }
     requires most { paths ≤ MAX_GENERATED }
     ensures { OnOk result (out.new.items ≡ out.old.items
-        ++ flat_map line_text (first_lines ++ map (λ path. path_line path 2) (range_with_len 3 (paths - 2)))) }
+        ++ flat_map line_text (first_lines ++ map (λ path. path_line path 2)
+        (range_with_len 3 (paths - 2)))) }
 {
     push_path(out, 1, 1)?;
     push_path(out, 2, 1)?;
@@ -91,7 +93,8 @@ fn push_records(out: &mut Vec<u8>, number: u64, paths: u64) -> Result<(), NoMemo
 fn push_path_records(out: &mut Vec<u8>, number: u64, path: u64) -> Result<(), NoMemory>
     requires number { number ≤ MAX_SEED }
     requires path { path ≤ MAX_GENERATED }
-    ensures { OnOk result (out.new.items ≡ out.old.items ++ flat_map line_text (record_lines number path)) }
+    ensures { OnOk result (out.new.items ≡ out.old.items
+        ++ flat_map line_text (record_lines number path)) }
 {
     let offset = 2000 + 10 * ((number + path) % 4);
     let stretch = 10 * (number * path % 10);

@@ -1,4 +1,5 @@
--- What a call does to the bytes that a source has left or that a sink took. Where they are not told, nothing is said.
+-- What a call does to the bytes that a source has left or that a sink took. Where they are not
+-- told, nothing is said.
 use Rattle.std.specs.Prelude.{◌≡◌, ◌≤◌, ℕ, List, ◌++◌, length, drop, Option, Some, IfSome}
 
 -- the bytes that were told are told still, and are the same

@@ -6,15 +6,16 @@ use Rattle.fapp_io.specs.Counts.{next_count}
 use Rattle.fapp_io.specs.Moments.{SourceMoment, SinkMoment}
 use Rattle.fapp_io.specs.Supply.{Supply, FedBy}
 
--- what a source gives from, which of its calls fail, how many there were, and how many of them failed
+-- what a source gives from, which of its calls fail, how many there were, and how many of them
+-- failed
 pub record MemSourceView : Type 0 where
   pub supply : Supply
   pub fails : List ℕ
   pub calls : ℕ
   pub faults : ℕ
 
--- the bytes that a sink took, how many it has room for in all, how many it takes at once, which of its calls fail, how
--- many there were, and how many of them failed
+-- the bytes that a sink took, how many it has room for in all, how many it takes at once, which of
+-- its calls fail, how many there were, and how many of them failed
 pub record MemSinkView : Type 0 where
   pub taken : List ℕ
   pub room : ℕ
@@ -35,7 +36,8 @@ sink_moment sink = record { taken = Some sink.taken; faults = sink.faults }
 abbrev pub room_left : MemSinkView → ℕ
 room_left sink = sink.room - length sink.taken
 
--- A call whose number is in the list fails, and changes nothing but the counts. Each other gives the next bytes.
+-- A call whose number is in the list fails, and changes nothing but the counts. Each other gives
+-- the next bytes.
 abbrev pub ReadsByNumber : MemSourceView → MemSourceView → List ℕ → Result ℕ Failed → Type 0
 ReadsByNumber old new room (Ok n) =
     (fails_next old.fails old.calls ≡ false) × FedBy old.supply new.supply room n
@@ -44,11 +46,13 @@ ReadsByNumber old new room (Err _) =
     (fails_next old.fails old.calls ≡ true)
     × (new ≡ record old { calls = next_count old.calls; faults = next_count old.faults })
 
--- A call whose number is in the list fails, and so does one that finds no room; it changes nothing but the counts. Each
--- other appends as many bytes as it may take at once, the piece has, and there is room for.
+-- A call whose number is in the list fails, and so does one that finds no room; it changes nothing
+-- but the counts. Each other appends as many bytes as it may take at once, the piece has, and there
+-- is room for.
 abbrev pub WritesByNumber : MemSinkView → MemSinkView → List ℕ → Result ℕ Failed → Type 0
 WritesByNumber old new piece (Ok n) =
-    (fails_next old.fails old.calls ≡ false) × (n ≡ min (min old.most (length piece)) (room_left old))
+    (fails_next old.fails old.calls ≡ false)
+    × (n ≡ min (min old.most (length piece)) (room_left old))
     × (new ≡ record old { taken = old.taken ++ take n piece; calls = next_count old.calls })
 WritesByNumber old new piece (Err _) =
     ((fails_next old.fails old.calls ≡ true) ⊎ (room_left old ≡ 0))

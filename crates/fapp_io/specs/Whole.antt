@@ -19,10 +19,11 @@ DropsUpTo left left_after most = (n : ℕ) × (n ≤ most) × Drops left left_af
 
 -- a front of the piece came to the end, short of the whole
 abbrev pub GrowsByFront : Option (List ℕ) → Option (List ℕ) → List ℕ → Type 0
-GrowsByFront taken taken_after piece = (n : ℕ) × (n < length piece) × BytesGrow taken taken_after (take n piece)
+GrowsByFront taken taken_after piece =
+    (n : ℕ) × (n < length piece) × BytesGrow taken taken_after (take n piece)
 
--- `Ok` gives all that was left, at most the limit; `TooLong` took one byte more than the limit, and the others no more
--- than the limit
+-- `Ok` gives all that was left, at most the limit; `TooLong` took one byte more than the limit, and
+-- the others no more than the limit
 abbrev pub ReadsAll : SourceMoment → SourceMoment → ℕ → Result (Vec ℕ) ReadEnd → Type 0
 ReadsAll old new limit (Ok given) =
     (length given.items ≤ limit) × IsAllOf old.left new.left given.items × (old.faults ≤ new.faults)
@@ -33,8 +34,8 @@ ReadsAll old new limit (Err TooLong) =
 ReadsAll old new limit (Err NoMemory) =
     DropsUpTo old.left new.left limit × (old.faults ≤ new.faults)
 
--- `Ok` appended the piece and no more, an empty one by no call; after a fault a front of it was appended, and the
--- count of faults rose
+-- `Ok` appended the piece and no more, an empty one by no call; after a fault a front of it was
+-- appended, and the count of faults rose
 abbrev pub WritesAll : SinkMoment → SinkMoment → List ℕ → Result ⊤ WriteEnd → Type 0
 WritesAll old new piece (Ok _) =
     BytesGrow old.taken new.taken piece × (old.faults ≤ new.faults) × (piece ≡ [] → new ≡ old)

@@ -41,7 +41,8 @@ impl Source for CleanSource {
 
     fn read(&mut self, buf: &mut [u8]) -> Result<usize, Failed>
         requires { 0 < length buf.old }
-        ensures reads { ReadsBytes (clean_source self.old.left) (clean_source self.new.left) buf.new result }
+        ensures reads { ReadsBytes (clean_source self.old.left) (clean_source self.new.left) buf.new
+            result }
         ensures never_fails { IsOk result }
         ensures fed { IfOk result (FedBy self.old self.new buf.new) }
     {

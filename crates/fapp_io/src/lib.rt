@@ -1,4 +1,5 @@
-//! Sources and sinks of bytes, whose faults are counted, and the calls that read and write the whole.
+//! Sources and sinks of bytes, whose faults are counted, and the calls that read and write the
+//! whole.
 #![tactic(auto)]
 
 mod calls;

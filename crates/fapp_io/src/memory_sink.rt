@@ -36,12 +36,13 @@ impl Model for MemSink {
     } };
 
     ghost invariant = { λ sink.
-        (vec_len sink.taken ≤ sink.room) × (sink.room ≤ vec_capacity sink.taken) × (1 ≤ sink.most) };
+        (vec_len sink.taken ≤ sink.room) × (sink.room ≤ vec_capacity sink.taken)
+        × (1 ≤ sink.most) };
 }
 
 impl MemSink {
-    /// Has room for `room` bytes, and takes at most `most` in a call. The calls numbered in `fails` fail, the first
-    /// being number 1, and so do those that find no room. All memory is taken here.
+    /// Has room for `room` bytes, and takes at most `most` in a call. The calls numbered in `fails`
+    /// fail, the first being number 1, and so do those that find no room. All memory is taken here.
     pub fn new(alloc: Global, room: usize, most: usize, fails: Vec<u64>) -> Result<Self, NoMemory>
         requires { 1 ≤ most }
         ensures { IfOk result (λ sink. sink ≡ record {

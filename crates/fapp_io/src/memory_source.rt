@@ -30,7 +30,8 @@ impl Model for MemSource {
 }
 
 impl MemSource {
-    /// Gives these bytes, at most `most` in a call. The calls numbered in `fails` fail, the first being number 1.
+    /// Gives these bytes, at most `most` in a call. The calls numbered in `fails` fail, the first
+    /// being number 1.
     pub fn new(bytes: Vec<u8>, most: usize, fails: Vec<u64>) -> Self
         requires { 1 ≤ most }
         ensures supply { result.supply ≡ record { left = bytes.items; most = most } }
@@ -51,7 +52,8 @@ impl Source for MemSource {
 
     fn read(&mut self, buf: &mut [u8]) -> Result<usize, Failed>
         requires { 0 < length buf.old }
-        ensures reads { ReadsBytes (source_moment self.old) (source_moment self.new) buf.new result }
+        ensures reads { ReadsBytes (source_moment self.old) (source_moment self.new) buf.new
+            result }
         ensures by_number { ReadsByNumber self.old self.new buf.new result }
     {
         if self.calls.next_fails() {

@@ -7,12 +7,12 @@ use crate::source::Failed;
 
 /// Takes bytes, piece by piece, and counts its faults.
 pub trait Sink {
-    /// The bytes that it took, or `None` where the sink does not tell them, and how often it has failed. This count
-    /// never falls.
+    /// The bytes that it took, or `None` where the sink does not tell them, and how often it has
+    /// failed. This count never falls.
     ghost moment: { Self → SinkMoment };
 
-    /// Appends bytes from the front of the piece, at least one, and answers how many. A call that failed appended
-    /// nothing.
+    /// Appends bytes from the front of the piece, at least one, and answers how many. A call that
+    /// failed appended nothing.
     fn write(&mut self, piece: &[u8]) -> Result<usize, Failed>
         requires { 0 < length piece.now }
         ensures { Writes (moment self.old) (moment self.new) piece.now result };

@@ -12,12 +12,12 @@ pub struct Failed;
 
 /// Gives bytes, piece by piece, and counts its faults.
 pub trait Source {
-    /// The bytes that are left, or `None` where the source does not tell them, and how often it has failed. This count
-    /// never falls.
+    /// The bytes that are left, or `None` where the source does not tell them, and how often it has
+    /// failed. This count never falls.
     ghost moment: { Self → SourceMoment };
 
-    /// Puts the next bytes into the front of the buffer, and answers how many. Where the source tells its bytes,
-    /// it is none exactly at the end. A call that failed took nothing.
+    /// Puts the next bytes into the front of the buffer, and answers how many. Where the source
+    /// tells its bytes, it is none exactly at the end. A call that failed took nothing.
     fn read(&mut self, buf: &mut [u8]) -> Result<usize, Failed>
         requires { 0 < length buf.old }
         ensures { ReadsBytes (moment self.old) (moment self.new) buf.new result };

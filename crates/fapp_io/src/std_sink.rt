@@ -8,8 +8,8 @@ use crate::source::Failed;
 use std::io::Write;
 use std::marker::Model;
 
-/// A sink over a writer. It counts each error of the writer, and each write that took nothing, up to the last value of
-/// its counter.
+/// A sink over a writer. It counts each error of the writer, and each write that took nothing, up
+/// to the last value of its counter.
 #[derive(Drop)]
 pub struct StdSink<W: Write> {
     writer: W,

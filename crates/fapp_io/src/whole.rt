@@ -77,8 +77,8 @@ impl From<Failed> for WriteEnd {
     }
 }
 
-/// All the bytes that the source has left, if they are at most `limit`. Else it takes one byte more than that, and
-/// answers `TooLong`. After each error what was taken is a front of what was left.
+/// All the bytes that the source has left, if they are at most `limit`. Else it takes one byte more
+/// than that, and answers `TooLong`. After each error what was taken is a front of what was left.
 pub fn read_all<S: Source>(alloc: Global, source: &mut S, limit: usize) -> Result<Vec<u8>, ReadEnd>
     requires { limit < usize.MAX }
     ensures { ReadsAll (S.moment source.old) (S.moment source.new) limit result }
@@ -98,7 +98,8 @@ pub fn read_all<S: Source>(alloc: Global, source: &mut S, limit: usize) -> Resul
     }
 }
 
-/// Writes the whole piece, or fails after a front of it, short of the whole. An empty piece is written by no call.
+/// Writes the whole piece, or fails after a front of it, short of the whole. An empty piece is
+/// written by no call.
 pub fn write_all<K: Sink>(sink: &mut K, piece: &[u8]) -> Result<(), WriteEnd>
     ensures { WritesAll (K.moment sink.old) (K.moment sink.new) piece.now result }
 {

@@ -23,7 +23,8 @@ count_at instance position = length (choices (path_at instance position))
 -- one choice index for each path, below the path's number of choices
 pub record IsAssignment (instance : Instance) (plan : List ℕ) : Type 0 where
   pub whole : length plan ≡ length instance.paths
-  pub in_range : (position : ℕ) → position < length instance.paths → slice_index plan position < count_at instance position
+  pub in_range : (position : ℕ) → position < length instance.paths →
+      slice_index plan position < count_at instance position
 
 -- what a plan chooses at a position
 abbrev pub chosen : Instance → List ℕ → ℕ → Choice
@@ -31,7 +32,8 @@ chosen instance plan position = choice (path_at instance position) (slice_index 
 
 -- a plan breaks an imperative record
 abbrev pub breaks : Instance → List ℕ → Record → Bool
-breaks instance plan r = is_broken r (chosen instance plan (first_path r)) (chosen instance plan (second_path r))
+breaks instance plan r =
+    is_broken r (chosen instance plan (first_path r)) (chosen instance plan (second_path r))
 
 -- a plan breaks no imperative record
 abbrev pub meets : Instance → List ℕ → Bool
@@ -39,4 +41,5 @@ meets instance plan = list_all (λ r. not (breaks instance plan r)) instance.rec
 
 -- a plan makes a compatibility record bad at a level
 abbrev pub violates : Instance → List ℕ → ℕ → Record → Bool
-violates instance plan level r = is_bad level r (chosen instance plan (first_path r)) (chosen instance plan (second_path r))
+violates instance plan level r =
+    is_bad level r (chosen instance plan (first_path r)) (chosen instance plan (second_path r))

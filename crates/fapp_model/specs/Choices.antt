@@ -14,7 +14,8 @@ polarizations polarization = polarization ∷ []
 
 -- the choices at one frequency
 abbrev pub choices_with : ℤ → ℕ → List Choice
-choices_with polarization frequency = map (λ p. record { freq = frequency; pol = p }) (polarizations polarization)
+choices_with polarization frequency =
+    map (λ p. record { freq = frequency; pol = p }) (polarizations polarization)
 
 -- the choices of a path: its frequencies as they ascend, and at each one -1 before 1
 abbrev pub choices : Path → List Choice

@@ -19,8 +19,8 @@ count_below count (suc level) = count level
 unfoldable pub sum_under : (ℕ → ℕ) → ℕ → ℕ
 sum_under count n = sum_by count (range_with_len 0 n)
 
--- the cost by the number of violations at each level: the least level k without one, how many there are one level
--- below k, and their sum further below
+-- the cost by the number of violations at each level: the least level k without one, how many there
+-- are one level below k, and their sum further below
 unfoldable pub cost_by : ℕ → (ℕ → ℕ) → Triple
 cost_by levels count = let k = clear_level levels count in
     record { k = k; v = count_below count k; s = sum_under count (k - 1) }

@@ -17,7 +17,8 @@ IsNumber n = n ≤ MAX_NUMBER
 
 -- -1, 0 or 1
 abbrev pub IsPolarization : ℤ → Type 0
-IsPolarization polarization = (polarization ≡ negsuc 0) ⊎ ((polarization ≡ pos 0) ⊎ (polarization ≡ pos 1))
+IsPolarization polarization =
+    (polarization ≡ negsuc 0) ⊎ ((polarization ≡ pos 0) ⊎ (polarization ≡ pos 1))
 
 pub record IsPath (path : Path) : Type 0 where
   pub number : IsNumber path.number
@@ -27,7 +28,8 @@ pub record IsPath (path : Path) : Type 0 where
   pub ascending : IsStrictlyIncreasing path.freqs
   pub polarization : IsPolarization path.pol
 
--- a distance for each of so many levels, none above the one before it, and 0 where there is no level
+-- a distance for each of so many levels, none above the one before it, and 0 where there is no
+-- level
 pub record AreDistances (levels : ℕ) (dist : List ℕ) : Type 0 where
   pub count : length dist ≡ MAX_LEVELS
   pub numbers : All IsNumber dist

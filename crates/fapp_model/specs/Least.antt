@@ -13,4 +13,5 @@ pub record IsFeasible (instance : Instance) (plan : List ℕ) : Type 0 where
 -- a feasible plan such that none costs less
 pub record Least (instance : Instance) (plan : List ℕ) : Type 0 where
   pub feasible : IsFeasible instance plan
-  pub least : (other : List ℕ) → IsFeasible instance other → IsBelow (cost instance other) (cost instance plan) → ⊥
+  pub least : (other : List ℕ) → IsFeasible instance other →
+      IsBelow (cost instance other) (cost instance plan) → ⊥

@@ -23,20 +23,25 @@ pub record LimitsAre : Type 0 where
   pub violations : V_SPAN ≡ 67108864
   pub sums : S_SPAN ≡ 67108864
 
--- Codes are ordered as the triples that they stand for, and so are tags and their codes; each gives the other back.
+-- Codes are ordered as the triples that they stand for, and so are tags and their codes; each gives
+-- the other back.
 pub record CodesFollowTags : Type 0 where
   pub order : (c d : ℕ) → IsBelow (triple_from c) (triple_from d) ↔ (c < d)
   pub code_back : (c : ℕ) → code_of (triple_from c) ≡ c
-  pub tag_order : (levels : ℕ) (t u : Triple) → IsTrue (is_tag levels t) → IsTrue (is_tag levels u) →
+  pub tag_order : (levels : ℕ) (t u : Triple) → IsTrue (is_tag levels t) →
+      IsTrue (is_tag levels u) →
       IsBelow t u ↔ (code_of t < code_of u)
   pub tag_back : (levels : ℕ) (t : Triple) → IsTrue (is_tag levels t) → triple_from (code_of t) ≡ t
 
 -- Literals that ascend by path name each path once.
 abbrev pub LiteralsArePartial : Type 0
-LiteralsArePartial = (instance : Instance) (literals : List Literal) → AreLiterals instance literals → IsPartial instance literals
+LiteralsArePartial =
+    (instance : Instance) (literals : List Literal) → AreLiterals instance literals →
+    IsPartial instance literals
 
 -- An instance has one work order, which is as long as its list of paths.
 pub record OneWorkOrder : Type 0 where
   pub is : (instance : Instance) → IsWorkOrder instance (work_order instance)
-  pub one : (instance : Instance) (order : List ℕ) → IsWorkOrder instance order → order ≡ work_order instance
+  pub one : (instance : Instance) (order : List ℕ) → IsWorkOrder instance order →
+      order ≡ work_order instance
   pub whole : (instance : Instance) → length (work_order instance) ≡ length instance.paths

@@ -12,13 +12,15 @@ code_of t = (t.k * V_SPAN + t.v) * S_SPAN + t.s
 
 -- the triple that a number stands for
 abbrev pub triple_from : ℕ → Triple
-triple_from code = record { k = code / S_SPAN / V_SPAN; v = code / S_SPAN % V_SPAN; s = code % S_SPAN }
+triple_from code =
+    record { k = code / S_SPAN / V_SPAN; v = code / S_SPAN % V_SPAN; s = code % S_SPAN }
 
 -- a triple limits the violations of the levels below its own
 abbrev pub has_limit : Triple → Bool
 has_limit t = nat_lt 0 t.v
 
--- a tag for so many levels: a level from 1 on with at least one violation below it, or a level alone, up to one past the last
+-- a tag for so many levels: a level from 1 on with at least one violation below it, or a level
+-- alone, up to one past the last
 abbrev pub is_tag : ℕ → Triple → Bool
 is_tag levels t = if has_limit t
     then (nat_lt 0 t.k && nat_le t.k levels) && (nat_lt t.v V_SPAN && nat_lt t.s S_SPAN)

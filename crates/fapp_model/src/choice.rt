@@ -13,7 +13,8 @@ pub struct Choice {
     pub pol: i8,
 }
 
-/// How many choices a path has: one for each of its frequencies, and two where its polarization is free.
+/// How many choices a path has: one for each of its frequencies, and two where its polarization is
+/// free.
 pub fn choice_count(path: &Path) -> u32
     requires { IsPath path.now }
     ensures count { result ≡ length (choices path.now) }

@@ -6,11 +6,12 @@ ghost use Rattle.fapp_model.specs.Costs.{cost_by, clear_level, sum_under};
 use crate::limits::MAX_RECORDS;
 use crate::{Choice, MAX_LEVELS, Record, Triple};
 
-/// How many records are bad at each level; the first numbers count, as many as an instance has levels.
+/// How many records are bad at each level; the first numbers count, as many as an instance has
+/// levels.
 pub type ViolationCounts = [u32; MAX_LEVELS as usize];
 
-/// Counts a record at each of the first `levels` levels at which it is bad for a choice of its first path and one of
-/// its second.
+/// Counts a record at each of the first `levels` levels at which it is bad for a choice of its
+/// first path and one of its second.
 pub fn add_violations(
     counts: &mut ViolationCounts,
     levels: u32,
@@ -21,7 +22,8 @@ pub fn add_violations(
     requires levels { levels ≤ MAX_LEVELS }
     requires few { (level : ℕ) → level < levels → slice_index counts.old level < MAX_RECORDS }
     ensures { (level : ℕ) → level < levels → slice_index counts.new level
-        ≡ slice_index counts.old level + (if is_bad level constraint.now first second then 1 else 0) }
+        ≡ slice_index counts.old level + (if is_bad level constraint.now first second then 1
+        else 0) }
 {
     for level in 0..levels {
         if constraint.is_bad(level, first, second) {

@@ -11,7 +11,8 @@ pub struct Path {
     pub pol: i8,
 }
 
-/// A radio network to be planned: its paths and constraint records. Each is named by its position, from 0.
+/// A radio network to be planned: its paths and constraint records. Each is named by its position,
+/// from 0.
 #[derive(Debug, Drop)]
 pub struct Instance {
     pub paths: Items<Path>,

@@ -1,4 +1,5 @@
-// Laws over the definitions that everything rests on. Each is the contract of a function that does nothing.
+// Laws over the definitions that everything rests on. Each is the contract of a function that does
+// nothing.
 ghost use Rattle.fapp_model.specs.ModelLaws.{CodesFollowTags, LimitsAre, LiteralsArePartial, OneWorkOrder};
 
 /// The limits, as numbers.

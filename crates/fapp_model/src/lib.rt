@@ -1,5 +1,6 @@
-//! The instance that is planned, a radio network with its constraint records, and what its plans are worth: paths, records, choices, costs.
-//! The definitions that contracts of every crate cite stand in `specs/`.
+//! The instance that is planned, a radio network with its constraint records, and what its plans
+//! are worth: paths, records, choices, costs. The definitions that contracts of every crate cite
+//! stand in `specs/`.
 #![tactic(auto)]
 
 mod choice;

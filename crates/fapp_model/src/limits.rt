@@ -1,4 +1,5 @@
-/// The greatest number that an instance's text may have: a frequency in its unit, a path's number, a distance.
+/// The greatest number that an instance's text may have: a frequency in its unit, a path's number,
+/// a distance.
 pub const MAX_NUMBER: u32 = 1_000_000_000;
 
 /// The most bytes of a text that a call reads.

@@ -4,8 +4,8 @@ ghost use Rattle.fapp_model.specs.Records.{first_path, second_path, is_broken, i
 
 use crate::{Choice, MAX_LEVELS};
 
-/// A constraint between two different paths, by their positions `i` and `j`. Frequencies and distances are in
-/// the unit of the instance's text.
+/// A constraint between two different paths, by their positions `i` and `j`. Frequencies and
+/// distances are in the unit of the instance's text.
 #[derive(Debug, Drop)]
 pub enum Record {
     /// Imperative: the distance of the frequencies is `n`, or is not `n`.
@@ -21,13 +21,15 @@ pub enum Record {
         j: u16,
         equal: bool,
     },
-    /// Compatibility: the least distance at each level where the polarizations are equal. It doesn't rise.
+    /// Compatibility: the least distance at each level where the polarizations are equal. It
+    /// doesn't rise.
     Same {
         i: u16,
         j: u16,
         dist: [u32; MAX_LEVELS as usize],
     },
-    /// Compatibility: the least distance at each level where the polarizations differ. It doesn't rise.
+    /// Compatibility: the least distance at each level where the polarizations differ. It doesn't
+    /// rise.
     Other {
         i: u16,
         j: u16,
@@ -71,8 +73,9 @@ impl Record {
         }
     }
 
-    /// Whether it is a compatibility record that is bad at a level for a choice of its first path and one of its
-    /// second: they are closer than the distance of that level. At a level without a distance nothing is bad.
+    /// Whether it is a compatibility record that is bad at a level for a choice of its first path
+    /// and one of its second: they are closer than the distance of that level. At a level without a
+    /// distance nothing is bad.
     pub fn is_bad(&self, level: u32, first: Choice, second: Choice) -> bool
         ensures { result ≡ is_bad level self.now first second }
     {

@@ -11,8 +11,8 @@ pub struct Tag {
     ghost of_tag: { IsTrue (is_code code) },
 }
 
-/// Whether a triple is a tag for so many levels: a level of 1 to `levels` with v of at least 1, or (k, 0, 0) with k
-/// at most `levels + 1`. Its v and s are below `V_SPAN` and `S_SPAN`.
+/// Whether a triple is a tag for so many levels: a level of 1 to `levels` with v of at least 1, or
+/// (k, 0, 0) with k at most `levels + 1`. Its v and s are below `V_SPAN` and `S_SPAN`.
 pub fn is_tag(levels: u32, t: Triple) -> bool
     requires { levels ≤ MAX_LEVELS }
     ensures { result ≡ is_tag levels t }
@@ -47,7 +47,8 @@ pub fn triple_of(t: Tag) -> Triple
     }
 }
 
-/// The level at which a plan that costs less than the tag has no violation: k, or k - 1 where v is 0.
+/// The level at which a plan that costs less than the tag has no violation: k, or k - 1 where v is
+/// 0.
 pub fn level_of(t: Tag) -> u32
     requires { 0 < t.code }
     ensures { result ≡ mode_level (triple_from t.code) }

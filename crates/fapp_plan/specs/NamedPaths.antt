@@ -10,7 +10,8 @@ use Rattle.fapp_plan.specs.declared.steps.Step.{Step}
 abbrev pub steps_along : Instance → List ℕ → List Step
 steps_along instance [] = []
 steps_along instance (path ∷ paths) =
-    record { path = path; choices = count_at instance path; ways = ways instance paths } ∷ steps_along instance paths
+    record { path = path; choices = count_at instance path; ways = ways instance paths }
+    ∷ steps_along instance paths
 
 -- the paths of the prefixes, in the work order
 abbrev pub prefix_paths : Instance → ℕ → List ℕ

@@ -46,20 +46,24 @@ least_of (n ∷ numbers) = fold min n numbers
 -- the outcomes of a prefix's jobs, which stand together
 abbrev pub outcomes_at : Instance → List Placed → ℕ → List Placed
 outcomes_at instance outcomes place =
-    slice_range outcomes (place * (levels_of instance + 1)) (place * (levels_of instance + 1) + (levels_of instance + 1))
+    slice_range outcomes (place * (levels_of instance + 1))
+    (place * (levels_of instance + 1) + (levels_of instance + 1))
 
 -- the greatest tag at which a prefix is refuted, or (0, 0, 0), as a code
 unfoldable pub refuted_at : Instance → List Placed → ℕ → ℕ
-refuted_at instance outcomes place = greatest_of (map refuted_code (outcomes_at instance outcomes place))
+refuted_at instance outcomes place =
+    greatest_of (map refuted_code (outcomes_at instance outcomes place))
 
 -- the least of these over all prefixes
 unfoldable pub refuted_everywhere : Instance → ℕ → List Placed → ℕ
 refuted_everywhere instance split outcomes =
-    least_of (map (refuted_at instance outcomes) (range_with_len 0 (length (prefixes instance split))))
+    least_of (map (refuted_at instance outcomes)
+    (range_with_len 0 (length (prefixes instance split))))
 
 -- where an outcome is Refuted at a tag of at least so much: the place of its log, and what says so
 abbrev pub settling_line : ℕ → ℕ → Outcome → Option (ℕ × Ref)
-settling_line tag log (Refuted line found) = if nat_le tag found.code then Some (log, line) else None
+settling_line tag log (Refuted line found) =
+    if nat_le tag found.code then Some (log, line) else None
 settling_line tag log (Moot seen) = None
 settling_line tag log Spent = None
 
@@ -69,4 +73,5 @@ settling tag (Some placed) = settling_line tag placed.0 placed.1
 
 -- the same of the first such outcome of a prefix, by its jobs' numbers
 unfoldable pub settled_by : Instance → List Placed → ℕ → ℕ → Option (ℕ × Ref)
-settled_by instance outcomes tag place = first_of (settling tag) (outcomes_at instance outcomes place)
+settled_by instance outcomes tag place =
+    first_of (settling tag) (outcomes_at instance outcomes place)

@@ -15,7 +15,8 @@ pub record Split : Type 0 where
 abbrev pub split_of : Instance → ℕ → Split
 split_of instance split = record { instance = instance; split = split }
 
-pub record IsPlan (instance : Instance) (split : ℕ) (steps : List Step) (prefixes_count : ℕ) : Type 0 where
+pub record IsPlan (instance : Instance) (split : ℕ) (steps : List Step)
+    (prefixes_count : ℕ) : Type 0 where
   pub valid : IsInstance instance
   pub some : 1 ≤ split
   pub few : split ≤ MAX_SPLIT

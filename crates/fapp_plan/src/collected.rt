@@ -8,8 +8,8 @@ use search_log::Outcome;
 use std::alloc::Global;
 use std::marker::Model;
 
-/// The outcomes of a plan's jobs, by their numbers, each with the place of the log that an `Own` line of it stands in.
-/// Contracts see the list, with None for a job that was not put.
+/// The outcomes of a plan's jobs, by their numbers, each with the place of the log that an `Own`
+/// line of it stands in. Contracts see the list, with None for a job that was not put.
 #[derive(Debug, Drop)]
 pub struct Collected {
     outcomes: Vec<Option<(u32, Outcome)>>,
@@ -27,7 +27,8 @@ impl Model for Collected {
 impl Collected {
     /// Room for the outcome of each job of a plan.
     pub fn new(alloc: Global, plan: &Plan) -> Result<Collected, NoMemory>
-        ensures { IfOk result (λ collected. collected ≡ replicate (job_count plan.now.instance plan.now.split) None) }
+        ensures { IfOk result (λ collected.
+            collected ≡ replicate (job_count plan.now.instance plan.now.split) None) }
     {
         let none: Option<(u32, Outcome)> = None;
         let outcomes = vec![in alloc; none; plan.job_count() as usize]?;

@@ -13,11 +13,13 @@ use search_log::Job;
 use std::alloc::Global;
 use std::marker::Model;
 
-/// How the work is split into jobs: each level on each prefix. Contracts see the instance and the split number.
+/// How the work is split into jobs: each level on each prefix. Contracts see the instance and the
+/// split number.
 ///
-/// The prefixes choose for the first paths of the work order: as many, up to `MAX_DEPTH`, as have together at most the
-/// split number of ways to choose. They are numbered in the order of their choices' indices. Jobs are numbered prefix
-/// by prefix, and on each prefix from the last level down to 0.
+/// The prefixes choose for the first paths of the work order: as many, up to `MAX_DEPTH`, as have
+/// together at most the split number of ways to choose. They are numbered in the order of their
+/// choices' indices. Jobs are numbered prefix by prefix, and on each prefix from the last level
+/// down to 0.
 #[derive(Debug, Drop)]
 pub struct Plan<'a> {
     instance: &'a Instance,
@@ -65,7 +67,8 @@ impl<'a> Plan<'a> {
 
     /// The paths that the prefixes name, in the work order.
     pub fn steps(&self) -> &[Step]
-        ensures value { result.now ≡ steps_along self.now.instance (prefix_paths self.now.instance self.now.split) }
+        ensures value { result.now ≡ steps_along self.now.instance
+            (prefix_paths self.now.instance self.now.split) }
         ensures few { All (λ step. step.choices ≤ MAX_PATH_CHOICES) result.now }
     {
         self.steps.as_slice()
@@ -100,7 +103,8 @@ impl<'a> Plan<'a> {
     pub fn job(&self, alloc: Global, id: u32) -> Result<Job, NoMemory>
         requires { id < job_count self.now.instance self.now.split }
         ensures level { IfOk result (λ job. job.level ≡ job_level self.now.instance id) }
-        ensures prefix { IfOk result (λ job. job.prefix ≡ job_prefix self.now.instance self.now.split id) }
+        ensures prefix { IfOk result (λ job.
+            job.prefix ≡ job_prefix self.now.instance self.now.split id) }
     {
         let levels = levels(self.instance);
         let prefix = self.prefix(alloc, id / (levels + 1))?;
@@ -113,7 +117,8 @@ impl<'a> Plan<'a> {
     /// The prefix of a number below their count, its literals along the work order.
     pub fn prefix(&self, alloc: Global, place: u32) -> Result<Items<Literal>, NoMemory>
         requires { place < length (prefixes self.now.instance self.now.split) }
-        ensures { IfOk result (λ prefix. prefix ≡ slice_index_or (prefixes self.now.instance self.now.split) place []) }
+        ensures { IfOk result (λ prefix. prefix ≡ slice_index_or
+            (prefixes self.now.instance self.now.split) place []) }
     {
         let mut rest = place;
         let mut prefix = Vec::with_capacity(alloc, self.steps.len())?;

@@ -29,14 +29,16 @@ pub struct Reach {
     pub ways: u32,
 }
 
-/// The most paths of the work order, up to `MAX_DEPTH`, that have together at most so many ways to choose.
+/// The most paths of the work order, up to `MAX_DEPTH`, that have together at most so many ways to
+/// choose.
 pub fn reach_of(instance: &Instance, order: &[u16], split: u32) -> Reach
     requires instance { IsInstance instance.now }
     requires order { order.now ≡ work_order instance.now }
     requires some { 1 ≤ split }
     requires few { split ≤ MAX_SPLIT }
     ensures depth { result.depth ≡ depth instance.now split }
-    ensures ways { result.ways ≡ ways instance.now (take (depth instance.now split) (work_order instance.now)) }
+    ensures ways { result.ways ≡ ways instance.now
+        (take (depth instance.now split) (work_order instance.now)) }
 {
     let most = order.len().min(MAX_DEPTH);
     let mut ways = 1;

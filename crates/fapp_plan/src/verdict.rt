@@ -105,8 +105,9 @@ impl Collected {
         greatest_tag(self.outcomes_at(plan, place))
     }
 
-    /// What settles a prefix at a tag: the place of the log of the first of its outcomes, by number, that is Refuted at
-    /// that tag or above, and what says so. None comes exactly where no outcome of the prefix is.
+    /// What settles a prefix at a tag: the place of the log of the first of its outcomes, by
+    /// number, that is Refuted at that tag or above, and what says so. None comes exactly where no
+    /// outcome of the prefix is.
     #[tactic(auto, unfolding(crate::specs::Outcomes::settled_by))]
     pub fn settled_by(&self, plan: &Plan, place: u32, tag: Tag) -> Option<(u32, Ref)>
         requires planned { length self.now ≡ job_count plan.now.instance plan.now.split }
@@ -154,14 +155,17 @@ impl Collected {
         unreachable!()
     }
 
-    /// The verdict that follows from all outcomes, the last bound, and a tag that no assignment costs less than.
+    /// The verdict that follows from all outcomes, the last bound, and a tag that no assignment
+    /// costs less than.
     ///
-    /// With r the greater of that tag and the least, over the prefixes, of the greatest tag at which the prefix is
-    /// refuted: none feasible where the bound and r are (`levels + 1`, 0, 0), best where the bound is below and r is
-    /// at least it, and else open, with the first prefix that is refuted below the bound only.
+    /// With r the greater of that tag and the least, over the prefixes, of the greatest tag at
+    /// which the prefix is refuted: none feasible where the bound and r are (`levels + 1`, 0, 0),
+    /// best where the bound is below and r is at least it, and else open, with the first prefix
+    /// that is refuted below the bound only.
     ///
-    /// The outcomes are those of this plan's jobs; a job that was not put counts as not refuted. The bound is one that
-    /// may be shown: (0, 0, 0), (`levels + 1`, 0, 0), or a tag with a number of violations. Both tags are the instance's.
+    /// The outcomes are those of this plan's jobs; a job that was not put counts as not refuted.
+    /// The bound is one that may be shown: (0, 0, 0), (`levels + 1`, 0, 0), or a tag with a number
+    /// of violations. Both tags are the instance's.
     pub fn verdict(
         &self,
         alloc: Global,
@@ -173,7 +177,8 @@ impl Collected {
         requires outcomes { All (IsPlacedFor plan.now.instance) self.now }
         requires word { IsTrue (is_shown (levels_of plan.now.instance) (triple_from word.code)) }
         requires arcs { IsTagFor plan.now.instance arcs }
-        ensures rule { IfOk result (IsVerdictOf plan.now.instance plan.now.split self.now word.code arcs.code) }
+        ensures rule { IfOk result (IsVerdictOf plan.now.instance plan.now.split self.now word.code
+            arcs.code) }
         ensures formed { IfOk result (IsVerdict plan.now.instance) }
     {
         let best = triple_of(word);

@@ -13,7 +13,8 @@ OneCheckStatus =
     (bytes : List ℕ) (one other : Status) (text more : List ℕ)
     → Judges bytes one text → Judges bytes other more → one ≡ other
 
--- the input is an instance, a line `--` and the text of an answer to the instance, and what the answer claims is so
+-- the input is an instance, a line `--` and the text of an answer to the instance, and what the
+-- answer claims is so
 pub record IsProved (bytes : List ℕ) : Type 0 where
   pub instance : Instance
   pub answer : Answer

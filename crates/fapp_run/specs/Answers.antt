@@ -40,7 +40,8 @@ status_of verdicts.NoneFeasible = NoneFeasible
 status_of (verdicts.Open best lower level prefix) = Open
 
 -- an answer to an instance, written whole, in the version that is asked for, or as its plan alone
-pub record IsSolved (instance : Instance) (options : SolveOptions) (status : Status) (text : List ℕ) : Type 0 where
+pub record IsSolved (instance : Instance) (options : SolveOptions) (status : Status)
+    (text : List ℕ) : Type 0 where
   pub answer : Answer
   pub answers : IsAnswerFor instance options.split (fuel_of options instance) answer
   pub written : Answer
@@ -48,27 +49,32 @@ pub record IsSolved (instance : Instance) (options : SolveOptions) (status : Sta
   pub status_is : status ≡ status_of answer.verdict
   pub text_is : text ≡ written_text instance written options.answer_only
 
--- the answer to an input: that it is longer than the limit, or its first refused line, or that to the instance whose
--- text it is
+-- the answer to an input: that it is longer than the limit, or its first refused line, or that to
+-- the instance whose text it is
 abbrev pub Answers : SolveOptions → List ℕ → Status → List ℕ → Type 0
 Answers options bytes TooLong text = (MAX_INPUT < length bytes) × (text ≡ refusal_line TooLong)
 Answers options bytes (BadInput refused) text =
-    (length bytes ≤ MAX_INPUT) × (instance_of_text bytes ≡ Err refused) × (text ≡ refusal_line (BadInput refused))
+    (length bytes ≤ MAX_INPUT) × (instance_of_text bytes ≡ Err refused)
+    × (text ≡ refusal_line (BadInput refused))
 Answers options bytes status text =
     (length bytes ≤ MAX_INPUT)
-    × (instance : Instance) × (instance_of_text bytes ≡ Ok instance) × IsSolved instance options status text
+    × (instance : Instance) × (instance_of_text bytes ≡ Ok instance)
+    × IsSolved instance options status text
 
 -- an answer to an instance, in the version that is asked for
-pub record IsAnswerIn (instance : Instance) (options : SolveOptions) (written : Answer) : Type 0 where
+pub record IsAnswerIn (instance : Instance) (options : SolveOptions)
+    (written : Answer) : Type 0 where
   pub answer : Answer
   pub answers : IsAnswerFor instance options.split (fuel_of options instance) answer
   pub writes : IsWrittenIn instance options.cert answer written
 
--- what an input is solved to: that it is longer than the limit, or its first refused line, or the instance whose text it
--- is, with an answer
+-- what an input is solved to: that it is longer than the limit, or its first refused line, or the
+-- instance whose text it is, with an answer
 abbrev pub Solves : SolveOptions → List ℕ → Solution → Type 0
 Solves options bytes (Refused TooLong) = MAX_INPUT < length bytes
-Solves options bytes (Refused (BadInput refused)) = (length bytes ≤ MAX_INPUT) × (instance_of_text bytes ≡ Err refused)
+Solves options bytes (Refused (BadInput refused)) =
+    (length bytes ≤ MAX_INPUT) × (instance_of_text bytes ≡ Err refused)
 Solves options bytes (Refused _) = ⊥
 Solves options bytes (Answered instance written) =
-    (length bytes ≤ MAX_INPUT) × (instance_of_text bytes ≡ Ok instance) × IsAnswerIn instance options written
+    (length bytes ≤ MAX_INPUT) × (instance_of_text bytes ≡ Ok instance)
+    × IsAnswerIn instance options written

@@ -28,11 +28,13 @@ pub record Halves : Type 0 where
 
 -- a text, cut at the line behind the first n ones
 abbrev pub cut_at : List ℕ → ℕ → Halves
-cut_at text n = record { instance = first_lines n text; divider = n + 1; answer = after_lines (n + 1) text }
+cut_at text n =
+    record { instance = first_lines n text; divider = n + 1; answer = after_lines (n + 1) text }
 
 -- an input, cut at its first line `--`, where it has one
 abbrev pub halves : List ℕ → Option Halves
 halves input = option_map (cut_at input) (position is_divider (lines input))
 
 abbrev pub halves_of : CheckInput → Halves
-halves_of input = record { instance = input.instance.now; divider = input.divider; answer = input.answer.now }
+halves_of input =
+    record { instance = input.instance.now; divider = input.divider; answer = input.answer.now }

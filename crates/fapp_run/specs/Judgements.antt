@@ -24,7 +24,8 @@ pub record AreCheckOptions (options : CheckOptions) : Type 0 where
 
 -- an answer that was read: it is accepted, with its verdict, or this is its first fault
 abbrev pub IsJudgedAnswer : Instance → Answer → Status → List ℕ → Type 0
-IsJudgedAnswer instance answer Accepted text = Accepts instance answer × (text ≡ accepted_text answer.verdict)
+IsJudgedAnswer instance answer Accepted text =
+    Accepts instance answer × (text ≡ accepted_text answer.verdict)
 IsJudgedAnswer instance answer (Rejected fault) text =
     (answer_fault instance answer ≡ Some fault) × (text ≡ refusal_line (Rejected fault))
 IsJudgedAnswer instance answer _ text = ⊥
@@ -32,7 +33,8 @@ IsJudgedAnswer instance answer _ text = ⊥
 -- the first fault of a text that is no answer's, behind so many lines
 abbrev pub IsFaultBehind : Instance → List ℕ → ℕ → TextFault → Type 0
 IsFaultBehind instance bytes before bad =
-    (found : TextFault) × (first_fault instance bytes ≡ Some found) × (bad ≡ fault (before + found.line) found.cause)
+    (found : TextFault) × (first_fault instance bytes ≡ Some found)
+    × (bad ≡ fault (before + found.line) found.cause)
 
 -- a text behind so many lines: it is that of an answer, which is judged, or this is its first fault
 abbrev pub IsJudgedText : Instance → List ℕ → ℕ → Status → List ℕ → Type 0
@@ -42,7 +44,8 @@ IsJudgedText instance bytes before status text =
     (answer : Answer) × IsWellFormed instance answer × (bytes ≡ answer_text instance answer)
     × IsJudgedAnswer instance answer status text
 
--- an input with a line `--`: the instance's first refused line, or what is said of the answer to that instance
+-- an input with a line `--`: the instance's first refused line, or what is said of the answer to
+-- that instance
 abbrev pub IsJudgedInput : Halves → Status → List ℕ → Type 0
 IsJudgedInput input (BadInput bad) text =
     (instance_of_text input.instance ≡ Err bad) × (text ≡ refusal_line (BadInput bad))
@@ -50,9 +53,11 @@ IsJudgedInput input status text =
     (instance : Instance) × (instance_of_text input.instance ≡ Ok instance)
     × IsJudgedText instance input.answer input.divider status text
 
--- an input without one: the first refused line of the whole, or that no answer stands behind the instance
+-- an input without one: the first refused line of the whole, or that no answer stands behind the
+-- instance
 abbrev pub IsJudgedAlone : List ℕ → Status → List ℕ → Type 0
-IsJudgedAlone bytes (BadInput bad) text = (instance_of_text bytes ≡ Err bad) × (text ≡ refusal_line (BadInput bad))
+IsJudgedAlone bytes (BadInput bad) text =
+    (instance_of_text bytes ≡ Err bad) × (text ≡ refusal_line (BadInput bad))
 IsJudgedAlone bytes NoAnswer text =
     (instance : Instance) × (instance_of_text bytes ≡ Ok instance) × (text ≡ refusal_line NoAnswer)
 IsJudgedAlone bytes _ text = ⊥
@@ -64,7 +69,8 @@ IsJudged bytes None status text = IsJudgedAlone bytes status text
 -- the answer to an input: that it is longer than the limit, or what is said of it
 abbrev pub Judges : List ℕ → Status → List ℕ → Type 0
 Judges bytes TooLong text = (MAX_CHECK_INPUT < length bytes) × (text ≡ refusal_line TooLong)
-Judges bytes status text = (length bytes ≤ MAX_CHECK_INPUT) × IsJudged bytes (halves bytes) status text
+Judges bytes status text =
+    (length bytes ≤ MAX_CHECK_INPUT) × IsJudged bytes (halves bytes) status text
 
 -- the input is an instance, a line `--` and the text of an answer to the instance
 pub record IsCheckInput (bytes : List ℕ) (instance : Instance) (answer : Answer) : Type 0 where

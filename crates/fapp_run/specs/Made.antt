@@ -31,7 +31,15 @@ AreRequested (Demo seed) = AreSeed seed
 
 -- how a made network is solved
 abbrev pub demo_options : SolveOptions
-demo_options = record { workers = DEFAULT_WORKERS; fuel = Some DEMO_FUEL; split = DEFAULT_SPLIT; pool = DEFAULT_POOL; cert = 1; answer_only = false }
+demo_options =
+    record {
+      workers = DEFAULT_WORKERS;
+      fuel = Some DEMO_FUEL;
+      split = DEFAULT_SPLIT;
+      pool = DEFAULT_POOL;
+      cert = 1;
+      answer_only = false;
+    }
 
 -- an answer to an instance, of which the verdict is written
 pub record IsDemonstrated (instance : Instance) (status : Status) (text : List ℕ) : Type 0 where

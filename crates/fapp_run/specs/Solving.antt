@@ -31,10 +31,11 @@ IsClosedVerdict (Best t) = Unit {0}
 IsClosedVerdict NoneFeasible = Unit {0}
 IsClosedVerdict (Open best lower level prefix) = ⊥
 
--- The answer has no Delete line. It is accepted by definition, and so it is right: Best comes with a least plan and its cost, NoneFeasible only where
--- no plan meets the imperative records. An open verdict names a job that has more tries than its fuel, and says no less than the
--- jobs give that have tries within theirs. The lines are no more than the bound, and one of the tag (0, 0, 0) cites nothing. With fuel enough for one
--- level the verdict is not open.
+-- The answer has no Delete line. It is accepted by definition, and so it is right: Best comes with
+-- a least plan and its cost, NoneFeasible only where no plan meets the imperative records. An open
+-- verdict names a job that has more tries than its fuel, and says no less than the jobs give that
+-- have tries within theirs. The lines are no more than the bound, and one of the tag (0, 0, 0)
+-- cites nothing. With fuel enough for one level the verdict is not open.
 pub record IsAnswerFor (instance : Instance) (split fuel : ℕ) (answer : Answer) : Type 0 where
   pub formed : IsWellFormed instance answer
   pub version : answer.version ≡ 1
@@ -52,4 +53,5 @@ NoneKept logs t = All (λ log. (best : KeptPlan) → log.best ≡ Some best → 
 -- the choices of a feasible assignment of that cost, or none where no log keeps one
 abbrev pub IsKeptPlan : Instance → List LogState → Triple → List Choice → Type 0
 IsKeptPlan instance logs t choices = ((choices ≡ []) × NoneKept logs t)
-    ⊎ ((plan : List ℕ) × IsFeasible instance plan × (t ≡ cost instance plan) × (choices ≡ shown instance plan))
+    ⊎ ((plan : List ℕ) × IsFeasible instance plan × (t ≡ cost instance plan)
+    × (choices ≡ shown instance plan))

@@ -15,8 +15,8 @@ in_version version answer = if version == 2 then compacted_answer answer else an
 abbrev pub delete_lines : List Line → List Line
 delete_lines lines = filter (λ line. is_delete line.rule) lines
 
--- An answer in a version. It is well formed and accepted there. It has as many other lines as the answer in version 1, and
--- at most as many Delete lines.
+-- An answer in a version. It is well formed and accepted there. It has as many other lines as the
+-- answer in version 1, and at most as many Delete lines.
 pub record IsWrittenIn (instance : Instance) (version : ℕ) (answer written : Answer) : Type 0 where
   pub is : written ≡ in_version version answer
   pub formed : IsWellFormed instance written

@@ -24,10 +24,11 @@ use std::thread::Threads;
 /// The most bytes of the input of a check.
 pub const MAX_CHECK_INPUT: usize = 1_073_741_824;
 
-/// The reply to a check, for an input given as its bytes: that the answer after the first line `--` is accepted for
-/// the instance before that line, or the first refusal, in this order: `TooLong` for more than `MAX_CHECK_INPUT`
-/// bytes, the instance's first refused line, that no line is `--`, the first fault of the answer's text, the first
-/// fault of the answer. It is the same for every number of workers. `run` answers just so to what it reads.
+/// The reply to a check, for an input given as its bytes: that the answer after the first line `--`
+/// is accepted for the instance before that line, or the first refusal, in this order: `TooLong`
+/// for more than `MAX_CHECK_INPUT` bytes, the instance's first refused line, that no line is `--`,
+/// the first fault of the answer's text, the first fault of the answer. It is the same for every
+/// number of workers. `run` answers just so to what it reads.
 pub fn judge<R: Threads + Sync>(
     rt: &R,
     alloc: Global,
@@ -69,7 +70,8 @@ fn judge_input<R: Threads + Sync>(
     requires instance { length input.now.instance.now ≤ MAX_TEXT }
     requires divider { input.now.divider ≤ MAX_TEXT }
     requires answer { length input.now.answer.now ≤ MAX_TEXT }
-    ensures { IfOk result (λ reply. IsJudgedInput (halves_of input.now) reply.status reply.text.items) }
+    ensures { IfOk result (λ reply. IsJudgedInput (halves_of input.now) reply.status
+        reply.text.items) }
 {
     match read_instance(alloc, input.instance) {
         Ok(instance) => judge_text(rt, alloc, &instance, input.answer, input.divider, options),
@@ -91,7 +93,8 @@ fn judge_text<R: Threads + Sync>(
     requires instance { IsInstance instance.now }
     requires text { length text.now ≤ MAX_TEXT }
     requires before { before ≤ MAX_TEXT }
-    ensures { IfOk result (λ reply. IsJudgedText instance.now text.now before reply.status reply.text.items) }
+    ensures { IfOk result (λ reply. IsJudgedText instance.now text.now before reply.status
+        reply.text.items) }
 {
     match read_answer(alloc, instance, text) {
         Ok(answer) => judge_answer(rt, alloc, instance, &answer, options),
@@ -123,7 +126,8 @@ fn judge_answer<R: Threads + Sync>(
     requires instance { IsInstance instance.now }
     requires answer { IsWellFormed instance.now answer.now }
     requires few { length answer.now.lines ≤ MAX_NUMBER }
-    ensures { IfOk result (λ reply. IsJudgedAnswer instance.now answer.now reply.status reply.text.items) }
+    ensures { IfOk result (λ reply. IsJudgedAnswer instance.now answer.now reply.status
+        reply.text.items) }
 {
     match checked(rt, alloc, instance, answer, options) {
         Ok(()) => Ok(Reply {
@@ -135,7 +139,8 @@ fn judge_answer<R: Threads + Sync>(
     }
 }
 
-/// Whether an answer is accepted, its lines judged one after another by one worker, and side by side by more.
+/// Whether an answer is accepted, its lines judged one after another by one worker, and side by
+/// side by more.
 fn checked<R: Threads + Sync>(
     rt: &R,
     alloc: Global,

@@ -1,12 +1,13 @@
-//! The one call that the program makes: from its words and its input to what it writes and its status.
+//! The one call that the program makes: from its words and its input to what it writes and its
+//! status.
 #![tactic(auto)]
 
 mod check_input;
 mod judgement;
 mod laws;
 mod made;
-mod reply;
 mod plan;
+mod reply;
 mod solving;
 mod top;
 mod version;

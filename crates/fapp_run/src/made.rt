@@ -41,7 +41,8 @@ pub fn demonstrated<R: Threads + Sync, G: Gate>(
     gate: &G,
 ) -> Result<Reply, NoMemory>
     requires { AreSeed seed }
-    ensures { IfOk result (λ reply. Demonstrates (network_text seed.number seed.paths) reply.status reply.text.items) }
+    ensures { IfOk result (λ reply. Demonstrates (network_text seed.number seed.paths) reply.status
+        reply.text.items) }
 {
     let bytes = generate(alloc, seed.number, seed.paths)?;
     match read_instance(alloc, &bytes) {

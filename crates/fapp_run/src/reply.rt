@@ -40,8 +40,9 @@ pub enum Solution {
     Answered { instance: Instance, answer: Answer },
 }
 
-/// The reply to an input, given as its bytes: the answer to the instance whose text it is, the first refused line of
-/// another text, or `TooLong` for more than `MAX_INPUT` bytes. `run` answers just so to what it reads.
+/// The reply to an input, given as its bytes: the answer to the instance whose text it is, the
+/// first refused line of another text, or `TooLong` for more than `MAX_INPUT` bytes. `run` answers
+/// just so to what it reads.
 pub fn answer<R: Threads + Sync, G: Gate>(
     rt: &R,
     alloc: Global,
@@ -60,8 +61,9 @@ pub fn answer<R: Threads + Sync, G: Gate>(
     }
 }
 
-/// What an input is solved to, given as its bytes: the instance whose text it is, with an answer; or a refusal, `BadInput`
-/// with the first refused line of another text, and `TooLong` for more than `MAX_INPUT` bytes. No text is made.
+/// What an input is solved to, given as its bytes: the instance whose text it is, with an answer;
+/// or a refusal, `BadInput` with the first refused line of another text, and `TooLong` for more
+/// than `MAX_INPUT` bytes. No text is made.
 pub fn solve_input<R: Threads + Sync, G: Gate>(
     rt: &R,
     alloc: Global,
@@ -111,7 +113,8 @@ fn told(
 ) -> Result<Reply, NoMemory>
     requires { IsWellFormed instance.now answer.now }
     ensures status { IfOk result (λ reply. reply.status ≡ status_of answer.now.verdict) }
-    ensures text { IfOk result (λ reply. reply.text.items ≡ written_text instance.now answer.now answer_only) }
+    ensures text { IfOk result (λ reply. reply.text.items
+        ≡ written_text instance.now answer.now answer_only) }
 {
     let text = answer_text(alloc, instance, answer, answer_only)?;
     Ok(Reply {
@@ -155,7 +158,8 @@ pub fn settings_for(instance: &Instance, options: &SolveOptions) -> Settings
 
 /// A status with the line that tells of it.
 pub fn refusal(alloc: Global, status: Status) -> Result<Reply, NoMemory>
-    ensures { IfOk result (λ reply. (reply.status ≡ status) × (reply.text.items ≡ refusal_line status)) }
+    ensures { IfOk result (λ reply. (reply.status ≡ status)
+        × (reply.text.items ≡ refusal_line status)) }
 {
     let text = refusal_text(alloc, &status)?;
     Ok(Reply { status, text })

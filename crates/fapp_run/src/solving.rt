@@ -1,4 +1,5 @@
-// The answer to an instance: the workers, the verdict that follows from their outcomes, and the certificate.
+// The answer to an instance: the workers, the verdict that follows from their outcomes, and the
+// certificate.
 ghost use Rattle.std.specs.Prelude.{◌≡◌, All, IfOk};
 ghost use Rattle.fapp_model.specs.Instances.{IsInstance};
 ghost use Rattle.fapp_plan.specs.Plans.{split_of};
@@ -73,9 +74,10 @@ fn answer_of(
     })
 }
 
-/// Solves an instance by workers side by side: a least plan with its certificate, that no plan meets the imperative records
-/// with a certificate of that, or, where the fuel did not suffice, the best plan that was found with a certified lower
-/// bound. `NoMemory` comes where a step found no memory.
+/// Solves an instance by workers side by side: a least plan with its certificate, that no plan
+/// meets the imperative records with a certificate of that, or, where the fuel did not suffice, the
+/// best plan that was found with a certified lower bound. `NoMemory` comes where a step found no
+/// memory.
 pub fn solve_answer<R: Threads + Sync, G: Gate>(
     rt: &R,
     alloc: Global,

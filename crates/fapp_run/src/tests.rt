@@ -28,7 +28,8 @@ const CHECKED: &str = "--\n--\nBEST 0 0 0\nC 0 0 0 0 0\nEND\n";
 const LENIENT: &str =
     "TR 1 1 1\r\nTR\t2 2 1\r\n\r\nCE  1 2 20 20 20 20 20 20 20 20 20 20 20\r\nDM 2 30\nDM 2 10\nDM 2 020\nDM 2 30\nDM 1 10";
 
-// Words, an input, the exit status and what is written. Each plan is the only one that costs the least.
+// Words, an input, the exit status and what is written. Each plan is the only one that costs the
+// least.
 const ENDS: [(&str, &str, u8, &str); 45] = [
     (WORDS, PLAIN, 0, PLAIN_PLAN),
     (WORDS, CHAIN, 0, "AL 1 10 1\nAL 2 20 1\n"),
@@ -142,8 +143,8 @@ const ENDS: [(&str, &str, u8, &str); 45] = [
     (WORDS, "CI 1 2 F X 5\n", 65, "BADINPUT 1 BadWord\n"),
 ];
 
-// Words, an input, how many bytes are given and taken in a call, which read or write fails (0: none), the exit status
-// and what is written.
+// Words, an input, how many bytes are given and taken in a call, which read or write fails (0:
+// none), the exit status and what is written.
 const FAULTS: [(&str, &str, usize, u64, u64, u8, &str); 6] = [
     (WORDS, PLAIN, 4096, 1, 0, 66, "READFAULT\n"),
     (WORDS, PLAIN, 4096, 0, 1, 67, ""),
@@ -161,7 +162,8 @@ fn words_of(alloc: Global, line: &str) -> Result<Vec<String>, Fail> {
     Ok(words)
 }
 
-/// How the program ends on these words and this input, given and taken in pieces, one call failing (0: none).
+/// How the program ends on these words and this input, given and taken in pieces, one call failing
+/// (0: none).
 fn end_of<R: Threads + Sync>(
     rt: &R,
     alloc: Global,
@@ -309,10 +311,7 @@ fn the_most_paths_are_planned(rt: HostRuntime) -> Result<(), Fail> {
     let both = format!(in rt.alloc(); "{text}--\n{whole}")?;
     let (status, written) = end_of(&rt, rt.alloc(), "check", both.as_bytes(), 4096, 0, 0)?;
     assert_eq!(rt; status, Status::Accepted);
-    assert_eq!(rt;
-        written.as_slice(),
-        b"ACCEPTED BEST 0 0 0\n".as_slice()
-    );
+    assert_eq!(rt; written.as_slice(), b"ACCEPTED BEST 0 0 0\n".as_slice());
     Ok(())
 }
 

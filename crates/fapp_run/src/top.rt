@@ -20,9 +20,10 @@ use fapp_workers::Gate;
 use std::alloc::Global;
 use std::thread::Threads;
 
-/// Does all that the program does, for the words after its name: reads an instance, solves it by workers side by side
-/// and writes the answer; or reads an instance and an answer, and writes whether it is accepted; or writes a made
-/// network, or the verdict on one. All output is made before the first write.
+/// Does all that the program does, for the words after its name: reads an instance, solves it by
+/// workers side by side and writes the answer; or reads an instance and an answer, and writes
+/// whether it is accepted; or writes a made network, or the verdict on one. All output is made
+/// before the first write.
 pub fn run<R: Threads + Sync, S: Source, K: Sink, G: Gate>(
     rt: &R,
     alloc: Global,
@@ -35,21 +36,23 @@ pub fn run<R: Threads + Sync, S: Source, K: Sink, G: Gate>(
     ensures run { IsRun words.now (S.moment source.old) (S.moment source.new)
         (K.moment sink.old) (K.moment sink.new) result }
 
-    // On the words of solve, a text of an instance and no fault, the answer is Best, NoneFeasible or Open, and not Open
-    // where the fuel is enough for one level.
+    // On the words of solve, a text of an instance and no fault, the answer is Best, NoneFeasible
+    // or Open, and not Open where the fuel is enough for one level.
     ensures completes { Completes words.now (S.moment source.old) (S.moment source.new)
         (K.moment sink.old) (K.moment sink.new) result }
 
-    // On the words of check, an instance with an answer that is to be accepted and no fault, it is accepted.
+    // On the words of check, an instance with an answer that is to be accepted and no fault, it is
+    // accepted.
     ensures completes_check { CompletesCheck words.now (S.moment source.old) (S.moment source.new)
         (K.moment sink.old) (K.moment sink.new) result }
 
     // On the words of gen and no fault, the network is written.
     ensures completes_gen { CompletesGen words.now (K.moment sink.old) (K.moment sink.new) result }
 
-    // On the words of demo and no fault, the verdict on the made network is written, or there was no memory; and it is
-    // not Open where the fuel is enough for one level.
-    ensures completes_demo { CompletesDemo words.now (K.moment sink.old) (K.moment sink.new) result }
+    // On the words of demo and no fault, the verdict on the made network is written, or there was
+    // no memory; and it is not Open where the fuel is enough for one level.
+    ensures completes_demo { CompletesDemo words.now (K.moment sink.old) (K.moment sink.new)
+        result }
 
     // What an accepted answer claims is so.
     ensures right { ProvesAccepted (S.moment source.old) result }
@@ -75,8 +78,10 @@ fn reply_of<R: Threads + Sync, S: Source, G: Gate>(
     gate: &G,
 ) -> Result<Reply, NoMemory>
     ensures reply { IfOk result (λ reply.
-        IsReply words.now (S.moment source.old) (S.moment source.new) reply.status reply.text.items) }
-    ensures no_memory { OnErr result (ReadsFront words.now (S.moment source.old) (S.moment source.new)) }
+        IsReply words.now (S.moment source.old) (S.moment source.new) reply.status
+        reply.text.items) }
+    ensures no_memory { OnErr result (ReadsFront words.now (S.moment source.old)
+        (S.moment source.new)) }
 {
     match read_words(alloc, words)? {
         Some(request) => requested(rt, alloc, request, source, gate),
@@ -94,8 +99,10 @@ fn requested<R: Threads + Sync, S: Source, G: Gate>(
 ) -> Result<Reply, NoMemory>
     requires { AreRequested request }
     ensures reply { IfOk result (λ reply.
-        IsReplyFor (Some request) (S.moment source.old) (S.moment source.new) reply.status reply.text.items) }
-    ensures no_memory { OnErr result (ReadsFor request (S.moment source.old) (S.moment source.new)) }
+        IsReplyFor (Some request) (S.moment source.old) (S.moment source.new) reply.status
+        reply.text.items) }
+    ensures no_memory { OnErr result (ReadsFor request (S.moment source.old)
+        (S.moment source.new)) }
 {
     match request {
         Request::Solve(options) => solved(rt, alloc, options, source, gate),
@@ -115,7 +122,8 @@ fn solved<R: Threads + Sync, S: Source, G: Gate>(
 ) -> Result<Reply, NoMemory>
     requires { AreOptions options }
     ensures reply { IfOk result (λ reply.
-        IsSolveReply options (S.moment source.old) (S.moment source.new) reply.status reply.text.items) }
+        IsSolveReply options (S.moment source.old) (S.moment source.new) reply.status
+        reply.text.items) }
     ensures no_memory { OnErr result (
         DropsUpTo (S.moment source.old).left (S.moment source.new).left (MAX_INPUT + 1)) }
 {

@@ -11,7 +11,8 @@ use fapp_io::NoMemory;
 use fapp_model::{Instance, Items};
 use std::alloc::Global;
 
-/// An answer of version 1 in a version: in the second with Delete lines for what is cited no more, and else as it is.
+/// An answer of version 1 in a version: in the second with Delete lines for what is cited no more,
+/// and else as it is.
 pub(crate) fn in_version(
     alloc: Global,
     _instance: &Instance,

@@ -9,8 +9,16 @@ use Rattle.fapp_tables.specs.Indexes.{record_at, touches}
 -- the links of the record at a position: from its first path, and from its second
 abbrev pub links_at : Instance → ℕ → List Side
 links_at instance k =
-    record { path = first_path (record_at instance k); other = second_path (record_at instance k); position = k }
-    ∷ record { path = second_path (record_at instance k); other = first_path (record_at instance k); position = k }
+    record {
+      path = first_path (record_at instance k);
+      other = second_path (record_at instance k);
+      position = k;
+    }
+    ∷ record {
+      path = second_path (record_at instance k);
+      other = first_path (record_at instance k);
+      position = k;
+    }
     ∷ []
 
 -- the links of all records, record by record
@@ -22,10 +30,12 @@ pub record IsSide (instance : Instance) (a : Side) : Type 0 where
   pub inside : a.position < length instance.records
   pub touching : IsTrue (touches a.path a.other (record_at instance a.position))
 
--- a link's path, other path and position are not above another one's, where the first that differs decides
+-- a link's path, other path and position are not above another one's, where the first that differs
+-- decides
 abbrev pub IsSideNotAfter : Side → Side → Type 0
 IsSideNotAfter a b = (a.path < b.path)
-    ⊎ ((a.path ≡ b.path) × ((a.other < b.other) ⊎ ((a.other ≡ b.other) × (a.position ≤ b.position))))
+    ⊎ ((a.path ≡ b.path) × ((a.other < b.other) ⊎ ((a.other ≡ b.other)
+    × (a.position ≤ b.position))))
 
 -- the two paths of a link as one number
 abbrev pub pair_rank : Side → ℕ

@@ -17,14 +17,18 @@ hard_part level r a b = if is_hard_bad level r a b then 1 else 0
 abbrev pub coded_part : ℕ → Record → Choice → Choice → ℕ
 coded_part level r a b = bad_before level r a b * S_SPAN + bad_further level r a b
 
--- the sum of a measure over the records between two literals, whichever of the two a record names first
+-- the sum of a measure over the records between two literals, whichever of the two a record names
+-- first
 abbrev pub both_between : Instance → (Record → Choice → Choice → ℕ) → Literal → Literal → ℕ
 both_between instance measure a b = between instance measure a b + between instance measure b a
 
 -- the pairs of the records between two literals, added part by part
 abbrev pub pair_between : Instance → ℕ → Literal → Literal → Pair
 pair_between instance level a b =
-    record { v = both_between instance (bad_before level) a b; s = both_between instance (bad_further level) a b }
+    record {
+      v = both_between instance (bad_before level) a b;
+      s = both_between instance (bad_further level) a b;
+    }
 
 -- a pair as one number
 abbrev pub pair_code : Pair → ℕ

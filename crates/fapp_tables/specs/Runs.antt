@@ -13,7 +13,8 @@ side_at links place = slice_index_or links place no_side
 
 -- the link before a place is none of the same pair of paths
 abbrev pub begins_run : List Side → ℕ → Bool
-begins_run links place = (place == 0) || (not ((side_at links (place - 1)).path == (side_at links place).path)
+begins_run links place =
+    (place == 0) || (not ((side_at links (place - 1)).path == (side_at links place).path)
     || not ((side_at links (place - 1)).other == (side_at links place).other))
 
 -- the places at which runs begin

@@ -5,7 +5,8 @@ use Rattle.fapp_model.specs.Instances.{IsInstance}
 use Rattle.fapp_model.specs.search.WorkOrder.{work_order}
 use Rattle.fapp_tables.specs.Parts.{AreIndexes}
 
-pub record IsTables (instance : Instance) (order starts neighbours firsts positions : List ℕ) : Type 0 where
+pub record IsTables (instance : Instance)
+    (order starts neighbours firsts positions : List ℕ) : Type 0 where
   pub valid : IsInstance instance
   pub ordered : order ≡ work_order instance
   pub indexed : AreIndexes instance starts neighbours firsts positions

@@ -6,7 +6,8 @@ ghost use Rattle.fapp_tables.specs.Measures.{coded_part, hard_part};
 
 use fapp_model::{Choice, MAX_LEVELS, Record, S_SPAN};
 
-/// What records between two choices add at a level: how many of them are hard-bad, and the sum of their pairs.
+/// What records between two choices add at a level: how many of them are hard-bad, and the sum of
+/// their pairs.
 #[derive(Clone, Copy, Debug, PartialEq, Eq)]
 pub struct Counts {
     pub hard: u32,
@@ -33,7 +34,8 @@ fn is_same(first: Choice, second: Choice) -> bool
     first.pol == second.pol
 }
 
-/// At how many levels a record is bad between a choice of its first path and one of its second: at those below.
+/// At how many levels a record is bad between a choice of its first path and one of its second: at
+/// those below.
 pub fn record_height(constraint: &Record, first: Choice, second: Choice) -> u32
     requires { DistancesFall constraint.now }
     ensures within { result ≤ MAX_LEVELS }

@@ -6,7 +6,8 @@ pub fn neighbours_share_records()
     ensures { NeighboursShareRecords }
 {}
 
-/// The records between two paths are those that name both, ascending, whichever of the two comes first.
+/// The records between two paths are those that name both, ascending, whichever of the two comes
+/// first.
 pub fn records_name_both()
     ensures { RecordsNameBoth }
 {}

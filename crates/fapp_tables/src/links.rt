@@ -7,7 +7,8 @@ ghost use Rattle.fapp_tables.specs.Links.{AreSortedLinks, IsSideNotAfter, all_li
 use fapp_model::{Instance, NoMemory};
 use std::alloc::Global;
 
-/// A record, as seen from one of the two paths that it names. Links are ordered by path, other path and position.
+/// A record, as seen from one of the two paths that it names. Links are ordered by path, other path
+/// and position.
 #[derive(Clone, Copy, Debug, PartialEq, Eq, PartialOrd, Ord)]
 pub struct Side {
     pub path: u16,

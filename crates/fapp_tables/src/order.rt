@@ -9,7 +9,8 @@ use fapp_model::{Instance, NoMemory};
 use std::alloc::Global;
 use std::cmp::Reverse;
 
-/// A path's place in the work order: those that more records name come first, then those that stand earlier.
+/// A path's place in the work order: those that more records name come first, then those that stand
+/// earlier.
 #[derive(Clone, Copy, Debug, PartialEq, Eq, PartialOrd, Ord)]
 pub struct Place {
     pub degree: Reverse<u32>,

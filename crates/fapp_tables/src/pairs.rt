@@ -28,8 +28,10 @@ fn turned_counts(
     requires instance { IsInstance instance.now }
     requires level { level ≤ MAX_LEVELS }
     requires position { position < length instance.now.records }
-    ensures hard { result.hard ≡ turned (hard_part level) path first second (record_at instance.now position) }
-    ensures sum { result.sum ≡ turned (coded_part level) path first second (record_at instance.now position) }
+    ensures hard { result.hard ≡ turned (hard_part level) path first second
+        (record_at instance.now position) }
+    ensures sum { result.sum ≡ turned (coded_part level) path first second
+        (record_at instance.now position) }
     ensures one { result.hard ≤ 1 }
     ensures small { result.sum ≤ S_SPAN + MOST_FURTHER }
 {
@@ -41,7 +43,8 @@ fn turned_counts(
     }
 }
 
-/// Whether a record is hard-bad at a level between a choice of its first path and one of its second.
+/// Whether a record is hard-bad at a level between a choice of its first path and one of its
+/// second.
 fn is_hard_bad(constraint: &Record, level: u32, first: Choice, second: Choice) -> bool
     ensures { result ≡ is_hard_bad level constraint.now first second }
 {
@@ -104,8 +107,10 @@ pub fn pair_counts(
     requires level { level ≤ MAX_LEVELS }
     requires apart { path ≢ other }
     requires positions { positions.now ≡ records_of instance.now path other }
-    ensures hard { result.hard ≡ between_choices instance.now (hard_part level) path other first second }
-    ensures sum { result.sum ≡ between_choices instance.now (coded_part level) path other first second }
+    ensures hard { result.hard ≡ between_choices instance.now (hard_part level) path other first
+        second }
+    ensures sum { result.sum ≡ between_choices instance.now (coded_part level) path other first
+        second }
     ensures few { result.hard ≤ MAX_RECORDS }
     ensures small { result.sum ≤ MAX_RECORDS * (S_SPAN + MOST_FURTHER) }
 {

@@ -16,9 +16,10 @@ use std::marker::Model;
 
 /// Indexes over the records of an instance. Contracts see the instance.
 ///
-/// They stand in flat lists: the neighbours of each path one after another, and the positions of the records of each
-/// path and neighbour one after another. A record takes at most 20 bytes (8 for its position, seen from both paths,
-/// and 6 at each side where its pair has no other record) and a path 6.
+/// They stand in flat lists: the neighbours of each path one after another, and the positions of
+/// the records of each path and neighbour one after another. A record takes at most 20 bytes (8 for
+/// its position, seen from both paths, and 6 at each side where its pair has no other record) and a
+/// path 6.
 #[derive(Debug, Drop)]
 pub struct Tables<'a> {
     instance: &'a Instance,
@@ -73,8 +74,8 @@ impl<'a> Tables<'a> {
         self.instance
     }
 
-    /// The work order: the paths that most records name come first, and of as many records the one that stands
-    /// earlier.
+    /// The work order: the paths that most records name come first, and of as many records the one
+    /// that stands earlier.
     pub fn order(&self) -> &[u16]
         ensures { result.now ≡ work_order self.now }
     {
@@ -91,11 +92,13 @@ impl<'a> Tables<'a> {
         &self.neighbours[start..end]
     }
 
-    /// The positions of the records that name a path and its neighbour of a place among its neighbours, ascending.
+    /// The positions of the records that name a path and its neighbour of a place among its
+    /// neighbours, ascending.
     pub fn records_at(&self, path: u16, place: usize) -> &[u32]
         requires path { path < length self.now.paths }
         requires place { place < length (neighbours_of self.now path) }
-        ensures { result.now ≡ records_of self.now path (slice_index (neighbours_of self.now path) place) }
+        ensures { result.now ≡ records_of self.now path
+            (slice_index (neighbours_of self.now path) place) }
     {
         let run = self.starts[path as usize] as usize + place;
         &self.positions[self.firsts[run] as usize..self.firsts[run + 1] as usize]
@@ -113,8 +116,8 @@ impl<'a> Tables<'a> {
         }
     }
 
-    /// Whether some record between two choices is hard-bad at a level: an imperative record that is broken, or a
-    /// compatibility record that is bad there.
+    /// Whether some record between two choices is hard-bad at a level: an imperative record that is
+    /// broken, or a compatibility record that is bad there.
     pub fn hard_bad(&self, level: u32, i: u16, c: u16, j: u16, d: u16) -> bool
         requires first { IsLiteral self.now (literal i c) }
         requires second { IsLiteral self.now (literal j d) }
@@ -126,8 +129,8 @@ impl<'a> Tables<'a> {
         pair_clashes(self.instance, positions, level, i, j, first, second)
     }
 
-    /// What the records between two choices add below a level, at most `MAX_LEVELS`: the violations one level below
-    /// it times `S_SPAN`, and the sum of the violations further below.
+    /// What the records between two choices add below a level, at most `MAX_LEVELS`: the violations
+    /// one level below it times `S_SPAN`, and the sum of the violations further below.
     pub fn weight(&self, level: u32, i: u16, c: u16, j: u16, d: u16) -> u64
         requires first { IsLiteral self.now (literal i c) }
         requires second { IsLiteral self.now (literal j d) }

@@ -9,7 +9,8 @@ pub record LinesLeft : Type 0 where
 
 -- the first of the lines that were left, under its number, or none where no line was left
 abbrev pub GivesLine : LinesLeft → Option (ℕ × Bor (List ℕ)) → LinesLeft → Type 0
-GivesLine old (Some found) new = (old.lines ≡ found.1.now ∷ new.lines) × (found.0 ≡ old.number) × (new.number ≡ old.number + 1)
+GivesLine old (Some found) new =
+    (old.lines ≡ found.1.now ∷ new.lines) × (found.0 ≡ old.number) × (new.number ≡ old.number + 1)
 GivesLine old None new = (old.lines ≡ []) × (new ≡ old)
 
 -- the first of the fields that were left, or none where no field was left

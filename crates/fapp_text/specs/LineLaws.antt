@@ -16,7 +16,9 @@ LinesJoin = (text : List ℕ) → flat_map (λ line. line ++ line_feed ∷ []) (
 
 -- no line has a line feed
 abbrev pub LinesAreCut : Type 0
-LinesAreCut = (text : List ℕ) → list_all (λ line. list_all (λ b. not (b == line_feed)) line) (lines text) ≡ true
+LinesAreCut =
+    (text : List ℕ) → list_all (λ line. list_all (λ b. not (b == line_feed)) line) (lines text)
+    ≡ true
 
 -- the fields have all bytes that are no blanks, in order
 abbrev pub FieldsJoin : Type 0
@@ -24,4 +26,6 @@ FieldsJoin = (line : List ℕ) → concat (fields line) ≡ filter (λ b. not (i
 
 -- no field is empty or has a blank
 abbrev pub FieldsAreCut : Type 0
-FieldsAreCut = (line : List ℕ) → list_all (λ field. nat_lt 0 (length field) && list_all (λ b. not (is_blank b)) field) (fields line) ≡ true
+FieldsAreCut =
+    (line : List ℕ) → list_all (λ field. nat_lt 0 (length field)
+    && list_all (λ b. not (is_blank b)) field) (fields line) ≡ true

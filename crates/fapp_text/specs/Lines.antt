@@ -1,4 +1,5 @@
--- The lines of a text: the bytes up to each line feed, and those after the last one, if there are any.
+-- The lines of a text: the bytes up to each line feed, and those after the last one, if there are
+-- any.
 use Rattle.std.specs.Prelude.{ℕ, Bool, ◌==◌, List, [], ◌∷◌, if◌then◌else◌}
 use Rattle.std.specs.List.{onto_first}
 

@@ -40,8 +40,8 @@ impl<'a> Lines<'a> {
         }
     }
 
-    /// The next line and its number, from 1: the bytes up to a line feed, or all that follow the last line feed.
-    /// `None` where all bytes were given.
+    /// The next line and its number, from 1: the bytes up to a line feed, or all that follow the
+    /// last line feed. `None` where all bytes were given.
     pub fn next(&mut self) -> Option<(u32, &'a [u8])>
         ensures { GivesLine self.old result self.new }
     {

@@ -19,7 +19,10 @@ abbrev pub with_rules : Text → List Rule → Shape
 with_rules name rules = record (new_shape name) { rules = rules }
 
 abbrev pub solve_shape : Shape
-solve_shape = with_rules (codes "solve") (option_rule (codes "workers") ∷ option_rule (codes "fuel") ∷ option_rule (codes "split") ∷ option_rule (codes "pool") ∷ option_rule (codes "cert") ∷ flag_rule (codes "answer-only") ∷ [])
+solve_shape =
+    with_rules (codes "solve") (option_rule (codes "workers") ∷ option_rule (codes "fuel")
+    ∷ option_rule (codes "split") ∷ option_rule (codes "pool") ∷ option_rule (codes "cert")
+    ∷ flag_rule (codes "answer-only") ∷ [])
 
 abbrev pub check_shape : Shape
 check_shape = with_rules (codes "check") (option_rule (codes "workers") ∷ [])
@@ -42,4 +45,7 @@ top_shape = record (new_shape (codes "zilmaute")) {
 }
 
 abbrev pub program : App
-program = with_subcommand (with_subcommand (with_subcommand (with_subcommand (record { top = top_shape; subs = [] }) solve_shape) check_shape) (two_places (codes "gen"))) (two_places (codes "demo"))
+program =
+    with_subcommand (with_subcommand (with_subcommand
+    (with_subcommand (record { top = top_shape; subs = [] }) solve_shape) check_shape)
+    (two_places (codes "gen"))) (two_places (codes "demo"))

@@ -69,7 +69,9 @@ given name ps = option_map value_of (find (λ p. bytes_eq (key_of p) name) ps)
 -- ---- the forms of words, one after another
 
 abbrev pub is_name : Text → Bool
-is_name word = list_any (λ name. bytes_eq word (codes "--" ++ text_of name)) (workers ∷ fuel ∷ split ∷ pool ∷ cert ∷ [])
+is_name word =
+    list_any (λ name. bytes_eq word (codes "--" ++ text_of name))
+    (workers ∷ fuel ∷ split ∷ pool ∷ cert ∷ [])
 
 -- what stands before and after the first `=` (61)
 abbrev pub split_equals : Text → Option (Text × Text)
@@ -87,11 +89,15 @@ is_bare word = bytes_eq word (codes "--answer-only")
 abbrev pub are_pieces : Bool → List Text → Bool
 are_pieces wanted [] = not wanted
 are_pieces true (word ∷ rest) = is_short_numeral word && are_pieces false rest
-are_pieces false (word ∷ rest) = if is_name word then are_pieces true rest else ((is_bare word || is_joined word) && are_pieces false rest)
+are_pieces false (word ∷ rest) =
+    if is_name word then are_pieces true rest
+    else ((is_bare word || is_joined word) && are_pieces false rest)
 
 -- the word is `--workers=VALUE`
 abbrev pub is_workers : Text → Bool
-is_workers word = option_map_or (λ p. bytes_eq p.0 (codes "--workers") && is_short_numeral p.1) (split_equals word) false
+is_workers word =
+    option_map_or (λ p. bytes_eq p.0 (codes "--workers") && is_short_numeral p.1)
+    (split_equals word) false
 
 -- the words of `check` behind its name: none, or the option `workers` with its value
 abbrev pub is_at_most_workers : List Text → Bool

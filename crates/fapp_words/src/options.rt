@@ -16,7 +16,8 @@ pub const DEFAULT_SPLIT: u32 = 64;
 /// The rows of the pool of nogoods where no number is named.
 pub const DEFAULT_POOL: u32 = 4096;
 
-/// The last version of a certificate's text. The first is 1, and that of an answer where none is named.
+/// The last version of a certificate's text. The first is 1, and that of an answer where none is
+/// named.
 pub const MAX_VERSION: u32 = 2;
 
 /// How `solve` is to work.
@@ -24,7 +25,8 @@ pub const MAX_VERSION: u32 = 2;
 pub struct SolveOptions {
     /// The threads that search side by side, 1 to `MAX_WORKERS`.
     pub workers: u32,
-    /// The most ticks of a job, 0 to `MAX_FUEL`. `None` where no fuel is named: then it is 1,000 and the number of paths.
+    /// The most ticks of a job, 0 to `MAX_FUEL`. `None` where no fuel is named: then it is 1,000
+    /// and the number of paths.
     pub fuel: Option<u32>,
     /// The most prefixes that the search is split into, 1 to `MAX_SPLIT`.
     pub split: u32,
@@ -39,8 +41,8 @@ pub struct SolveOptions {
 /// How `check` is to work.
 #[derive(Clone, Copy, Debug, PartialEq, Eq)]
 pub struct CheckOptions {
-    /// The threads that judge lines side by side, 1 to `MAX_WORKERS`. It is 1 where no number is named, and then lines are
-    /// judged one after another.
+    /// The threads that judge lines side by side, 1 to `MAX_WORKERS`. It is 1 where no number is
+    /// named, and then lines are judged one after another.
     pub workers: u32,
 }
 
@@ -53,8 +55,10 @@ pub(crate) fn options_in(
     cert: Option<&str>,
     answer_only: bool,
 ) -> Option<SolveOptions>
-    ensures { result ≡ options_in (option_map (λ s. s.now) workers.entry) (option_map (λ s. s.now) fuel.entry)
-        (option_map (λ s. s.now) split.entry) (option_map (λ s. s.now) pool.entry) (option_map (λ s. s.now) cert.entry) answer_only }
+    ensures { result ≡ options_in (option_map (λ s. s.now) workers.entry)
+        (option_map (λ s. s.now) fuel.entry)
+        (option_map (λ s. s.now) split.entry) (option_map (λ s. s.now) pool.entry)
+        (option_map (λ s. s.now) cert.entry) answer_only }
 {
     let workers = ranged(1, MAX_WORKERS, workers)?;
     let fuel = ranged(0, MAX_FUEL, fuel)?;
@@ -81,7 +85,8 @@ pub(crate) fn check_in(workers: Option<&str>) -> Option<CheckOptions>
 
 /// What a network is made from, for its two values, where each is in its range.
 pub(crate) fn seed_in(number: Option<&str>, paths: Option<&str>) -> Option<Seed>
-    ensures { result ≡ seed_in (option_map (λ s. s.now) number.entry) (option_map (λ s. s.now) paths.entry) }
+    ensures { result ≡ seed_in (option_map (λ s. s.now) number.entry)
+        (option_map (λ s. s.now) paths.entry) }
 {
     let number = ranged(0, MAX_NUMBER, number)??;
     let paths = ranged(2, MAX_MADE_PATHS, paths)??;

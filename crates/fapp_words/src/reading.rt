@@ -16,12 +16,13 @@ use clap::ArgMatches;
 use clap::error::ErrorKind;
 use std::alloc::Global;
 
-/// What the words after the program's name ask for. `None` comes exactly where they are none of the promised ones:
-/// `solve` with `--workers`, `--fuel`, `--split`, `--pool`, `--cert` and `--answer-only`, each at most once and in any order,
-/// `check` with `--workers` at most once, `gen` and `demo` with a number and a number of paths; a number has 1 to 10 digits
-/// and is in its range: 1 to 32 workers, 0 to 1,000,000 ticks of fuel, 1 to 4,096 prefixes, a pool of 0 to 65,536 rows,
-/// version 1 or 2, a number of at most 1,000,000,000 and 2 to 2,000 paths.
-/// `NoMemory` comes where the words' copies could not be had.
+/// What the words after the program's name ask for. `None` comes exactly where they are none of the
+/// promised ones: `solve` with `--workers`, `--fuel`, `--split`, `--pool`, `--cert` and
+/// `--answer-only`, each at most once and in any order, `check` with `--workers` at most once,
+/// `gen` and `demo` with a number and a number of paths; a number has 1 to 10 digits and is in its
+/// range: 1 to 32 workers, 0 to 1,000,000 ticks of fuel, 1 to 4,096 prefixes, a pool of 0 to 65,536
+/// rows, version 1 or 2, a number of at most 1,000,000,000 and 2 to 2,000 paths. `NoMemory` comes
+/// where the words' copies could not be had.
 pub fn read_words(alloc: Global, words: &[String]) -> Result<Option<Request>, NoMemory>
     ensures reads { IfOk result (ReadsWords (map string_bytes words.now)) }
     ensures ranges { AreRanges }
@@ -35,7 +36,8 @@ pub fn read_words(alloc: Global, words: &[String]) -> Result<Option<Request>, No
 
 /// What is asked for, from what clap found in words that it took.
 fn request(matches: &ArgMatches, words: &[String]) -> Option<Request>
-    requires found { subcommand_rows_of matches.now ≡ subcommand_of program (map string_bytes words.now) }
+    requires found { subcommand_rows_of matches.now
+        ≡ subcommand_of program (map string_bytes words.now) }
     requires taken { fault_of program (map string_bytes words.now) ≡ [] }
     ensures { ReadsWords (map string_bytes words.now) result }
 {
@@ -79,9 +81,11 @@ fn showing(seed: Option<Seed>) -> Option<Request>
     seed.map(|seed| Request::Demo(seed))
 }
 
-/// The number and the paths of a command that makes a network, from what clap found in words that it took.
+/// The number and the paths of a command that makes a network, from what clap found in words that
+/// it took.
 fn made_seed(matches: &ArgMatches, words: &[String], maker: Maker) -> Option<Seed>
-    requires found { subcommand_rows_of matches.now ≡ subcommand_of program (map string_bytes words.now) }
+    requires found { subcommand_rows_of matches.now
+        ≡ subcommand_of program (map string_bytes words.now) }
     ensures { ReadsSeed maker (map string_bytes words.now) result }
 {
     if words.len() != 3 {
@@ -104,7 +108,8 @@ fn made_seed(matches: &ArgMatches, words: &[String], maker: Maker) -> Option<See
 
 /// The options, from what clap found in words that it took.
 fn solve_options(matches: &ArgMatches, words: &[String]) -> Option<SolveOptions>
-    requires found { subcommand_rows_of matches.now ≡ subcommand_of program (map string_bytes words.now) }
+    requires found { subcommand_rows_of matches.now
+        ≡ subcommand_of program (map string_bytes words.now) }
     requires taken { fault_of program (map string_bytes words.now) ≡ [] }
     ensures { ReadsSolve (map string_bytes words.now) result }
 {
@@ -130,7 +135,8 @@ fn solve_options(matches: &ArgMatches, words: &[String]) -> Option<SolveOptions>
 
 /// The options of `check`, from what clap found in words that it took.
 fn check_options(matches: &ArgMatches, words: &[String]) -> Option<CheckOptions>
-    requires found { subcommand_rows_of matches.now ≡ subcommand_of program (map string_bytes words.now) }
+    requires found { subcommand_rows_of matches.now
+        ≡ subcommand_of program (map string_bytes words.now) }
     ensures { ReadsCheck (map string_bytes words.now) result }
 {
     let (first, options) = words.split_first()?;

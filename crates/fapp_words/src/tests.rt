@@ -2,8 +2,8 @@ use super::*;
 use std::alloc::Global;
 use std::test::Fail;
 
-// Lists of words, and what they ask for: None where they are none of the promised ones. Two spaces stand around an empty
-// word.
+// Lists of words, and what they ask for: None where they are none of the promised ones. Two spaces
+// stand around an empty word.
 const LISTS: [(&str, Option<Request>); 238] = [
     (
         "solve --cert 1",

@@ -20,9 +20,10 @@ kept_of place = (place.log, place.done)
 abbrev pub kept_by : Work → LogState × Result (Vec Done) AllocError
 kept_by work = (work.log, Ok work.done)
 
--- no worker lacked memory; each job was given once; the code is the least that a seat offered, or the top one; and the rows that
--- the seats saw are those that they published, each once
-pub record IsClosedRun (jobs : ℕ) (first : PoolView) (places : List Place) (works : List Work) (code : ℕ) : Type 0 where
+-- no worker lacked memory; each job was given once; the code is the least that a seat offered, or
+-- the top one; and the rows that the seats saw are those that they published, each once
+pub record IsClosedRun (jobs : ℕ) (first : PoolView) (places : List Place) (works : List Work)
+    (code : ℕ) : Type 0 where
   pub kept : map kept_by works ≡ map kept_of places
   pub once : (job : ℕ) → job < jobs → times_given job (hands_of places) ≡ 1
   pub least : IsLeastOfAll (seats_of places) code

@@ -16,8 +16,8 @@ pub record WorkerEnd : Type 0 where
   pub copied : List KnownRow
   pub published : List KnownRow
 
--- The log is good over the rows that the worker knows, its segments are the rows that it published, in order, and its Count
--- lines cite nothing.
+-- The log is good over the rows that the worker knows, its segments are the rows that it published,
+-- in order, and its Count lines cite nothing.
 pub record IsWorkerEnd (instance : Instance) (e : WorkerEnd) : Type 0 where
   pub good : IsGoodLog instance (e.copied ++ e.published) e.log.lines e.log.segments
   pub home : AreHome e.published e.log.segments
@@ -42,7 +42,8 @@ pub record IsSeatEnd (v : PoolView) (e : WorkerEnd) : Type 0 where
   pub published : e.published ≡ all_known v.published
   pub copied : All (Contains (all_known v.seen)) e.copied
 
--- Rows were placed before and published by the workers, no number twice, and whatever a worker copied is one of them.
+-- Rows were placed before and published by the workers, no number twice, and whatever a worker
+-- copied is one of them.
 pub record AreClosed (placed : List KnownRow) (ends : List WorkerEnd) : Type 0 where
   pub distinct : AllPairs (λ a b. a.number ≢ b.number) (placed ++ all_published ends)
   pub copied : All (λ (e : WorkerEnd). All (Contains (placed ++ all_published ends)) e.copied) ends

@@ -1,4 +1,5 @@
--- What is known of all jobs by their outcomes, the logs that show them, and the least cost that was found.
+-- What is known of all jobs by their outcomes, the logs that show them, and the least cost that was
+-- found.
 use Rattle.std.specs.Prelude.{◌≡◌, ◌⊎◌, ℕ, ◌<◌, ◌≤◌, List, length, slice_index_or, All, Contains, Option, Some, None}
 use Rattle.fapp_model.specs.declared.instance.Instance.{Instance}
 use Rattle.fapp_model.specs.search.Jobs.{job_count}
@@ -20,12 +21,15 @@ log_at logs place = slice_index_or logs place empty_log
 abbrev pub IsPlacedBy : Split → ℕ → List KnownRow → List LogState → ℕ → ℕ → Placed → Type 0
 IsPlacedBy split fuel rows logs word id None = ⊥
 IsPlacedBy split fuel rows logs word id (Some placed) =
-    (placed.0 < length logs) × IsJobSettledBy split fuel id rows (log_at logs placed.0).lines word placed.1
+    (placed.0 < length logs) × IsJobSettledBy split fuel id rows (log_at logs placed.0).lines word
+    placed.1
 
 -- each job has an outcome, which a log shows
-pub record AreSettled (split : Split) (fuel : ℕ) (rows : List KnownRow) (logs : List LogState) (word : ℕ) (outcomes : List Placed) : Type 0 where
+pub record AreSettled (split : Split) (fuel : ℕ) (rows : List KnownRow) (logs : List LogState)
+    (word : ℕ) (outcomes : List Placed) : Type 0 where
   pub planned : length outcomes ≡ job_count split.instance split.split
-  pub each : (id : ℕ) → id < job_count split.instance split.split → IsPlacedBy split fuel rows logs word id (slice_index_or outcomes id None)
+  pub each : (id : ℕ) → id < job_count split.instance split.split →
+      IsPlacedBy split fuel rows logs word id (slice_index_or outcomes id None)
 
 -- nothing that is kept costs less
 abbrev pub IsAtMostKept : ℕ → Option KeptPlan → Type 0
@@ -40,8 +44,8 @@ pub record KeepsCost (logs : List LogState) (word : ℕ) : Type 0 where
   pub kept : log.best ≡ Some best
   pub cost : word ≡ code_of best.cost
 
--- the least cost that a log keeps, or the top tag where none keeps one; what is kept is an assignment that meets the imperative
--- records, with its cost
+-- the least cost that a log keeps, or the top tag where none keeps one; what is kept is an
+-- assignment that meets the imperative records, with its cost
 pub record IsLeastWord (instance : Instance) (logs : List LogState) (word : ℕ) : Type 0 where
   pub right : All (λ log. IsKeptRight instance log.best) logs
   pub low : All (λ log. IsAtMostKept word log.best) logs

@@ -27,28 +27,32 @@ own_line (Refuted line tag) = own_place line
 own_line (Moot seen) = None
 own_line Spent = None
 
--- The line at that place ends the segment, which stands behind those that stood as the job began, and before those that stood
--- as a later job began.
+-- The line at that place ends the segment, which stands behind those that stood as the job began,
+-- and before those that stood as a later job began.
 abbrev pub ArePlaced : List Segment → List Done → Type 0
 ArePlaced segments [] = Unit {0}
 ArePlaced segments (done ∷ more) =
-    ((n i : ℕ) (s : Segment) → own_line done.outcome ≡ Some n → slice_get segments i ≡ Some s → s.last ≡ n →
+    ((n i : ℕ) (s : Segment) → own_line done.outcome ≡ Some n → slice_get segments i ≡ Some s →
+    s.last ≡ n →
     (done.segments ≤ i) × All (λ (later : Done). i < later.segments) more)
     × ArePlaced segments more
 
--- A segment that stood as the job began ends with a line that has literals of the job's prefix alone, at a tag of at least its
--- target: then the job took no tick.
+-- A segment that stood as the job began ends with a line that has literals of the job's prefix
+-- alone, at a tag of at least its target: then the job took no tick.
 abbrev pub IsUsed : Split → LogState → Done → Type 0
-IsUsed split log done = (i : ℕ) (s : Segment) (line : LogLine) → i < done.segments → slice_get log.segments i ≡ Some s → slice_get log.lines s.last ≡ Some line →
-    HasAll (job_prefix split.instance split.split done.id) line.lits → level_code (job_level split.instance done.id + 1) ≤ line.tag.code → done.ticks ≡ 0
+IsUsed split log done =
+    (i : ℕ) (s : Segment) (line : LogLine) → i < done.segments → slice_get log.segments i ≡ Some s →
+    slice_get log.lines s.last ≡ Some line →
+    HasAll (job_prefix split.instance split.split done.id) line.lits →
+    level_code (job_level split.instance done.id + 1) ≤ line.tag.code → done.ticks ≡ 0
 
 -- the first job began with so many segments
 abbrev pub BeginsWith : ℕ → List Done → Type 0
 BeginsWith n [] = Unit {0}
 BeginsWith n (done ∷ more) = done.segments ≡ n
 
--- Rows: the segments that the log gained are the rows that were published, in their order; the numbers of segments begin with
--- those that stood and never fall; and what was pooled is used.
+-- Rows: the segments that the log gained are the rows that were published, in their order; the
+-- numbers of segments begin with those that stood and never fall; and what was pooled is used.
 pub record IsRowsClause (split : Split) (old new : Held) (done : List Done) : Type 0 where
   pub rows : List KnownRow
   pub published : new.shared.published ≡ old.shared.published ++ rows
@@ -73,8 +77,9 @@ abbrev pub is_left_out : LogState → Option ℕ → Bool
 is_left_out log None = false
 is_left_out log (Some n) = can_be_row (slice_get log.lines n) && not (ends_segment log.segments n)
 
--- Offers: the jobs that are refuted by a line which can be a row and ends no segment are at most as many as the refusals that were
--- counted, where offers are taken.
+-- Offers: the jobs that are refuted by a line which can be a row and ends no segment are at most as
+-- many as the refusals that were counted, where offers are taken.
 abbrev pub IsOffersClause : Held → Held → List Done → Type 0
 IsOffersClause old new done = old.shared.takes ≡ true →
-    old.shared.refusals + count_by (λ (d : Done). is_left_out new.log (own_line d.outcome)) done ≤ new.shared.refusals
+    old.shared.refusals + count_by (λ (d : Done). is_left_out new.log (own_line d.outcome)) done
+    ≤ new.shared.refusals

@@ -18,13 +18,15 @@ abbrev pub times_done : ℕ → List Work → ℕ
 times_done job works = sum_by (λ (work : Work). times job (ids_of work.done.items)) works
 
 -- a worker's log shows its jobs, for the final word, over the rows of all
-pub record IsWorkFor (split : Split) (fuel word : ℕ) (rows : List KnownRow) (work : Work) : Type 0 where
+pub record IsWorkFor (split : Split) (fuel word : ℕ) (rows : List KnownRow)
+    (work : Work) : Type 0 where
   pub branches : branches_in work.log.lines ≤ ticks_in work.done.items
   pub each : All (IsJobDone split fuel rows work.log.lines word) work.done.items
 
--- each job was done once, as a log shows; the logs are good over the rows that they call home and those that were placed; and
--- the word is the least cost that a log keeps
-pub record AreSolved (split : Split) (fuel workers : ℕ) (placed : List KnownRow) (works : List Work) (word : ℕ) : Type 0 where
+-- each job was done once, as a log shows; the logs are good over the rows that they call home and
+-- those that were placed; and the word is the least cost that a log keeps
+pub record AreSolved (split : Split) (fuel workers : ℕ) (placed : List KnownRow) (works : List Work)
+    (word : ℕ) : Type 0 where
   pub rows : List KnownRow
   pub count : length works ≡ workers
   pub once : (job : ℕ) → job < job_count split.instance split.split → times_done job works ≡ 1

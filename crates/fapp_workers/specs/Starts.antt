@@ -14,8 +14,9 @@ use Rattle.search_log.specs.NumberedRows.{numbered_rows}
 use Rattle.fapp_workers.specs.FirstRows.{AreTwins}
 use Rattle.fapp_workers.specs.WorkerPlaces.{IsFreshPlace, hands_of, pool_seats_of, seats_of}
 
--- A ring of the plan's jobs, whose hands stand by their numbers; a word and a pool, whose shares are whole; a first seat of the
--- pool that has published some rows, each under its place; and a place for each worker, at which nothing was done.
+-- A ring of the plan's jobs, whose hands stand by their numbers; a word and a pool, whose shares
+-- are whole; a first seat of the pool that has published some rows, each under its place; and a
+-- place for each worker, at which nothing was done.
 pub record IsDealtOut (split : Split) (workers : ℕ) (rows : List Row) (dealt : Dealt) : Type 0 where
   pub jobs : dealt.ring.jobs ≡ job_count split.instance split.split
   pub count : length dealt.places.items ≡ workers
@@ -26,4 +27,5 @@ pub record IsDealtOut (split : Split) (workers : ℕ) (rows : List Row) (dealt :
   pub first : IsPoolSeatOf dealt.pool dealt.first
   pub published : all_known (pool_view dealt.first).published ≡ numbered_rows rows
   pub placed : AreTwins (length rows) dealt.placed.items
-  pub pool_shares : (pool_view dealt.first).share + pool_shares (pool_seats_of dealt.places.items) ≡ WHOLE_SHARE
+  pub pool_shares : (pool_view dealt.first).share + pool_shares (pool_seats_of dealt.places.items)
+      ≡ WHOLE_SHARE

@@ -5,4 +5,9 @@ use Rattle.fapp_workers.specs.declared.bound.SharedBound.{SharedBound}
 use Rattle.fapp_workers.specs.SharedBounds.{least_offer}
 
 abbrev pub state_of : SharedBound → BoundState
-state_of bound = record { began = bound.began.code; told = bound.told.code; least = least_offer (view_of bound.seat).offers }
+state_of bound =
+    record {
+      began = bound.began.code;
+      told = bound.told.code;
+      least = least_offer (view_of bound.seat).offers;
+    }

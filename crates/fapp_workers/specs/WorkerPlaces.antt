@@ -27,7 +27,8 @@ pub record IsUnpublished (instance : Instance) (seat : PoolSeat) : Type 0 where
   pub serves : (pool_view seat).instance ≡ instance
   pub none : (pool_view seat).published ≡ []
 
--- A seat of the word, a seat of the pool that has published nothing, and a log without lines, which keeps what the seat offered.
+-- A seat of the word, a seat of the pool that has published nothing, and a log without lines, which
+-- keeps what the seat offered.
 pub record IsSeated (split : Split) (word : BestWord) (pool : Pool) (place : Place) : Type 0 where
   pub seat : IsSeatOf word place.seat
   pub levels : (view_of place.seat).levels ≡ levels_of split.instance
@@ -39,18 +40,22 @@ pub record IsSeated (split : Split) (word : BestWord) (pool : Pool) (place : Pla
   pub right : IsKeptRight split.instance place.log.best
 
 -- no job was done yet
-pub record IsFreshPlace (split : Split) (ring : Ring) (word : BestWord) (pool : Pool) (place : Place) : Type 0 where
+pub record IsFreshPlace (split : Split) (ring : Ring) (word : BestWord) (pool : Pool)
+    (place : Place) : Type 0 where
   pub hand : IsHandOf ring place.hand
   pub nothing : won_of place.hand ≡ []
   pub seated : IsSeated split word pool place
 
 -- what a worker leaves, with the rows that it copied
 abbrev pub end_by : PoolSeat → LogState → List KnownRow → WorkerEnd
-end_by seat log copied = record { log = log; copied = copied; published = all_known (pool_view seat).published }
+end_by seat log copied =
+    record { log = log; copied = copied; published = all_known (pool_view seat).published }
 
--- The jobs that a hand was given are done, as its log says, for each word that is at most what its seat knows. The log is good
--- over the rows that the worker copied, all of which its seat of the pool saw, and those that it published, which are home in it.
-pub record IsWorkOf (split : Split) (fuel : ℕ) (hand : Hand) (seat : BestSeat) (pool_seat : PoolSeat) (log : LogState) (done : List Done) : Type 0 where
+-- The jobs that a hand was given are done, as its log says, for each word that is at most what its
+-- seat knows. The log is good over the rows that the worker copied, all of which its seat of the
+-- pool saw, and those that it published, which are home in it.
+pub record IsWorkOf (split : Split) (fuel : ℕ) (hand : Hand) (seat : BestSeat)
+    (pool_seat : PoolSeat) (log : LogState) (done : List Done) : Type 0 where
   pub at_end : IsAtEnd hand
   pub given : won_of hand ≡ ids_of done
   pub copied : List KnownRow
@@ -62,16 +67,19 @@ pub record IsWorkOf (split : Split) (fuel : ℕ) (hand : Hand) (seat : BestSeat)
   pub each : All (IsJobDone split fuel copied log.lines (view_of seat).least) done
 
 -- what a worker owns came back, and where memory sufficed its jobs are done
-pub record IsTended (split : Split) (fuel : ℕ) (ring : Ring) (word : BestWord) (pool : Pool) (old new : Place) : Type 0 where
+pub record IsTended (split : Split) (fuel : ℕ) (ring : Ring) (word : BestWord) (pool : Pool)
+    (old new : Place) : Type 0 where
   pub hand : IsHandOf ring new.hand
   pub same_hand : IsSameHand old.hand new.hand
   pub seat : IsSeatOf word new.seat
   pub share : (view_of new.seat).share ≡ (view_of old.seat).share
   pub levels : (view_of new.seat).levels ≡ (view_of old.seat).levels
-  pub offered : (n : ℕ) → Contains (view_of old.seat).offers n → Contains (view_of new.seat).offers n
+  pub offered : (n : ℕ) → Contains (view_of old.seat).offers n →
+      Contains (view_of new.seat).offers n
   pub pool_seat : IsPoolSeatOf pool new.pool_seat
   pub pool_share : (pool_view new.pool_seat).share ≡ (pool_view old.pool_seat).share
-  pub works : IfOk new.done (λ done. IsWorkOf split fuel new.hand new.seat new.pool_seat new.log done.items)
+  pub works : IfOk new.done (λ done. IsWorkOf split fuel new.hand new.seat new.pool_seat new.log
+      done.items)
 
 abbrev pub hands_of : List Place → List Hand
 hands_of places = map (λ (p : Place). p.hand) places

@@ -31,14 +31,16 @@ branches_in lines = count_by (λ (line : LogLine). is_some line.path) lines
 -- some numbers stand among others, in their order
 abbrev pub IsSubsequence : List ℕ → List ℕ → Type 0
 IsSubsequence some [] = some ≡ []
-IsSubsequence some (x ∷ all) = IsSubsequence some all ⊎ ((rest : List ℕ) × (some ≡ x ∷ rest) × IsSubsequence rest all)
+IsSubsequence some (x ∷ all) =
+    IsSubsequence some all ⊎ ((rest : List ℕ) × (some ≡ x ∷ rest) × IsSubsequence rest all)
 
 -- Hand: the last `next` was None, and the jobs are those that were given, in order.
 pub record IsHandClause (old new : Hand) (done : List Done) : Type 0 where
   pub at_end : IsAtEnd new
   pub given : won_of new ≡ won_of old ++ ids_of done
 
--- Bound: the starts are among the words that the seat found in this call, in their order, and never rise.
+-- Bound: the starts are among the words that the seat found in this call, in their order, and never
+-- rise.
 pub record IsBoundClause (old new : List ℕ) (done : List Done) : Type 0 where
   pub gained : List ℕ
   pub found : new ≡ old ++ gained
@@ -51,15 +53,17 @@ IsAllTaken fuel (Refuted line tag) ticks = Unit {0}
 IsAllTaken fuel (Moot seen) ticks = Unit {0}
 IsAllTaken fuel Spent ticks = ticks ≡ fuel
 
--- a job is settled by what the log and the rows say, for the given word and so (a law) for each lower one, within its fuel and tries
-pub record IsJobDone (split : Split) (fuel : ℕ) (rows : List KnownRow) (lines : List LogLine) (word : ℕ) (done : Done) : Type 0 where
+-- a job is settled by what the log and the rows say, for the given word and so (a law) for each
+-- lower one, within its fuel and tries
+pub record IsJobDone (split : Split) (fuel : ℕ) (rows : List KnownRow) (lines : List LogLine)
+    (word : ℕ) (done : Done) : Type 0 where
   pub inside : done.id < job_count split.instance split.split
   pub settled : IsJobSettledBy split fuel done.id rows lines word done.outcome
   pub ticks : AreTicksOf split fuel done.id done.ticks
   pub taken : IsAllTaken fuel done.outcome done.ticks
 
--- Log: it is good, what it keeps is the least offer and a true cost where it was, it gained no more Branch lines than ticks were
--- taken, and its lines settle the jobs.
+-- Log: it is good, what it keeps is the least offer and a true cost where it was, it gained no more
+-- Branch lines than ticks were taken, and its lines settle the jobs.
 pub record IsLogClause (split : Split) (fuel : ℕ) (old new : Held) (done : List Done) : Type 0 where
   pub good : IsGoodLog split.instance (known new.shared) new.log.lines new.log.segments
   pub least : IsLeastOffered new.log.best new.bound.least
@@ -68,7 +72,8 @@ pub record IsLogClause (split : Split) (fuel : ℕ) (old new : Held) (done : Lis
   pub branches : branches_in new.log.lines ≤ branches_in old.log.lines + ticks_in done
   pub each : All (IsJobDone split fuel new.shared.copied new.log.lines (floor new.bound)) done
 
--- Want of memory ended the call: some jobs were decided, one after another, and the hand was given these and at most one more.
+-- Want of memory ended the call: some jobs were decided, one after another, and the hand was given
+-- these and at most one more.
 pub record IsCutShort (split : Split) (fuel : ℕ) (was now : List ℕ) (old new : Held) : Type 0 where
   pub done : List Done
   pub mid : Held

@@ -38,11 +38,13 @@ impl<'a> SharedBound<'a> {
         }
     }
 
-    /// The seat as it is now. What its view has as the least tag is at most what the bound tells and was offered.
+    /// The seat as it is now. What its view has as the least tag is at most what the bound tells
+    /// and was offered.
     pub fn into_seat(self) -> BestSeat
         ensures seat { result ≡ self.entry.seat }
         ensures own { IsSeatOf self.entry.word.now result }
-        ensures floor { (view_of result).least ≤ floor (⟦<SharedBound<'a> as Bound>⟧.state self.entry) }
+        ensures floor { (view_of result).least
+            ≤ floor (⟦<SharedBound<'a> as Bound>⟧.state self.entry) }
     {
         let SharedBound {
             word: _,
@@ -58,14 +60,20 @@ impl<'a> Bound for SharedBound<'a> {
     ghost use Rattle.best_word.specs.Seats.{view_of};
     ghost use Rattle.fapp_workers.specs.SharedBounds.{least_offer, IsLater};
 
-    ghost state = { λ bound. record { began = bound.began.code; told = bound.told.code; least = least_offer (view_of bound.seat).offers } };
+    ghost state = { λ bound. record {
+      began = bound.began.code;
+      told = bound.told.code;
+      least = least_offer (view_of bound.seat).offers;
+    } };
 
     ghost since = { λ was bound. IsLater was.seat bound.seat };
 
     /// One load of the word.
     fn now(&mut self) -> Tag
-        ensures tells { Tells (⟦<SharedBound<'a> as Bound>⟧.state self.old) (⟦<SharedBound<'a> as Bound>⟧.state self.new) result.code }
-        ensures since { (was : _) → ⟦<SharedBound<'a> as Bound>⟧.since was self.old → ⟦<SharedBound<'a> as Bound>⟧.since was self.new }
+        ensures tells { Tells (⟦<SharedBound<'a> as Bound>⟧.state self.old)
+            (⟦<SharedBound<'a> as Bound>⟧.state self.new) result.code }
+        ensures since { (was : _) → ⟦<SharedBound<'a> as Bound>⟧.since was self.old →
+            ⟦<SharedBound<'a> as Bound>⟧.since was self.new }
         ensures view { view_of self.new.seat ≡ after_load (view_of self.old.seat) result.code }
         ensures least { result.code ≤ (view_of self.old.seat).least }
     {
@@ -76,8 +84,10 @@ impl<'a> Bound for SharedBound<'a> {
     /// One step that lowers the word.
     fn offer(&mut self, tag: Tag)
         requires { tag.code ≤ (⟦<SharedBound<'a> as Bound>⟧.state self.old).told }
-        ensures offers { Offers (⟦<SharedBound<'a> as Bound>⟧.state self.old) (⟦<SharedBound<'a> as Bound>⟧.state self.new) tag.code }
-        ensures since { (was : _) → ⟦<SharedBound<'a> as Bound>⟧.since was self.old → ⟦<SharedBound<'a> as Bound>⟧.since was self.new }
+        ensures offers { Offers (⟦<SharedBound<'a> as Bound>⟧.state self.old)
+            (⟦<SharedBound<'a> as Bound>⟧.state self.new) tag.code }
+        ensures since { (was : _) → ⟦<SharedBound<'a> as Bound>⟧.since was self.old →
+            ⟦<SharedBound<'a> as Bound>⟧.since was self.new }
         ensures view { OffersBy (view_of self.old.seat) tag.code (view_of self.new.seat) }
     {
         self.word.offer(&mut self.seat, tag);

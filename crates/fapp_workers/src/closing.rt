@@ -37,8 +37,10 @@ struct Parts {
 fn take_apart(alloc: Global, places: Vec<Place>) -> Result<Parts, NoMemory>
     ensures hands { IfOk result (λ parts. parts.hands.items ≡ hands_of places.items) }
     ensures seats { IfOk result (λ parts. parts.seats.items ≡ seats_of places.items) }
-    ensures pool_seats { IfOk result (λ parts. parts.pool_seats.items ≡ pool_seats_of places.items) }
-    ensures works { IfOk result (λ parts. map kept_by parts.works.items ≡ map kept_of places.items) }
+    ensures pool_seats { IfOk result (λ parts.
+        parts.pool_seats.items ≡ pool_seats_of places.items) }
+    ensures works { IfOk result (λ parts.
+        map kept_by parts.works.items ≡ map kept_of places.items) }
 {
     let mut hands = Vec::with_capacity(alloc, places.len())?;
     let mut seats = Vec::with_capacity(alloc, places.len())?;
@@ -65,7 +67,8 @@ fn take_apart(alloc: Global, places: Vec<Place>) -> Result<Parts, NoMemory>
     })
 }
 
-/// What the workers have done, and the least cost that one of them offered. The first that found no memory ends it.
+/// What the workers have done, and the least cost that one of them offered. The first that found no
+/// memory ends it.
 pub(crate) fn close(
     alloc: Global,
     ring: Ring,
@@ -77,13 +80,16 @@ pub(crate) fn close(
     requires some { 0 < length places.items }
     requires hands { All (λ place. IsHandOf ring place.hand) places.items }
     requires seats { All (λ place. IsSeatOf word place.seat) places.items }
-    requires pool_seats { IsPoolSeatOf pool first × All (λ place. IsPoolSeatOf pool place.pool_seat) places.items }
+    requires pool_seats { IsPoolSeatOf pool first
+        × All (λ place. IsPoolSeatOf pool place.pool_seat) places.items }
     requires dealt { IsDealt ring.jobs (hands_of places.items) }
     requires hand_shares { shares_of (hands_of places.items) ≡ WHOLE_SHARE }
     requires seat_shares { seat_shares (seats_of places.items) ≡ WHOLE_SHARE }
-    requires pool_shares { (pool_view first).share + pool_shares (pool_seats_of places.items) ≡ WHOLE_SHARE }
+    requires pool_shares { (pool_view first).share + pool_shares (pool_seats_of places.items)
+        ≡ WHOLE_SHARE }
     requires finished { All IsFinished places.items }
-    ensures { IfOk result (λ closed. IsClosedRun ring.jobs (pool_view first) places.items closed.0.items closed.1.code) }
+    ensures { IfOk result (λ closed. IsClosedRun ring.jobs (pool_view first) places.items
+        closed.0.items closed.1.code) }
 {
     let parts = take_apart(alloc, places)?;
     ring.close(parts.hands);

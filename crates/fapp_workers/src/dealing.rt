@@ -25,8 +25,8 @@ use search_log::Log;
 use std::alloc::Global;
 use steal_ring::{Hand, Ring};
 
-/// A ring of the plan's jobs, a word, a pool with its first seat, which no worker has, the numbers of the rows that stand in
-/// it with their places, and a place for each worker.
+/// A ring of the plan's jobs, a word, a pool with its first seat, which no worker has, the numbers
+/// of the rows that stand in it with their places, and a place for each worker.
 #[derive(Drop)]
 pub(crate) struct Dealt {
     pub ring: Ring,
@@ -47,16 +47,22 @@ fn place_all(
     seats: Vec<BestSeat>,
     pool_seats: Vec<PoolSeat>,
 ) -> Result<Vec<Place>, NoMemory>
-    requires count { (length seats.items ≡ length hands.items) × (length pool_seats.items ≡ length hands.items) }
+    requires count { (length seats.items ≡ length hands.items)
+        × (length pool_seats.items ≡ length hands.items) }
     requires own { All (IsSeatOf word.now) seats.items }
-    requires new { All (λ seat. IsNewSeat (levels_of plan.now.instance) (view_of seat)) seats.items }
+    requires new { All (λ seat. IsNewSeat (levels_of plan.now.instance) (view_of seat))
+        seats.items }
     requires pool_own { All (IsPoolSeatOf pool.now) pool_seats.items }
     requires pool_new { All (IsUnpublished plan.now.instance) pool_seats.items }
     ensures hands { IfOk result (λ places. hands_of places.items ≡ hands.items) }
-    ensures seated { IfOk result (λ places. All (IsSeated plan.now word.now pool.now) places.items) }
-    ensures shares { IfOk result (λ places. seat_shares (seats_of places.items) ≡ seat_shares seats.items) }
-    ensures pool_shares { IfOk result (λ places. pool_shares (pool_seats_of places.items) ≡ pool_shares pool_seats.items) }
-    ensures fresh { IfOk result (λ places. All (IsFresh (levels_of plan.now.instance)) places.items) }
+    ensures seated { IfOk result (λ places.
+        All (IsSeated plan.now word.now pool.now) places.items) }
+    ensures shares { IfOk result (λ places.
+        seat_shares (seats_of places.items) ≡ seat_shares seats.items) }
+    ensures pool_shares { IfOk result (λ places.
+        pool_shares (pool_seats_of places.items) ≡ pool_shares pool_seats.items) }
+    ensures fresh { IfOk result (λ places.
+        All (IsFresh (levels_of plan.now.instance)) places.items) }
 {
     let mut seats = seats;
     let mut pool_seats = pool_seats;
@@ -94,7 +100,8 @@ pub(crate) fn deal(
     requires first { ArePublishable plan.now.instance first_rows.now }
     requires start { ForSome start (λ s. IsFeasible plan.now.instance s.now) }
     ensures dealt { IfOk result (IsDealtOut plan.now workers first_rows.now) }
-    ensures started { IfOk result (λ dealt. IfSome start.entry (λ s. OffersFirst plan.now.instance s.now dealt.places.items)) }
+    ensures started { IfOk result (λ dealt.
+        IfSome start.entry (λ s. OffersFirst plan.now.instance s.now dealt.places.items)) }
 {
     let (ring, hands) = Ring::new(alloc, plan.job_count(), workers)?;
     let (word, seats) = BestWord::with_seats(alloc, levels(plan.instance()), workers)?;

@@ -11,8 +11,8 @@ use nogood::{Published, Row};
 use nogood_pool::{Pool, PoolSeat};
 use std::alloc::Global;
 
-/// Publishes each row once, in order, by the only seat of a pool, which has room for them. The answer pairs the number of
-/// each row in the pool with its place; they are equal.
+/// Publishes each row once, in order, by the only seat of a pool, which has room for them. The
+/// answer pairs the number of each row in the pool with its place; they are equal.
 pub(crate) fn publish_first(
     alloc: Global,
     pool: &Pool,
@@ -26,7 +26,8 @@ pub(crate) fn publish_first(
     requires rows { ArePublishable (instance_seen pool.now) first.now }
     ensures own { IsSeatOf pool.now seat.new }
     ensures share { (view_of seat.new).share ≡ WHOLE_SHARE }
-    ensures published { IfOk result (λ placed. all_known (view_of seat.new).published ≡ numbered_rows first.now) }
+    ensures published { IfOk result (λ placed.
+        all_known (view_of seat.new).published ≡ numbered_rows first.now) }
     ensures placed { IfOk result (λ placed. AreTwins (length first.now) placed.items) }
 {
     let mut placed = Vec::with_capacity(alloc, first.len())?;

@@ -47,9 +47,11 @@ pub(crate) fn collect(
     plan: &Plan,
     puts: &[Put],
 ) -> Result<(Collected, Vec<u64>), NoMemory>
-    requires inside { All (λ put. put.done.id < job_count plan.now.instance plan.now.split) puts.now }
+    requires inside { All (λ put. put.done.id < job_count plan.now.instance plan.now.split)
+        puts.now }
     requires once { (job : ℕ) → times job (put_ids puts.now) ≤ 1 }
-    ensures { IfOk result (λ made. ArePut (job_count plan.now.instance plan.now.split) puts.now made.0 made.1.items) }
+    ensures { IfOk result (λ made. ArePut (job_count plan.now.instance plan.now.split) puts.now
+        made.0 made.1.items) }
 {
     let mut collected = Collected::new(alloc, plan)?;
     let mut ticks = vec![in alloc; 0u64; plan.job_count() as usize]?;

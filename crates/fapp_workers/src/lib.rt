@@ -1,5 +1,5 @@
-//! The jobs of a plan, settled by workers side by side that share the least cost and their refuted lines, and take jobs from
-//! each other.
+//! The jobs of a plan, settled by workers side by side that share the least cost and their refuted
+//! lines, and take jobs from each other.
 #![tactic(auto)]
 
 mod bound;

@@ -99,14 +99,19 @@ pub(crate) fn tend_all<R: Threads + Sync, G: Gate>(
     requires jobs { ring.now.jobs ≡ job_count plan.now.instance plan.now.split }
     requires stand { All (IsFreshPlace plan.now ring.now word.now pool.now) places.items }
     ensures count { IfOk result (λ all. length all.items ≡ length places.items) }
-    ensures each { IfOk result (λ all. (i : ℕ) (d e : _) → i < length places.items → IsTended plan.now fuel ring.now word.now pool.now (slice_index_or places.items i d) (slice_index_or all.items i e)) }
+    ensures each { IfOk result (λ all. (i : ℕ) (d e : _) → i < length places.items →
+        IsTended plan.now fuel ring.now word.now pool.now (slice_index_or places.items i d)
+        (slice_index_or all.items i e)) }
 {
     thread::map_vec(
         rt,
         places,
         &|place: Place| -> Place
-            requires { (arcs.now ≡ tables.now) × (plan.now.instance ≡ tables.now) × (ring.now.jobs ≡ job_count plan.now.instance plan.now.split) × IsFreshPlace plan.now ring.now word.now pool.now place }
-            ensures { IsTended plan.entry.now fuel ring.entry.now word.entry.now pool.entry.now place result }
+            requires { (arcs.now ≡ tables.now) × (plan.now.instance ≡ tables.now)
+                × (ring.now.jobs ≡ job_count plan.now.instance plan.now.split)
+                × IsFreshPlace plan.now ring.now word.now pool.now place }
+            ensures { IsTended plan.entry.now fuel ring.entry.now word.entry.now pool.entry.now
+                place result }
         {
             tend(
                 alloc, tables, arcs, plan, fuel, ring, word, pool, place, gate,

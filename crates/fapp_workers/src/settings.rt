@@ -7,6 +7,7 @@ pub struct Settings {
     pub fuel: u64,
     /// The most prefixes that the work is split into, 1 to 4,096.
     pub split: u32,
-    /// How many rows the workers' pool has, at most 65,536: lines that refute a job, which all of them may use.
+    /// How many rows the workers' pool has, at most 65,536: lines that refute a job, which all of
+    /// them may use.
     pub pool: u32,
 }

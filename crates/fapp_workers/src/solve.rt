@@ -24,8 +24,8 @@ use search_log::Log;
 use std::alloc::Global;
 use std::thread::Threads;
 
-/// What all workers found: their logs, what became of each job, the least cost that a log keeps, or the top tag where none
-/// keeps one, and how many ticks each job took.
+/// What all workers found: their logs, what became of each job, the least cost that a log keeps, or
+/// the top tag where none keeps one, and how many ticks each job took.
 #[derive(Drop)]
 pub struct Gathered {
     pub logs: Vec<Log>,
@@ -52,9 +52,13 @@ fn solve_all<R: Threads + Sync, G: Gate>(
     requires room { length first_rows.now ≤ settings.now.pool }
     requires first { ArePublishable plan.now.instance first_rows.now }
     requires start { ForSome start (λ s. IsFeasible plan.now.instance s.now) }
-    ensures solved { IfOk result (λ solved. AreSolved plan.now settings.now.fuel settings.now.workers (numbered_rows first_rows.now) solved.0.items solved.1.code) }
+    ensures solved { IfOk result (λ solved.
+        AreSolved plan.now settings.now.fuel settings.now.workers (numbered_rows first_rows.now)
+        solved.0.items solved.1.code) }
     ensures placed { IfOk result (λ solved. AreTwins (length first_rows.now) solved.2.items) }
-    ensures started { IfOk result (λ solved. IfSome start.entry (λ s. IsStartUsed plan.now.instance s.now (works_logs solved.0.items) solved.1.code)) }
+    ensures started { IfOk result (λ solved.
+        IfSome start.entry (λ s. IsStartUsed plan.now.instance s.now (works_logs solved.0.items)
+        solved.1.code)) }
 {
     let _valid = plan.instance();
     let Dealt {
@@ -89,9 +93,10 @@ fn solve_all<R: Threads + Sync, G: Gate>(
     Ok((works, least, placed))
 }
 
-/// The same as `solve_jobs`, where some rows stand in the pool from the start. They are published before the workers begin, in
-/// order; the second answer pairs the number of each of them in the pool with its place. An assignment to begin with is kept
-/// in the first log and offered at its cost.
+/// The same as `solve_jobs`, where some rows stand in the pool from the start. They are published
+/// before the workers begin, in order; the second answer pairs the number of each of them in the
+/// pool with its place. An assignment to begin with is kept in the first log and offered at its
+/// cost.
 pub fn solve_rows<R: Threads + Sync, G: Gate>(
     rt: &R,
     alloc: Global,
@@ -109,10 +114,14 @@ pub fn solve_rows<R: Threads + Sync, G: Gate>(
     requires room { length first_rows.now ≤ settings.now.pool }
     requires first { ArePublishable plan.now.instance first_rows.now }
     requires start { ForSome start (λ s. IsFeasible plan.now.instance s.now) }
-    ensures gathered { IfOk result (λ all. IsGatheredOver plan.now settings.now.fuel (numbered_rows first_rows.now) all.0) }
-    ensures put { IfOk result (λ all. IsPutByWorkers plan.now settings.now.workers settings.now.fuel all.0) }
+    ensures gathered { IfOk result (λ all.
+        IsGatheredOver plan.now settings.now.fuel (numbered_rows first_rows.now) all.0) }
+    ensures put { IfOk result (λ all. IsPutByWorkers plan.now settings.now.workers settings.now.fuel
+        all.0) }
     ensures placed { IfOk result (λ all. AreTwins (length first_rows.now) all.1.items) }
-    ensures started { IfOk result (λ all. IfSome start.entry (λ s. IsStartUsed plan.now.instance s.now all.0.logs.items all.0.word.code)) }
+    ensures started { IfOk result (λ all.
+        IfSome start.entry (λ s. IsStartUsed plan.now.instance s.now all.0.logs.items
+        all.0.word.code)) }
 {
     let (works, word, placed) = solve_all(
         rt, alloc, tables, arcs, plan, settings, first_rows, start, gate,
@@ -129,8 +138,9 @@ pub fn solve_rows<R: Threads + Sync, G: Gate>(
     Ok((gathered, placed))
 }
 
-/// Settles all jobs of a plan by workers side by side, which share the least cost and their refuted lines, and take jobs from
-/// one another. `NoMemory` comes where a worker or the collection found no memory.
+/// Settles all jobs of a plan by workers side by side, which share the least cost and their refuted
+/// lines, and take jobs from one another. `NoMemory` comes where a worker or the collection found
+/// no memory.
 pub fn solve_jobs<R: Threads + Sync, G: Gate>(
     rt: &R,
     alloc: Global,

@@ -44,9 +44,12 @@ pub(crate) fn keep_start(
     requires feasible { ForSome start (λ s. IsFeasible plan.now.instance s.now) }
     ensures hands { IfOk result (λ kept. hands_of kept.items ≡ hands_of places.items) }
     ensures seated { IfOk result (λ kept. All (IsSeated plan.now word.now pool.now) kept.items) }
-    ensures shares { IfOk result (λ kept. seat_shares (seats_of kept.items) ≡ seat_shares (seats_of places.items)) }
-    ensures pool_seats { IfOk result (λ kept. pool_seats_of kept.items ≡ pool_seats_of places.items) }
-    ensures started { IfOk result (λ kept. IfSome start.entry (λ s. OffersFirst plan.now.instance s.now kept.items)) }
+    ensures shares { IfOk result (λ kept.
+        seat_shares (seats_of kept.items) ≡ seat_shares (seats_of places.items)) }
+    ensures pool_seats { IfOk result (λ kept.
+        pool_seats_of kept.items ≡ pool_seats_of places.items) }
+    ensures started { IfOk result (λ kept.
+        IfSome start.entry (λ s. OffersFirst plan.now.instance s.now kept.items)) }
 {
     let Some(start) = start else {
         return Ok(places);

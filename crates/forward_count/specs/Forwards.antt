@@ -11,7 +11,8 @@ use Rattle.choice_counts.specs.ForwardStates.{AreSlots}
 use Rattle.choice_counts.specs.Kept.{AreKept}
 
 -- the counts of the literals, for a valid instance, and room for a literal of each path
-pub record IsForward (instance : Instance) (level : ℕ) (pushed : List Literal) (slots : List (Option ℕ)) (rows : List PathTallies) (totals : Totals) (room : ℕ) : Type 0 where
+pub record IsForward (instance : Instance) (level : ℕ) (pushed : List Literal)
+    (slots : List (Option ℕ)) (rows : List PathTallies) (totals : Totals) (room : ℕ) : Type 0 where
   pub valid : IsInstance instance
   pub low : level ≤ levels_of instance
   pub partial : IsPartial instance pushed
@@ -19,7 +20,8 @@ pub record IsForward (instance : Instance) (level : ℕ) (pushed : List Literal)
   pub roomy : length instance.paths ≤ room
 
 -- literals of a valid instance, and a level of it
-pub record IsAfresh (instance : Instance) (level : ℕ) (pushed : List Literal) (slots : List (Option ℕ)) : Type 0 where
+pub record IsAfresh (instance : Instance) (level : ℕ) (pushed : List Literal)
+    (slots : List (Option ℕ)) : Type 0 where
   pub valid : IsInstance instance
   pub low : level ≤ levels_of instance
   pub partial : IsPartial instance pushed

@@ -13,7 +13,9 @@ AllStand instance level literals = All (RemainsAt instance level literals) liter
 -- where no literal names the path, some choice of it remains
 abbrev pub HasLeft : Instance → ℕ → List Literal → ℕ → Type 0
 HasLeft instance level literals path = names literals path ≡ false →
-    (index : ℕ) × (index < count_at instance path) × RemainsAt instance level literals (literal path index)
+    (index : ℕ) × (index < count_at instance path)
+    × RemainsAt instance level literals (literal path index)
 
 abbrev pub AllHaveLeft : Instance → ℕ → List Literal → Type 0
-AllHaveLeft instance level literals = (path : ℕ) → path < length instance.paths → HasLeft instance level literals path
+AllHaveLeft instance level literals =
+    (path : ℕ) → path < length instance.paths → HasLeft instance level literals path

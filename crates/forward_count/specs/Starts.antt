@@ -8,4 +8,5 @@ use Rattle.choice_counts.specs.Tallies.{tallies_at}
 -- a tally for each choice of so many paths
 pub record AreShaped (instance : Instance) (rows : List PathTallies) (paths : ℕ) : Type 0 where
   pub count : length rows ≡ paths
-  pub tallies : (path : ℕ) → path < paths → length (tallies_at rows path).tallies ≡ count_at instance path
+  pub tallies : (path : ℕ) → path < paths →
+      length (tallies_at rows path).tallies ≡ count_at instance path

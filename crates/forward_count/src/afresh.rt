@@ -23,15 +23,17 @@ use fapp_tables::Tables;
 use nogood::Partial;
 use std::marker::Model;
 
-/// What the literal of a choice's neighbour, by its place among the neighbours, counts in the choice's tally; 0 where the
-/// neighbour has none.
+/// What the literal of a choice's neighbour, by its place among the neighbours, counts in the
+/// choice's tally; 0 where the neighbour has none.
 fn slot_tally(step: &Step, partial: &Partial, place: usize) -> u64
     requires instance { IsInstance step.now.tables.now }
     requires given { (a : Literal) → GivesChoice partial.now a → IsLiteral step.now.tables.now a }
     requires place { place < length (neighbours_of step.now.tables.now step.now.literal.path) }
-    ensures tally { result ≡ slot_part (pair_tally step.now.tables.now step.now.level step.now.literal)
+    ensures tally { result ≡ slot_part (pair_tally step.now.tables.now step.now.level
+        step.now.literal)
         (slice_index (neighbours_of step.now.tables.now step.now.literal.path) place)
-        (choice_given partial.now (slice_index (neighbours_of step.now.tables.now step.now.literal.path) place)) }
+        (choice_given partial.now (slice_index (neighbours_of step.now.tables.now
+        step.now.literal.path) place)) }
     ensures small { result ≤ 2 ^ 49 }
 {
     let path = step.literal.path;
@@ -45,8 +47,8 @@ fn slot_tally(step: &Step, partial: &Partial, place: usize) -> u64
     }
 }
 
-/// Literals at a level whose counts are not kept: all is counted afresh, each time it is asked for. Contracts see the
-/// instance, the level and the literals.
+/// Literals at a level whose counts are not kept: all is counted afresh, each time it is asked for.
+/// Contracts see the instance, the level and the literals.
 #[derive(Debug, Drop)]
 pub struct Afresh<'a> {
     tables: &'a Tables<'a>,
@@ -63,9 +65,14 @@ impl<'a> Model for Afresh<'a> {
 
     ghost Value = { ForwardState };
 
-    ghost view = { λ f. record { instance = f.tables.now; level = f.level; pushed = f.pushed.now } };
+    ghost view = { λ f. record {
+      instance = f.tables.now;
+      level = f.level;
+      pushed = f.pushed.now;
+    } };
 
-    ghost invariant = { λ f. (f.arcs.now ≡ f.tables.now) × IsAfresh f.tables.now f.level f.pushed.now f.partial.now };
+    ghost invariant = { λ f. (f.arcs.now ≡ f.tables.now)
+        × IsAfresh f.tables.now f.level f.pushed.now f.partial.now };
 }
 
 impl<'a> Afresh<'a> {
@@ -99,7 +106,8 @@ impl<'a> Afresh<'a> {
     fn tally(&self, path: u16, choice: u16) -> u64
         requires { IsLiteral self.now.instance (literal path choice) }
         ensures { (arc : Literal → Bool) → IsArcs self.now.instance self.now.level arc →
-            result ≡ tally_of self.now.instance self.now.level arc self.now.pushed (literal path choice) }
+            result ≡ tally_of self.now.instance self.now.level arc self.now.pushed
+            (literal path choice) }
     {
         let step = Step::new(self.tables, self.level, false, Literal { path, choice });
         let mut tally = outside_tally(self.arcs, self.level, path, choice);
@@ -113,7 +121,8 @@ impl<'a> Afresh<'a> {
     fn least(&self, path: u16) -> u64
         requires { path < length self.now.instance.paths }
         ensures { (arc : Literal → Bool) → IsArcs self.now.instance self.now.level arc →
-            result ≡ least_of_tallies (tallies_of self.now.instance self.now.level arc self.now.pushed path) }
+            result ≡ least_of_tallies (tallies_of self.now.instance self.now.level arc
+            self.now.pushed path) }
     {
         let mut least = NO_TALLY;
         for choice in 0..count(self.tables.instance(), path) {
@@ -125,7 +134,8 @@ impl<'a> Afresh<'a> {
     /// Whether a literal remains against all literals.
     fn stands(&self, literal: Literal) -> bool
         requires { IsLiteral self.now.instance literal }
-        ensures { IsTrue result ↔ RemainsAt self.now.instance self.now.level self.now.pushed literal }
+        ensures { IsTrue result ↔ RemainsAt self.now.instance self.now.level self.now.pushed
+            literal }
     {
         // The proof opens the fields' invariant here.
         let _ = &self.tables;
@@ -167,7 +177,8 @@ impl<'a> Afresh<'a> {
         true
     }
 
-    /// Whether no two literals clash, none is outside the arcs, and each further path has a choice that remains.
+    /// Whether no two literals clash, none is outside the arcs, and each further path has a choice
+    /// that remains.
     pub fn is_calm(&self) -> bool
         ensures { IsTrue result ↔ IsCalm self.now.instance self.now.level self.now.pushed }
     {
@@ -178,7 +189,8 @@ impl<'a> Afresh<'a> {
     fn twice_inside(&self) -> u64
         requires calm { IsCalm self.now.instance self.now.level self.now.pushed }
         ensures sum { (arc : Literal → Bool) → IsArcs self.now.instance self.now.level arc →
-            result ≡ sum_by (tally_of self.now.instance self.now.level arc self.now.pushed) self.now.pushed }
+            result ≡ sum_by (tally_of self.now.instance self.now.level arc self.now.pushed)
+            self.now.pushed }
         ensures small { result < 2 ^ 62 }
     {
         let mut sum = 0;
@@ -193,7 +205,9 @@ impl<'a> Afresh<'a> {
     fn open_part(&self, path: u16) -> u64
         requires { path < length self.now.instance.paths }
         ensures part { (arc : Literal → Bool) → IsArcs self.now.instance self.now.level arc →
-            result ≡ (if names self.now.pushed path then 0 else least_part (least_of_tallies (tallies_of self.now.instance self.now.level arc self.now.pushed path))) }
+            result ≡ (if names self.now.pushed path then 0
+            else least_part (least_of_tallies
+            (tallies_of self.now.instance self.now.level arc self.now.pushed path))) }
         ensures small { result ≤ HARD }
     {
         if self.partial.get(path).is_some() {
@@ -206,7 +220,9 @@ impl<'a> Afresh<'a> {
     /// The least tallies of the paths without a literal, added.
     fn open_least(&self) -> u64
         ensures sum { (arc : Literal → Bool) → IsArcs self.now.instance self.now.level arc →
-            result ≡ over_open self.now.instance self.now.pushed (λ path. least_part (least_of_tallies (tallies_of self.now.instance self.now.level arc self.now.pushed path))) }
+            result ≡ over_open self.now.instance self.now.pushed (λ path.
+            least_part (least_of_tallies (tallies_of self.now.instance self.now.level arc
+            self.now.pushed path))) }
         ensures small { result ≤ MAX_PATHS * HARD }
     {
         let mut sum = 0;
@@ -216,8 +232,9 @@ impl<'a> Afresh<'a> {
         sum
     }
 
-    /// The sum that a limit is compared with: the literals' pairs, and the least that each further path adds, as
-    /// violations one level below times `S_SPAN` and their sum further below, at level 0 violations there.
+    /// The sum that a limit is compared with: the literals' pairs, and the least that each further
+    /// path adds, as violations one level below times `S_SPAN` and their sum further below, at
+    /// level 0 violations there.
     pub fn sum(&self) -> u64
         requires { IsCalm self.now.instance self.now.level self.now.pushed }
         ensures { IsCountedSum self.now.instance self.now.level self.now.pushed result }

@@ -21,16 +21,15 @@ use crate::recount::{clear_slots, count_all};
 use crate::start::{blank_rows, start};
 use crate::step::Step;
 use arc_levels::ArcTable;
-use choice_counts::{HARD, PathTallies, Totals};
-use choice_counts::TallyTable;
+use choice_counts::{HARD, PathTallies, TallyTable, Totals};
 use fapp_model::{Literal, NoMemory, S_SPAN, Tag, Triple, level_of, levels, triple_of};
 use fapp_tables::Tables;
 use nogood::Partial;
 use std::alloc::Global;
 use std::marker::Model;
 
-/// Literals that are pushed and taken back. Contracts see the instance, the level at which counts are kept, and the
-/// literals in the order in which they were pushed.
+/// Literals that are pushed and taken back. Contracts see the instance, the level at which counts
+/// are kept, and the literals in the order in which they were pushed.
 #[derive(Debug, Drop)]
 pub struct Forward<'a> {
     tables: &'a Tables<'a>,
@@ -51,15 +50,22 @@ impl<'a> Model for Forward<'a> {
 
     ghost Value = { ForwardState };
 
-    ghost view = { λ f. record { instance = f.tables.now; level = f.level; pushed = f.pushed.items } };
+    ghost view = { λ f. record {
+      instance = f.tables.now;
+      level = f.level;
+      pushed = f.pushed.items;
+    } };
 
-    ghost invariant = { λ f. ((f.arcs.now ≡ f.tables.now) × (f.tallies ≡ tallies_at f.tables.now f.level)) × IsForward f.tables.now f.level f.pushed.items f.partial f.rows.items f.totals (vec_capacity f.pushed) };
+    ghost invariant = { λ f. ((f.arcs.now ≡ f.tables.now)
+        × (f.tallies ≡ tallies_at f.tables.now f.level))
+        × IsForward f.tables.now f.level f.pushed.items f.partial f.rows.items f.totals
+        (vec_capacity f.pushed) };
 }
 
 impl<'a> Forward<'a> {
-    /// Starts with no literal, counting at the instance's highest level. It takes 8 bytes a choice, 72 a path and, seen from
-    /// each of two neighbouring paths, at most 32 cells of 24 bytes (12 for one record) and 136 bytes more; no other call takes
-    /// memory.
+    /// Starts with no literal, counting at the instance's highest level. It takes 8 bytes a choice,
+    /// 72 a path and, seen from each of two neighbouring paths, at most 32 cells of 24 bytes (12
+    /// for one record) and 136 bytes more; no other call takes memory.
     pub fn new(
         alloc: Global,
         tables: &'a Tables<'a>,
@@ -132,8 +138,9 @@ impl<'a> Forward<'a> {
         self.partial.get(path).is_some()
     }
 
-    /// Counts at a level from now on. It costs nothing where that level is kept already; else a turn over all choices, the
-    /// tallies of neighbours by their distances, and as much as to push each literal again.
+    /// Counts at a level from now on. It costs nothing where that level is kept already; else a
+    /// turn over all choices, the tallies of neighbours by their distances, and as much as to push
+    /// each literal again.
     pub fn keep_level(&mut self, level: u32)
         requires { level ≤ levels_of self.old.instance }
         ensures { self.new ≡ at_level self.old level }
@@ -157,9 +164,10 @@ impl<'a> Forward<'a> {
         self.level = level;
     }
 
-    /// Adds a literal. Of each neighbouring path it looks at the choices that are less than the pair's far distance away, and at
-    /// a few cells of the pair; at all choices once more where the least tally was raised, up to one that is as low as it was.
-    /// Where the cells would be too many, it reads the records between the two paths for each choice.
+    /// Adds a literal. Of each neighbouring path it looks at the choices that are less than the
+    /// pair's far distance away, and at a few cells of the pair; at all choices once more where the
+    /// least tally was raised, up to one that is as low as it was. Where the cells would be too
+    /// many, it reads the records between the two paths for each choice.
     pub fn push(&mut self, path: u16, choice: u16)
         requires path { path < length self.old.instance.paths }
         requires choice { choice < count_at self.old.instance path }
@@ -196,28 +204,31 @@ impl<'a> Forward<'a> {
         self.take_back(place);
     }
 
-    /// Whether a choice remains at the level that is kept: it is within the arcs, and not hard-bad with a literal.
+    /// Whether a choice remains at the level that is kept: it is within the arcs, and not hard-bad
+    /// with a literal.
     pub fn remains(&self, path: u16, choice: u16) -> bool
         requires path { path < length self.now.instance.paths }
         requires choice { choice < count_at self.now.instance path }
-        ensures { IsTrue result ↔ RemainsAt self.now.instance self.now.level self.now.pushed (literal path choice) }
+        ensures { IsTrue result ↔ RemainsAt self.now.instance self.now.level self.now.pushed
+            (literal path choice) }
     {
         tally_of(&self.rows, path, choice) < HARD
     }
 
-    /// What a choice adds against the literals at the level that is kept, whether it remains or not: violations one level
-    /// below it times `S_SPAN`, and their sum further below. Below level 0 there is none: there it is violations at level 0
-    /// itself.
+    /// What a choice adds against the literals at the level that is kept, whether it remains or
+    /// not: violations one level below it times `S_SPAN`, and their sum further below. Below level
+    /// 0 there is none: there it is violations at level 0 itself.
     pub fn sum_at(&self, path: u16, choice: u16) -> u64
         requires path { path < length self.now.instance.paths }
         requires choice { choice < count_at self.now.instance path }
-        ensures { result ≡ pair_code (added_pair self.now.instance self.now.level self.now.pushed (literal path choice)) }
+        ensures { result ≡ pair_code (added_pair self.now.instance self.now.level self.now.pushed
+            (literal path choice)) }
     {
         tally_of(&self.rows, path, choice) % HARD
     }
 
-    /// The least that a remaining choice of a path adds at the level that is kept, as `sum_at` gives it. None where no
-    /// choice of the path remains.
+    /// The least that a remaining choice of a path adds at the level that is kept, as `sum_at`
+    /// gives it. None where no choice of the path remains.
     pub fn least_sum(&self, path: u16) -> Option<u64>
         requires { path < length self.now.instance.paths }
         ensures { IsLeastSum self.now.instance self.now.level self.now.pushed path result }
@@ -258,9 +269,9 @@ impl<'a> Forward<'a> {
         self.totals.conflicts == 0 && self.totals.open_paths.stuck == 0
     }
 
-    /// Whether no two literals clash at a level, none is outside the arcs, and each further path has a choice that remains.
-    /// Two comparisons at the level that is kept; at another one as much as the pairs of each choice and its neighbours'
-    /// literals.
+    /// Whether no two literals clash at a level, none is outside the arcs, and each further path
+    /// has a choice that remains. Two comparisons at the level that is kept; at another one as much
+    /// as the pairs of each choice and its neighbours' literals.
     pub fn is_calm(&self, level: u32) -> bool
         requires { level ≤ levels_of self.now.instance }
         ensures { IsTrue result ↔ IsCalm self.now.instance level self.now.pushed }
@@ -272,7 +283,8 @@ impl<'a> Forward<'a> {
         }
     }
 
-    /// The sum that a limit is compared with, at the level that is kept, by pairs as `sum_at` has them.
+    /// The sum that a limit is compared with, at the level that is kept, by pairs as `sum_at` has
+    /// them.
     pub fn sum(&self) -> u64
         requires { IsCalm self.now.instance self.now.level self.now.pushed }
         ensures { IsCountedSum self.now.instance self.now.level self.now.pushed result }
@@ -280,9 +292,10 @@ impl<'a> Forward<'a> {
         self.totals.twice_inside / 2 + self.totals.open_paths.least
     }
 
-    /// The sum that a limit is compared with at a level: the pairs of the records between the literals, and the least that
-    /// each further path adds, as violations one level below it times `S_SPAN` and their sum further below, at level 0 as
-    /// `sum_at` has them. It costs what `is_calm` does.
+    /// The sum that a limit is compared with at a level: the pairs of the records between the
+    /// literals, and the least that each further path adds, as violations one level below it times
+    /// `S_SPAN` and their sum further below, at level 0 as `sum_at` has them. It costs what
+    /// `is_calm` does.
     pub fn bound(&self, level: u32) -> u64
         requires level { level ≤ levels_of self.now.instance }
         requires calm { IsCalm self.now.instance level self.now.pushed }
@@ -295,8 +308,9 @@ impl<'a> Forward<'a> {
         }
     }
 
-    /// Whether the literals are dead at a tag: no plan that has them costs less, by what is counted for them. A few comparisons
-    /// where the tag's mode is at the level that is kept; at another one it costs what `is_calm` does there.
+    /// Whether the literals are dead at a tag: no plan that has them costs less, by what is counted
+    /// for them. A few comparisons where the tag's mode is at the level that is kept; at another
+    /// one it costs what `is_calm` does there.
     pub fn is_dead(&self, tag: Tag) -> bool
         requires { IsTagFor self.now.instance tag }
         ensures { IsTrue result ↔ Dead self.now.instance (triple_from tag.code) self.now.pushed }

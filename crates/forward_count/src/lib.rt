@@ -1,4 +1,5 @@
-//! Literals that are pushed and taken back, and what is counted for them: whether they are dead, and what the others add.
+//! Literals that are pushed and taken back, and what is counted for them: whether they are dead,
+//! and what the others add.
 #![tactic(auto)]
 
 mod afresh;

@@ -11,8 +11,7 @@ ghost use Rattle.forward_count.specs.Floors.{IsFloor};
 
 use crate::rows::move_row;
 use crate::step::Step;
-use choice_counts::{OpenPaths, PathTallies};
-use choice_counts::{PairCells, TallyTable};
+use choice_counts::{OpenPaths, PairCells, PathTallies, TallyTable};
 use nogood::Partial;
 
 /// A row's least tally before a change and after it.
@@ -23,18 +22,29 @@ struct Change {
 }
 
 /// Changes the row of a neighbour by what a literal counts there.
-fn move_at(step: &Step, other: u16, positions: &[u32], link: &PairCells, rows: &mut [PathTallies]) -> Change
+fn move_at(
+    step: &Step,
+    other: u16,
+    positions: &[u32],
+    link: &PairCells,
+    rows: &mut [PathTallies],
+) -> Change
     requires instance { IsInstance step.now.tables.now }
     requires apart { step.now.literal.path ≢ other }
     requires other { other < length step.now.tables.now.paths }
-    requires positions { positions.now ≡ records_of step.now.tables.now step.now.literal.path other }
-    requires link { IsPairCells step.now.tables.now step.now.level step.now.literal.path other link.now }
+    requires positions { positions.now ≡ records_of step.now.tables.now step.now.literal.path
+        other }
+    requires link { IsPairCells step.now.tables.now step.now.level step.now.literal.path other
+        link.now }
     requires rows { length rows.old ≡ length step.now.tables.now.paths }
-    requires count { length (tallies_at rows.old other).tallies ≡ count_at step.now.tables.now other }
-    requires can { CanMoveRow step.now.taking step.now.tables.now step.now.level step.now.literal other (tallies_at rows.old other).tallies }
+    requires count { length (tallies_at rows.old other).tallies
+        ≡ count_at step.now.tables.now other }
+    requires can { CanMoveRow step.now.taking step.now.tables.now step.now.level step.now.literal
+        other (tallies_at rows.old other).tallies }
     requires least { IsFloor (tallies_at rows.old other).tallies (tallies_at rows.old other).least }
     ensures rows { rows.new ≡ slice_set rows.old other
-        (tallies_by (tallies_with step.now.taking step.now.tables.now step.now.level step.now.literal other (tallies_at rows.old other).tallies)) }
+        (tallies_by (tallies_with step.now.taking step.now.tables.now step.now.level
+        step.now.literal other (tallies_at rows.old other).tallies)) }
     ensures before { result.before ≡ (tallies_at rows.old other).least }
     ensures after { result.after ≡ (tallies_at rows.new other).least }
 {
@@ -47,7 +57,8 @@ fn move_at(step: &Step, other: u16, positions: &[u32], link: &PairCells, rows: &
     }
 }
 
-/// Changes the row of a neighbour by what a literal counts there, and answers what is counted for the open paths then.
+/// Changes the row of a neighbour by what a literal counts there, and answers what is counted for
+/// the open paths then.
 fn refresh(
     step: &Step,
     other: u16,
@@ -60,16 +71,21 @@ fn refresh(
     requires instance { IsInstance step.now.tables.now }
     requires apart { step.now.literal.path ≢ other }
     requires other { other < length step.now.tables.now.paths }
-    requires positions { positions.now ≡ records_of step.now.tables.now step.now.literal.path other }
-    requires link { IsPairCells step.now.tables.now step.now.level step.now.literal.path other link.now }
+    requires positions { positions.now ≡ records_of step.now.tables.now step.now.literal.path
+        other }
+    requires link { IsPairCells step.now.tables.now step.now.level step.now.literal.path other
+        link.now }
     requires rows { length rows.old ≡ length step.now.tables.now.paths }
     requires slots { length partial.now ≡ length step.now.tables.now.paths }
-    requires count { length (tallies_at rows.old other).tallies ≡ count_at step.now.tables.now other }
-    requires can { CanMoveRow step.now.taking step.now.tables.now step.now.level step.now.literal other (tallies_at rows.old other).tallies }
+    requires count { length (tallies_at rows.old other).tallies
+        ≡ count_at step.now.tables.now other }
+    requires can { CanMoveRow step.now.taking step.now.tables.now step.now.level step.now.literal
+        other (tallies_at rows.old other).tallies }
     requires least { IsFloor (tallies_at rows.old other).tallies (tallies_at rows.old other).least }
     requires open { AreOpenPaths partial.now rows.old open_paths }
     ensures rows { rows.new ≡ slice_set rows.old other
-        (tallies_by (tallies_with step.now.taking step.now.tables.now step.now.level step.now.literal other (tallies_at rows.old other).tallies)) }
+        (tallies_by (tallies_with step.now.taking step.now.tables.now step.now.level
+        step.now.literal other (tallies_at rows.old other).tallies)) }
     ensures open { AreOpenPaths partial.now rows.new result }
 {
     let change = move_at(step, other, positions, link, rows);
@@ -79,8 +95,8 @@ fn refresh(
     open_paths.without(change.before).with(change.after)
 }
 
-/// Changes the rows of all neighbours by what a literal counts there, and answers what is counted for the open paths
-/// then.
+/// Changes the rows of all neighbours by what a literal counts there, and answers what is counted
+/// for the open paths then.
 pub fn move_all(
     step: &Step,
     tallies: &TallyTable,
@@ -92,9 +108,11 @@ pub fn move_all(
     requires instance { IsInstance step.now.tables.now }
     requires rows { AreRows step.now.tables.now rows.old }
     requires slots { length partial.now ≡ length step.now.tables.now.paths }
-    requires can { CanMoveAll step.now.taking step.now.tables.now step.now.level step.now.literal rows.old }
+    requires can { CanMoveAll step.now.taking step.now.tables.now step.now.level step.now.literal
+        rows.old }
     requires open { AreOpenPaths partial.now rows.old open_paths }
-    ensures rows { rows.new ≡ rows_with step.now.taking step.now.tables.now step.now.level step.now.literal rows.old }
+    ensures rows { rows.new ≡ rows_with step.now.taking step.now.tables.now step.now.level
+        step.now.literal rows.old }
     ensures open { AreOpenPaths partial.now rows.new result }
 {
     let path = step.literal.path;

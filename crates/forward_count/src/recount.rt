@@ -8,8 +8,7 @@ ghost use Rattle.fapp_model.specs.search.Partials.{IsPartial};
 
 use crate::counts::count_step;
 use crate::step::Step;
-use choice_counts::{PathTallies, Totals};
-use choice_counts::TallyTable;
+use choice_counts::{PathTallies, TallyTable, Totals};
 use fapp_model::Literal;
 use fapp_tables::Tables;
 use nogood::Partial;

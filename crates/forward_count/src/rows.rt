@@ -9,8 +9,7 @@ ghost use Rattle.forward_count.specs.Floors.{IsFloor};
 
 use crate::step::Step;
 use crate::window::first_within;
-use choice_counts::{NO_TALLY, PathTallies, Tallies};
-use choice_counts::PairCells;
+use choice_counts::{NO_TALLY, PairCells, PathTallies, Tallies};
 use fapp_model::{choice_at, choice_count};
 
 /// A tally with a pair's taken away, or added.
@@ -22,12 +21,14 @@ pub fn moved(taking: bool, tally: u64, pair: u64) -> u64
     if taking { tally - pair } else { tally + pair }
 }
 
-/// Takes a pair's tally from one of some tallies, or adds it. Answers a floor lowered to it, and marks it where it is lower.
+/// Takes a pair's tally from one of some tallies, or adds it. Answers a floor lowered to it, and
+/// marks it where it is lower.
 fn move_tally(taking: bool, tallies: &mut Tallies, index: usize, pair: u64, floor: u64) -> u64
     requires index { index < length tallies.old }
     requires can { CanMove taking (tally_at tallies.old index) pair }
     requires small { pair ≤ 2 ^ 49 }
-    ensures tallies { tallies.new ≡ slice_set tallies.old index (moved taking (tally_at tallies.old index) pair) }
+    ensures tallies { tallies.new ≡ slice_set tallies.old index
+        (moved taking (tally_at tallies.old index) pair) }
     ensures floor { result ≡ min floor (moved taking (tally_at tallies.old index) pair) }
 {
     let tally = moved(taking, tallies.get(index), pair);
@@ -40,16 +41,25 @@ fn move_tally(taking: bool, tallies: &mut Tallies, index: usize, pair: u64, floo
     }
 }
 
-/// Takes from the tallies of a neighbour what a literal counts there, or adds it, by the records between the two paths. Answers
-/// a floor of theirs, from one that they had.
-fn move_by_records(step: &Step, tallies: &mut Tallies, positions: &[u32], other: u16, floor: u64) -> u64
+/// Takes from the tallies of a neighbour what a literal counts there, or adds it, by the records
+/// between the two paths. Answers a floor of theirs, from one that they had.
+fn move_by_records(
+    step: &Step,
+    tallies: &mut Tallies,
+    positions: &[u32],
+    other: u16,
+    floor: u64,
+) -> u64
     requires apart { step.now.literal.path ≢ other }
     requires other { other < length step.now.tables.now.paths }
-    requires positions { positions.now ≡ records_of step.now.tables.now step.now.literal.path other }
+    requires positions { positions.now ≡ records_of step.now.tables.now step.now.literal.path
+        other }
     requires count { length tallies.old ≡ count_at step.now.tables.now other }
-    requires can { CanMoveRow step.now.taking step.now.tables.now step.now.level step.now.literal other tallies.old }
+    requires can { CanMoveRow step.now.taking step.now.tables.now step.now.level step.now.literal
+        other tallies.old }
     requires floor { IsFloor tallies.old floor }
-    ensures tallies { tallies.new ≡ tallies_with step.now.taking step.now.tables.now step.now.level step.now.literal other tallies.old }
+    ensures tallies { tallies.new ≡ tallies_with step.now.taking step.now.tables.now step.now.level
+        step.now.literal other tallies.old }
     ensures floor { IsFloor tallies.new result }
 {
     let mut lowest = floor;
@@ -60,19 +70,28 @@ fn move_by_records(step: &Step, tallies: &mut Tallies, positions: &[u32], other:
     lowest
 }
 
-/// Takes from the tallies of a neighbour what a literal counts there, or adds it, by the cells of the two paths: only the choices
-/// that are less than the link's far distance from the literal's are looked at. Answers a floor of theirs, from one that they
-/// had.
-fn move_by_cells(step: &Step, tallies: &mut Tallies, link: &PairCells, other: u16, floor: u64) -> u64
+/// Takes from the tallies of a neighbour what a literal counts there, or adds it, by the cells of
+/// the two paths: only the choices that are less than the link's far distance from the literal's
+/// are looked at. Answers a floor of theirs, from one that they had.
+fn move_by_cells(
+    step: &Step,
+    tallies: &mut Tallies,
+    link: &PairCells,
+    other: u16,
+    floor: u64,
+) -> u64
     requires instance { IsInstance step.now.tables.now }
     requires apart { step.now.literal.path ≢ other }
     requires other { other < length step.now.tables.now.paths }
-    requires link { IsPairCells step.now.tables.now step.now.level step.now.literal.path other link.now }
+    requires link { IsPairCells step.now.tables.now step.now.level step.now.literal.path other
+        link.now }
     requires some { 0 < length link.now.cells }
     requires count { length tallies.old ≡ count_at step.now.tables.now other }
-    requires can { CanMoveRow step.now.taking step.now.tables.now step.now.level step.now.literal other tallies.old }
+    requires can { CanMoveRow step.now.taking step.now.tables.now step.now.level step.now.literal
+        other tallies.old }
     requires floor { IsFloor tallies.old floor }
-    ensures tallies { tallies.new ≡ tallies_with step.now.taking step.now.tables.now step.now.level step.now.literal other tallies.old }
+    ensures tallies { tallies.new ≡ tallies_with step.now.taking step.now.tables.now step.now.level
+        step.now.literal other tallies.old }
     ensures floor { IsFloor tallies.new result }
 {
     let owner = step.owner(other);
@@ -91,8 +110,8 @@ fn move_by_cells(step: &Step, tallies: &mut Tallies, link: &PairCells, other: u1
     lowest
 }
 
-/// The least of some tallies. It is found at once where it is a floor of theirs that is marked; else by a look at each of them,
-/// up to the first that is the floor, and is marked then.
+/// The least of some tallies. It is found at once where it is a floor of theirs that is marked;
+/// else by a look at each of them, up to the first that is the floor, and is marked then.
 fn least_from(tallies: &mut Tallies, floor: u64) -> u64
     requires { IsFloor tallies.old floor }
     ensures tallies { tallies.new ≡ tallies.old }
@@ -123,12 +142,16 @@ pub fn move_row(step: &Step, row: &mut PathTallies, positions: &[u32], link: &Pa
     requires instance { IsInstance step.now.tables.now }
     requires apart { step.now.literal.path ≢ other }
     requires other { other < length step.now.tables.now.paths }
-    requires positions { positions.now ≡ records_of step.now.tables.now step.now.literal.path other }
-    requires link { IsPairCells step.now.tables.now step.now.level step.now.literal.path other link.now }
+    requires positions { positions.now ≡ records_of step.now.tables.now step.now.literal.path
+        other }
+    requires link { IsPairCells step.now.tables.now step.now.level step.now.literal.path other
+        link.now }
     requires count { length row.old.tallies ≡ count_at step.now.tables.now other }
-    requires can { CanMoveRow step.now.taking step.now.tables.now step.now.level step.now.literal other row.old.tallies }
+    requires can { CanMoveRow step.now.taking step.now.tables.now step.now.level step.now.literal
+        other row.old.tallies }
     requires least { IsFloor row.old.tallies row.old.least }
-    ensures { row.new ≡ tallies_by (tallies_with step.now.taking step.now.tables.now step.now.level step.now.literal other row.old.tallies) }
+    ensures { row.new ≡ tallies_by (tallies_with step.now.taking step.now.tables.now step.now.level
+        step.now.literal other row.old.tallies) }
 {
     let floor = if link.cells.len() > 0 {
         move_by_cells(step, &mut row.tallies, link, other, row.least)

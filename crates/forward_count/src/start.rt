@@ -13,7 +13,7 @@ ghost use Rattle.forward_count.specs.Starts.{AreShaped};
 
 use crate::step::count;
 use arc_levels::ArcTable;
-use choice_counts::{HARD, NO_TALLY, OpenPaths, PathTallies, Totals, Tallies};
+use choice_counts::{HARD, NO_TALLY, OpenPaths, PathTallies, Tallies, Totals};
 use fapp_model::{Instance, NoMemory};
 use std::alloc::Global;
 
@@ -37,7 +37,8 @@ pub fn blank_rows(alloc: Global, instance: &Instance) -> Result<Vec<PathTallies>
 pub fn outside_tally(arcs: &ArcTable, level: u32, path: u16, choice: u16) -> u64
     requires level { level ≤ levels_of arcs.now }
     requires choice { IsLiteral arcs.now (literal path choice) }
-    ensures tally { (arc : Literal → Bool) → IsArcs arcs.now level arc → result ≡ tally_of arcs.now level arc [] (literal path choice) }
+    ensures tally { (arc : Literal → Bool) → IsArcs arcs.now level arc →
+        result ≡ tally_of arcs.now level arc [] (literal path choice) }
     ensures small { result ≤ HARD }
 {
     if arcs.is_outside(level, path, choice) {
@@ -54,7 +55,8 @@ fn reset_row(instance: &Instance, arcs: &ArcTable, level: u32, path: u16, row: &
     requires level { level ≤ levels_of instance.now }
     requires path { path < length instance.now.paths }
     requires count { length row.old.tallies ≡ count_at instance.now path }
-    ensures { (arc : Literal → Bool) → IsArcs instance.now level arc → row.new ≡ tallies_by (tallies_of instance.now level arc [] path) }
+    ensures { (arc : Literal → Bool) → IsArcs instance.now level arc →
+        row.new ≡ tallies_by (tallies_of instance.now level arc [] path) }
 {
     let mut least = NO_TALLY;
     for choice in 0..count(instance, path) {
@@ -71,7 +73,8 @@ pub fn reset_rows(instance: &Instance, arcs: &ArcTable, level: u32, rows: &mut [
     requires same { arcs.now ≡ instance.now }
     requires level { level ≤ levels_of instance.now }
     requires rows { AreShaped instance.now rows.old (length instance.now.paths) }
-    ensures { (arc : Literal → Bool) → IsArcs instance.now level arc → rows.new ≡ rows_of instance.now level arc [] }
+    ensures { (arc : Literal → Bool) → IsArcs instance.now level arc →
+        rows.new ≡ rows_of instance.now level arc [] }
 {
     for path in 0..instance.paths.len() {
         reset_row(instance, arcs, level, path as u16, &mut rows[path]);
@@ -97,7 +100,8 @@ pub fn start(instance: &Instance, arcs: &ArcTable, level: u32, rows: &mut [PathT
     requires same { arcs.now ≡ instance.now }
     requires level { level ≤ levels_of instance.now }
     requires rows { AreShaped instance.now rows.old (length instance.now.paths) }
-    ensures { AreKept instance.now level [] (replicate (length instance.now.paths) None) rows.new result }
+    ensures { AreKept instance.now level [] (replicate (length instance.now.paths) None) rows.new
+        result }
 {
     reset_rows(instance, arcs, level, rows);
     Totals {

@@ -12,7 +12,8 @@ use choice_counts::Edge;
 use fapp_model::{Choice, Instance, Literal, Path, choice_at, choice_count};
 use fapp_tables::Tables;
 
-/// A literal that is pushed or taken back, with the choice that it stands for, and the level that counts are of.
+/// A literal that is pushed or taken back, with the choice that it stands for, and the level that
+/// counts are of.
 #[derive(Clone, Copy, Debug)]
 pub struct Step<'a> {
     pub tables: &'a Tables<'a>,
@@ -95,13 +96,16 @@ impl<'a> Step<'a> {
         choice_at(path_at(self.tables.instance(), other), index)
     }
 
-    /// What the literal counts in the tally of a neighbour's choice, by the positions of the records between the two.
+    /// What the literal counts in the tally of a neighbour's choice, by the positions of the
+    /// records between the two.
     pub fn pair_tally(&self, positions: &[u32], other: u16, index: u32) -> u64
         requires apart { self.now.literal.path ≢ other }
         requires other { other < length self.now.tables.now.paths }
         requires index { index < count_at self.now.tables.now other }
-        requires positions { positions.now ≡ records_of self.now.tables.now self.now.literal.path other }
-        ensures tally { result ≡ pair_tally self.now.tables.now self.now.level (literal other index) self.now.literal }
+        requires positions { positions.now
+            ≡ records_of self.now.tables.now self.now.literal.path other }
+        ensures tally { result ≡ pair_tally self.now.tables.now self.now.level (literal other index)
+            self.now.literal }
         ensures small { result ≤ 2 ^ 49 }
     {
         let second = self.choice_at(other, index);

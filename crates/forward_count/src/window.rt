@@ -10,7 +10,8 @@ fn place_within(freqs: &[u32], freq: u32, far: u64) -> usize
     requires { IsStrictlyIncreasing freqs.now }
     ensures inside { result ≤ length freqs.now }
     ensures below { (place : ℕ) → place < result → slice_index freqs.now place + far ≤ freq }
-    ensures near { (place : ℕ) → result ≤ place → place < length freqs.now → freq < slice_index freqs.now place + far }
+    ensures near { (place : ℕ) → result ≤ place → place < length freqs.now →
+        freq < slice_index freqs.now place + far }
 {
     if far > u64::from(freq) {
         return 0;
@@ -24,7 +25,8 @@ pub fn first_within(path: &Path, freq: u32, far: u64) -> u32
     requires { IsPath path.now }
     ensures inside { result ≤ length (choices path.now) }
     ensures below { (index : ℕ) → index < result → (choice path.now index).freq + far ≤ freq }
-    ensures near { (index : ℕ) → result ≤ index → index < length (choices path.now) → freq < (choice path.now index).freq + far }
+    ensures near { (index : ℕ) → result ≤ index → index < length (choices path.now) →
+        freq < (choice path.now index).freq + far }
 {
     let place = place_within(path.freqs.as_slice(), freq, far) as u32;
     if path.pol == 0 { 2 * place } else { place }

@@ -14,7 +14,8 @@ pub record IsTextOf (text : List ℕ) (path_count record_count : ℕ) : Type 0 w
   pub paths : length instance.paths ≡ path_count
   pub records : length instance.records ≡ record_count
 
--- whatever the number, a made network is an instance: four records for each path after the second, and two
+-- whatever the number, a made network is an instance: four records for each path after the second,
+-- and two
 abbrev pub MadeNetworksAreInstances : Type 0
 MadeNetworksAreInstances = (number paths : ℕ) → 2 ≤ paths → paths ≤ MAX_GENERATED
     → IsTextOf (network_text number paths) paths (2 + 4 * (paths - 2))

@@ -1,7 +1,7 @@
 ghost use Rattle.gen_laws.specs.MadeLaws.{MadeNetworksAreInstances, MadeNetworksAreShort};
 
-/// The text of the network that a number makes is that of an instance, which has as many paths as were asked for, and four
-/// records for each path after the second, and two.
+/// The text of the network that a number makes is that of an instance, which has as many paths as
+/// were asked for, and four records for each path after the second, and two.
 pub fn made_networks_are_instances()
     ensures { MadeNetworksAreInstances }
 {}

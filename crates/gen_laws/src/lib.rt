@@ -1,5 +1,5 @@
-//! Laws over made networks: the text that a number makes is that of an instance. Each stands as the contract of a function
-//! that does nothing; the lemmas that they rest on are in `proofs/`.
+//! Laws over made networks: the text that a number makes is that of an instance. Each stands as the
+//! contract of a function that does nothing; the lemmas that they rest on are in `proofs/`.
 #![tactic(auto)]
 
 mod laws;

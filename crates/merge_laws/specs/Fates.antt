@@ -1,4 +1,5 @@
--- What became of literals that a log says are implied: a certificate line has them, or they are dead without one.
+-- What became of literals that a log says are implied: a certificate line has them, or they are
+-- dead without one.
 use Rattle.std.specs.Prelude.{◌≡◌, ◌⊎◌, ℕ, ◌<◌, ◌≤◌, false, List, length, All, IsTrue}
 use Rattle.fapp_model.specs.declared.instance.Instance.{Instance}
 use Rattle.fapp_model.specs.declared.literal.Literal.{Literal}

@@ -16,9 +16,10 @@ pub record IsPlacedIn (old : List Line) (placed : List (ℕ × ℕ)) (row : Know
   pub listed : Contains placed (row.number, number)
   pub stands : StandsAt old row.content number
 
--- The logs are good over rows, each of which is home in one segment of them or placed at one old line, and no row is
--- both. No Count line cites.
-pub record AreGoodLogsAfter (instance : Instance) (old : List Line) (placed : List (ℕ × ℕ)) (rows : List KnownRow) (logs : List LogState) : Type 0 where
+-- The logs are good over rows, each of which is home in one segment of them or placed at one old
+-- line, and no row is both. No Count line cites.
+pub record AreGoodLogsAfter (instance : Instance) (old : List Line) (placed : List (ℕ × ℕ))
+    (rows : List KnownRow) (logs : List LogState) : Type 0 where
   pub good : All (λ log. IsGoodLog instance rows log.lines log.segments) logs
   pub home : All (λ row. IsHomeRow logs row ⊎ IsPlacedIn old placed row) rows
   pub once : AllPairs (λ p q. p.row ≢ q.row) (pieces_of logs)

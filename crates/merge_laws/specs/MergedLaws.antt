@@ -33,41 +33,58 @@ use Rattle.merge_laws.specs.Levels.{emit_tree}
 use Rattle.merge_laws.specs.MergedLines.{IsCertificate, IsCertificateAfter, IsMerged, IsMergedAfter}
 use Rattle.merge_laws.specs.Stages.{Merged, merged_number}
 
--- Merged lines are well formed and accepted for the verdict, cite nothing at (0, 0, 0), and are no more than the bound.
+-- Merged lines are well formed and accepted for the verdict, cite nothing at (0, 0, 0), and are no
+-- more than the bound.
 abbrev pub MergedLinesAreAccepted : Type 0
-MergedLinesAreAccepted = (instance : Instance) (split : ℕ) (logs : List LogState) (outcomes : List Placed) (word : ℕ) (verdict : Verdict) (lines : List Line) →
-    IsInstance instance → IsMergeable instance split logs outcomes word verdict → IsCertificate instance split logs outcomes verdict lines →
+MergedLinesAreAccepted =
+    (instance : Instance) (split : ℕ) (logs : List LogState) (outcomes : List Placed) (word : ℕ)
+    (verdict : Verdict) (lines : List Line) →
+    IsInstance instance → IsMergeable instance split logs outcomes word verdict →
+    IsCertificate instance split logs outcomes verdict lines →
     IsNumber (length lines) → IsMerged instance split logs verdict lines
 
 -- So are those behind old lines, with which they begin.
 abbrev pub MergedLinesAfterAreAccepted : Type 0
-MergedLinesAfterAreAccepted = (instance : Instance) (split : ℕ) (old : List Line) (placed : List (ℕ × ℕ)) (logs : List LogState) (outcomes : List Placed) (word : ℕ) (verdict : Verdict) (lines : List Line) →
-    IsInstance instance → IsMergeableAfter instance split old placed logs outcomes word verdict → IsCertificateAfter instance split old placed logs outcomes verdict lines →
+MergedLinesAfterAreAccepted =
+    (instance : Instance) (split : ℕ) (old : List Line) (placed : List (ℕ × ℕ))
+    (logs : List LogState) (outcomes : List Placed) (word : ℕ) (verdict : Verdict)
+    (lines : List Line) →
+    IsInstance instance → IsMergeableAfter instance split old placed logs outcomes word verdict →
+    IsCertificateAfter instance split old placed logs outcomes verdict lines →
     IsNumber (length lines) → IsMergedAfter instance split old logs verdict lines
 
--- what the lines before the tree are: good, each choice outside the arcs marked, and whatever a log or an outcome cites
--- has its number
-pub record AreGathered (instance : Instance) (rows : List KnownRow) (logs : List LogState) (s : Merged) : Type 0 where
+-- what the lines before the tree are: good, each choice outside the arcs marked, and whatever a log
+-- or an outcome cites has its number
+pub record AreGathered (instance : Instance) (rows : List KnownRow) (logs : List LogState)
+    (s : Merged) : Type 0 where
   pub good : AreGood instance s.out
   pub formed : IsNumber (length s.out) → All (IsLine instance) s.out
   pub marked : AreMarked instance s.out
-  pub cited : (log : ℕ) (ref : Ref) (content : Content) → Cites rows (lines_of (all_lines logs) log) ref content →
+  pub cited : (log : ℕ) (ref : Ref) (content : Content) →
+      Cites rows (lines_of (all_lines logs) log) ref content →
       IsFate instance s.out content (merged_number s log ref)
 
 -- The arc lines, the segments by row and the rests of good logs are that.
 abbrev pub GatheredLinesAreGood : Type 0
-GatheredLinesAreGood = (instance : Instance) (rows : List KnownRow) (logs : List LogState) (pieces : List Piece) (arcs : List Line) (room : ℕ) →
-    IsInstance instance → AreArcLines instance arcs → AreGoodLogs instance rows logs → AreByRow logs pieces → All (λ p. p.row < room) pieces →
+GatheredLinesAreGood =
+    (instance : Instance) (rows : List KnownRow) (logs : List LogState) (pieces : List Piece)
+    (arcs : List Line) (room : ℕ) →
+    IsInstance instance → AreArcLines instance arcs → AreGoodLogs instance rows logs →
+    AreByRow logs pieces → All (λ p. p.row < room) pieces →
     AreGathered instance rows logs (gathered arcs [] (all_lines logs) pieces room)
 
 -- Merged lines make an accepted answer, with any plan that has no fault for the verdict.
 abbrev pub MergedAnswerIsAccepted : Type 0
-MergedAnswerIsAccepted = (instance : Instance) (split : ℕ) (logs : List LogState) (answer : Answer) →
-    plan_fault instance answer.plan answer.verdict ≡ None → IsMerged instance split logs answer.verdict answer.lines →
+MergedAnswerIsAccepted =
+    (instance : Instance) (split : ℕ) (logs : List LogState) (answer : Answer) →
+    plan_fault instance answer.plan answer.verdict ≡ None →
+    IsMerged instance split logs answer.verdict answer.lines →
     Accepts instance answer
 
--- a job on a prefix is Refuted with at least a tag, and what it names is what settles the prefix at that tag
-pub record IsSettledAt (instance : Instance) (split : ℕ) (outcomes : List Placed) (code place : ℕ) : Type 0 where
+-- a job on a prefix is Refuted with at least a tag, and what it names is what settles the prefix at
+-- that tag
+pub record IsSettledAt (instance : Instance) (split : ℕ) (outcomes : List Placed)
+    (code place : ℕ) : Type 0 where
   pub id : ℕ
   pub below : id < job_count instance split
   pub prefix : job_prefix instance split id ≡ slice_index_or (prefixes instance split) place []
@@ -80,17 +97,26 @@ pub record IsSettledAt (instance : Instance) (split : ℕ) (outcomes : List Plac
 
 -- Where the verdict's tag is above the arcs' root tag, each prefix is settled at it.
 abbrev pub RuleSettlesPrefixes : Type 0
-RuleSettlesPrefixes = (instance : Instance) (split : ℕ) (outcomes : List Placed) (word root place : ℕ) (verdict : Verdict) →
-    IsInstance instance → length outcomes ≡ job_count instance split → All (IsPlacedFor instance) outcomes →
-    IsTrue (is_shown (levels_of instance) (triple_from word)) → IsRootTag instance (triple_from root) →
-    IsVerdictOf instance split outcomes word root verdict → root < (verdict_tag instance verdict).code →
-    place < length (prefixes instance split) → IsSettledAt instance split outcomes (verdict_tag instance verdict).code place
+RuleSettlesPrefixes =
+    (instance : Instance) (split : ℕ) (outcomes : List Placed) (word root place : ℕ)
+    (verdict : Verdict) →
+    IsInstance instance → length outcomes ≡ job_count instance split →
+    All (IsPlacedFor instance) outcomes →
+    IsTrue (is_shown (levels_of instance) (triple_from word)) →
+    IsRootTag instance (triple_from root) →
+    IsVerdictOf instance split outcomes word root verdict →
+    root < (verdict_tag instance verdict).code →
+    place < length (prefixes instance split) →
+    IsSettledAt instance split outcomes (verdict_tag instance verdict).code place
 
 -- The arcs' root tag is one.
 abbrev pub OneRootTag : Type 0
-OneRootTag = (instance : Instance) (a b : ℕ) → IsRootTag instance (triple_from a) → IsRootTag instance (triple_from b) → a ≡ b
+OneRootTag =
+    (instance : Instance) (a b : ℕ) → IsRootTag instance (triple_from a) →
+    IsRootTag instance (triple_from b) → a ≡ b
 
 -- A tree has a line for each list of choices of its first paths.
 abbrev pub TreeLines : Type 0
 TreeLines = (instance : Instance) (t : Tag) (number : ℕ → ℕ) (paths : List ℕ) (out : List Line) →
-    length (emit_tree instance t number paths ([] ∷ []) out) ≡ length out + length (lists_along instance paths)
+    length (emit_tree instance t number paths ([] ∷ []) out) ≡ length out
+    + length (lists_along instance paths)

@@ -1,4 +1,5 @@
--- How a certificate grows by the lines of logs, and the numbers that those lines and the rows get: 0 for what is left out.
+-- How a certificate grows by the lines of logs, and the numbers that those lines and the rows get:
+-- 0 for what is left out.
 use Rattle.std.specs.Prelude.{ℕ, ◌+◌, ◌==◌, if◌then◌else◌, List, [], ◌∷◌, ◌++◌, length, slice_index_or, slice_set, replicate, Option, Some, None}
 use Rattle.cert_lines.specs.declared.answer.Line.{Line}
 use Rattle.search_log.specs.declared.line.LogLine.{LogLine}
@@ -6,7 +7,8 @@ use Rattle.search_log.specs.declared.line.Ref.{Ref}
 use Rattle.search_log.specs.declared.line.Ref.TheVariants.{Own, Row}
 use Rattle.merge_laws.specs.Written.{written}
 
--- a certificate so far; for each log the numbers of its lines that are done, and the numbers of the rows
+-- a certificate so far; for each log the numbers of its lines that are done, and the numbers of the
+-- rows
 pub record Merged : Type 0 where
   pub out : List Line
   pub own : List (List ℕ)
@@ -19,7 +21,8 @@ with_placed (p ∷ placed) row = with_placed placed (slice_set row p.0 p.1)
 
 -- some lines, before any line of so many logs, with room for so many rows, some of which are placed
 abbrev pub start : List Line → List (ℕ × ℕ) → ℕ → ℕ → Merged
-start out placed logs rows = record { out = out; own = replicate logs []; row = with_placed placed (replicate rows 0) }
+start out placed logs rows =
+    record { out = out; own = replicate logs []; row = with_placed placed (replicate rows 0) }
 
 -- the numbers of a log's lines
 abbrev pub own_of : Merged → ℕ → List ℕ
@@ -50,7 +53,8 @@ emit_branch log line path s = record {
 
 abbrev pub emit_by : ℕ → LogLine → Merged → Option ℕ → Merged
 emit_by log line s None = left_out log s
-emit_by log line s (Some path) = if line.tag.code == 0 then left_out log s else emit_branch log line path s
+emit_by log line s (Some path) =
+    if line.tag.code == 0 then left_out log s else emit_branch log line path s
 
 -- the next line of a log is written, or left out: a Count line and one of the tag (0, 0, 0)
 abbrev pub emit : ℕ → LogLine → Merged → Merged
@@ -63,4 +67,5 @@ emit_all log (line ∷ lines) s = emit_all log lines (emit log line s)
 
 -- a row gets the number of a line of a log
 abbrev pub land : ℕ → ℕ → ℕ → Merged → Merged
-land row log place s = record { out = s.out; own = s.own; row = slice_set s.row row (merged_number s log (Own place)) }
+land row log place s =
+    record { out = s.out; own = s.own; row = slice_set s.row row (merged_number s log (Own place)) }

@@ -9,7 +9,8 @@ use Rattle.search_log.specs.declared.line.Ref.{Ref}
 
 -- no child where the number is 0
 abbrev pub child_for : ℕ → ℕ → List Child
-child_for choice number = if number == 0 then [] else (record { choice = choice; cite = number } ∷ [])
+child_for choice number =
+    if number == 0 then [] else (record { choice = choice; cite = number } ∷ [])
 
 abbrev pub written_child : (Ref → ℕ) → ChoiceRef → List Child
 written_child number ref = child_for ref.choice (number ref.line)
@@ -17,4 +18,8 @@ written_child number ref = child_for ref.choice (number ref.line)
 -- a Branch line of a log, by the numbers of what it cites
 abbrev pub written : (Ref → ℕ) → ℕ → LogLine → Line
 written number path line =
-    record { tag = line.tag; lits = line.lits; rule = Branch path (flat_map (written_child number) line.refs) }
+    record {
+      tag = line.tag;
+      lits = line.lits;
+      rule = Branch path (flat_map (written_child number) line.refs);
+    }

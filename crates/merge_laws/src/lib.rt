@@ -1,5 +1,5 @@
-//! What the lines of several logs are merged into, and laws of it. Each law stands as the contract of a function that does
-//! nothing; the lemmas that they rest on are in `proofs/`.
+//! What the lines of several logs are merged into, and laws of it. Each law stands as the contract
+//! of a function that does nothing; the lemmas that they rest on are in `proofs/`.
 #![tactic(auto)]
 
 mod laws;

@@ -15,5 +15,6 @@ pub record JoinsAreBoth : Type 0 where
 pub record LiteralsStay : Type 0 where
   pub join : (instance : Instance) (left right joined : List Literal) → AreLiterals instance left →
       AreLiterals instance right → IsJoin left right joined → AreLiterals instance joined
-  pub without : (instance : Instance) (path : ℕ) (literals : List Literal) → AreLiterals instance literals →
+  pub without : (instance : Instance) (path : ℕ) (literals : List Literal) →
+      AreLiterals instance literals →
       AreLiterals instance (other_paths path literals)

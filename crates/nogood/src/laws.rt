@@ -5,7 +5,8 @@ pub fn joins_are_both()
     ensures { JoinsAreBoth }
 {}
 
-/// Law: joining lists of an instance's literals, and leaving a path out, give lists of its literals.
+/// Law: joining lists of an instance's literals, and leaving a path out, give lists of its
+/// literals.
 pub fn literals_stay()
     ensures { LiteralsStay }
 {}

@@ -1,5 +1,5 @@
-//! Lists of literals: conflicts that a search learned, the choices that it stands at, and the rows in which
-//! conflicts are shared.
+//! Lists of literals: conflicts that a search learned, the choices that it stands at, and the rows
+//! in which conflicts are shared.
 #![tactic(auto)]
 
 mod laws;

@@ -7,8 +7,8 @@ use fapp_model::{Items, Literal, NoMemory};
 use std::alloc::Global;
 use std::marker::Model;
 
-/// Literals of distinct paths, ascending by path: choices that can't all stand in a plan that is wanted.
-/// Contracts see the list.
+/// Literals of distinct paths, ascending by path: choices that can't all stand in a plan that is
+/// wanted. Contracts see the list.
 #[derive(Debug, Drop)]
 pub struct Nogood {
     literals: Items<Literal>,

@@ -5,8 +5,8 @@ use fapp_model::NoMemory;
 use std::alloc::Global;
 use std::marker::Model;
 
-/// The choices that were made so far, by path: an array with a choice's index for each path that is set.
-/// Contracts see what it gives at each path.
+/// The choices that were made so far, by path: an array with a choice's index for each path that is
+/// set. Contracts see what it gives at each path.
 #[derive(Debug, Drop)]
 pub struct Partial {
     choices: Vec<Option<u16>>,

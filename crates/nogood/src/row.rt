@@ -2,8 +2,8 @@ ghost use Rattle.std.specs.Prelude.{◌≡◌, ◌≤◌};
 
 use fapp_model::{Literal, Tag};
 
-/// A shared conflict: at most 8 literals, and the tag at which they are implied. It has no place for more, so a
-/// longer one is not shared.
+/// A shared conflict: at most 8 literals, and the tag at which they are implied. It has no place
+/// for more, so a longer one is not shared.
 #[derive(Clone, Copy, Debug)]
 pub struct Row {
     pub tag: Tag,

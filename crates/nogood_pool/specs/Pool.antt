@@ -42,7 +42,8 @@ held_row row c = record { row = row; content = c }
 abbrev pub content_of_row : Row → Content
 content_of_row r = record { lits = take r.len r.lits; tag = r.tag.code }
 
--- what may be published: literals of the instance, ascending, implied at a tag of the instance above (0, 0, 0)
+-- what may be published: literals of the instance, ascending, implied at a tag of the instance
+-- above (0, 0, 0)
 pub record IsPoolRow (instance : Instance) (c : Content) : Type 0 where
   pub literals : AreLiterals instance c.lits
   pub code : IsTrue (is_code c.tag)
@@ -115,20 +116,78 @@ pub record IsPool (rows : ℕ) (instance : Instance) (s : Words) : Type 0 where
   pub reached : (seat : ℕ) × (v : PoolView) × Live s.views seat v × (v.counter ≡ counter_of s.words)
   pub owners : (row : ℕ) → sum_by (times row) s.views ≡ below row (counter_of s.words)
   pub fresh : (row k : ℕ) → counter_of s.words ≤ row → row < rows → k < 9 → cell s.words row k ≡ 0
-  pub owned : (row : ℕ) → row < rows → cell s.words row 0 ≢ 0 → (seat : ℕ) × (v : PoolView) × Live s.views seat v × (c : Content) × Contains v.published (held_row row c)
+  pub owned : (row : ℕ) → row < rows → cell s.words row 0 ≢ 0 → (seat : ℕ) × (v : PoolView)
+      × Live s.views seat v × (c : Content) × Contains v.published (held_row row c)
   pub shares : IsShared is_spent share_of WHOLE_SHARE s.views
 
 abbrev pub first_view : ℕ → Instance → PoolView
-first_view rows instance = record { spent = false; share = WHOLE_SHARE; instance = instance; rows = rows; counter = 0; writing = None; published = []; seen = []; trail = [] }
+first_view rows instance =
+    record {
+      spent = false;
+      share = WHOLE_SHARE;
+      instance = instance;
+      rows = rows;
+      counter = 0;
+      writing = None;
+      published = [];
+      seen = [];
+      trail = [];
+    }
 
 abbrev pub spent_view : PoolView
-spent_view = record { spent = true; share = 0; instance = record { paths = []; records = [] }; rows = 0; counter = 0; writing = None; published = []; seen = []; trail = [] }
+spent_view =
+    record {
+      spent = true;
+      share = 0;
+      instance = record { paths = []; records = [] };
+      rows = 0;
+      counter = 0;
+      writing = None;
+      published = [];
+      seen = [];
+      trail = [];
+    }
 
 abbrev pub kept_half : PoolView → PoolView
-kept_half v = record { spent = false; share = v.share - v.share / 2; instance = v.instance; rows = v.rows; counter = v.counter; writing = v.writing; published = v.published; seen = v.seen; trail = v.trail }
+kept_half v =
+    record {
+      spent = false;
+      share = v.share - v.share / 2;
+      instance = v.instance;
+      rows = v.rows;
+      counter = v.counter;
+      writing = v.writing;
+      published = v.published;
+      seen = v.seen;
+      trail =
+          v.trail;
+    }
 
 abbrev pub given_half : PoolView → PoolView
-given_half v = record { spent = false; share = v.share / 2; instance = v.instance; rows = v.rows; counter = v.counter; writing = None; published = []; seen = v.published ++ v.seen; trail = [] }
+given_half v =
+    record {
+      spent = false;
+      share = v.share / 2;
+      instance = v.instance;
+      rows = v.rows;
+      counter = v.counter;
+      writing = None;
+      published = [];
+      seen = v.published ++ v.seen;
+      trail = [];
+    }
 
 abbrev pub after_join : PoolView → PoolView → PoolView
-after_join v w = record { spent = false; share = v.share + w.share; instance = v.instance; rows = v.rows; counter = max v.counter w.counter; writing = v.writing; published = v.published ++ w.published; seen = v.seen ++ w.seen; trail = v.trail ++ w.trail }
+after_join v w =
+    record {
+      spent = false;
+      share = v.share + w.share;
+      instance = v.instance;
+      rows = v.rows;
+      counter = max v.counter w.counter;
+      writing = v.writing;
+      published =
+          v.published ++ w.published;
+      seen = v.seen ++ w.seen;
+      trail = v.trail ++ w.trail;
+    }

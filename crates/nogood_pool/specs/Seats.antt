@@ -34,15 +34,27 @@ Loads v n = (n ≤ v.rows) × IsBehind v n × (v.share ≡ WHOLE_SHARE → n ≡
 -- what `publish` answers, and what the seat then knows
 abbrev pub SeatPublishes : PoolView → List Literal → ℕ → Published → PoolView → Type 0
 SeatPublishes v lits tag TooLong w = (8 < length lits) × (w ≡ v)
-SeatPublishes v lits tag (Full n) w = (length lits ≤ 8) × (v.rows ≤ n) × Loads v n × (w ≡ after_count v n)
-SeatPublishes v lits tag (Busy n m) w = (length lits ≤ 8) × (n < v.rows) × Loads v n × (n < m) × (m ≤ v.rows) × (v.share ≢ WHOLE_SHARE) × (w ≡ after_miss (after_count v n) n m)
-SeatPublishes v lits tag (Home row) w = (length lits ≤ 8) × (row < v.rows) × Loads v row × (w ≡ after_publish (after_draw (after_count v row) row (content lits tag)) row (content lits tag))
+SeatPublishes v lits tag (Full n) w =
+    (length lits ≤ 8) × (v.rows ≤ n) × Loads v n × (w ≡ after_count v n)
+SeatPublishes v lits tag (Busy n m) w =
+    (length lits ≤ 8) × (n < v.rows) × Loads v n × (n < m) × (m ≤ v.rows) × (v.share ≢ WHOLE_SHARE)
+    × (w ≡ after_miss (after_count v n) n m)
+SeatPublishes v lits tag (Home row) w =
+    (length lits ≤ 8) × (row < v.rows) × Loads v row
+    × (w ≡ after_publish (after_draw (after_count v row) row (content lits tag)) row
+    (content lits tag))
 
 -- what `get` answers of a row, and what the seat then knows
 abbrev pub SeatReads : PoolView → ℕ → Option Row → PoolView → Type 0
-SeatReads v row None w = (w ≡ after_read v row 0 []) × ((c : Content) → Contains v.published (held_row row c) ⊎ Contains v.seen (held_row row c) → ⊥)
-SeatReads v row (Some r) w = IsPoolRow v.instance (content_of_row r) × IsOnlyContent v row (content_of_row r) × (w ≡ after_read v row r.tag.code (held_row row (content_of_row r) ∷ []))
+SeatReads v row None w =
+    (w ≡ after_read v row 0 []) × ((c : Content) → Contains v.published (held_row row c)
+    ⊎ Contains v.seen (held_row row c) → ⊥)
+SeatReads v row (Some r) w =
+    IsPoolRow v.instance (content_of_row r) × IsOnlyContent v row (content_of_row r)
+    × (w ≡ after_read v row r.tag.code (held_row row (content_of_row r) ∷ []))
 
 -- the same where a load of the counter may come first
 abbrev pub Gets : PoolView → ℕ → Option Row → PoolView → Type 0
-Gets v row o w = ((row < v.counter) × SeatReads v row o w) ⊎ ((v.counter ≤ row) × ((n : ℕ) × Loads v n × SeatReads (after_count v n) row o w))
+Gets v row o w =
+    ((row < v.counter) × SeatReads v row o w)
+    ⊎ ((v.counter ≤ row) × ((n : ℕ) × Loads v n × SeatReads (after_count v n) row o w))

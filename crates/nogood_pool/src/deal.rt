@@ -10,8 +10,9 @@ use fapp_model::NoMemory;
 use std::alloc::Global;
 
 impl Pool {
-    /// So many seats, split off one that has the whole share, which keeps what it knows. They have published nothing, and
-    /// are given the rows that it published or saw. Room is made first: where there is none, the seat is as it was.
+    /// So many seats, split off one that has the whole share, which keeps what it knows. They have
+    /// published nothing, and are given the rows that it published or saw. Room is made first:
+    /// where there is none, the seat is as it was.
     pub fn split_seats(
         &self,
         alloc: Global,
@@ -25,8 +26,10 @@ impl Pool {
         ensures kept { KeepsAllButShare (view_of seat.old) (view_of seat.new) }
         ensures count { IfOk result (λ seats. length seats.items ≡ holders) }
         ensures own { IfOk result (λ seats. All (IsSeatOf self.now) seats.items) }
-        ensures new { IfOk result (λ seats. All (λ other. IsSplitFrom (view_of seat.old) (view_of other)) seats.items) }
-        ensures shares { IfOk result (λ seats. (view_of seat.new).share + shares_of seats.items ≡ WHOLE_SHARE) }
+        ensures new { IfOk result (λ seats.
+            All (λ other. IsSplitFrom (view_of seat.old) (view_of other)) seats.items) }
+        ensures shares { IfOk result (λ seats.
+            (view_of seat.new).share + shares_of seats.items ≡ WHOLE_SHARE) }
         ensures unchanged { OnErr result (seat.new ≡ seat.old) }
     {
         let mut seats = Vec::with_capacity(alloc, holders as usize)?;
@@ -36,8 +39,9 @@ impl Pool {
         Ok(seats)
     }
 
-    /// The end, once all seats came back: the first one, and those of a list. Each row that one of them saw was published
-    /// by one of them, with the same content, and no row was published twice.
+    /// The end, once all seats came back: the first one, and those of a list. Each row that one of
+    /// them saw was published by one of them, with the same content, and no row was published
+    /// twice.
     pub fn close_seats(self, first: PoolSeat, seats: Vec<PoolSeat>)
         requires first { IsSeatOf self first }
         requires own { All (IsSeatOf self) seats.items }

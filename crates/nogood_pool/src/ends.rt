@@ -15,11 +15,12 @@ use std::alloc::Global;
 use std::snapshot::Snapshot;
 
 impl Pool {
-    /// A pool of so many rows, at most `MAX_ROWS`, for nogoods of the instance, and the first seat. All memory is taken
-    /// here: 72 bytes a row.
+    /// A pool of so many rows, at most `MAX_ROWS`, for nogoods of the instance, and the first seat.
+    /// All memory is taken here: 72 bytes a row.
     pub fn new(alloc: Global, rows: u32, instance: &Instance) -> Result<(Pool, PoolSeat), NoMemory>
         requires { rows ≤ MAX_ROWS }
-        ensures { IfOk result (λ r. IsSeatOf r.0 r.1 × (view_of r.1 ≡ first_view rows instance.now) × (r.0.rows ≡ rows) × (instance_seen r.0 ≡ instance.now)) }
+        ensures { IfOk result (λ r. IsSeatOf r.0 r.1 × (view_of r.1 ≡ first_view rows instance.now)
+            × (r.0.rows ≡ rows) × (instance_seen r.0 ≡ instance.now)) }
     {
         let key = Key {
             rows: u64::from(rows),
@@ -37,7 +38,8 @@ impl Pool {
         ))
     }
 
-    /// Another seat, which gets half of the share, rounded down, and is given the rows that the seat published or saw.
+    /// Another seat, which gets half of the share, rounded down, and is given the rows that the
+    /// seat published or saw.
     pub fn split(&self, seat: &mut PoolSeat) -> PoolSeat
         requires own { IsSeatOf self.now seat.old }
         requires share { 2 ≤ (view_of seat.old).share }
@@ -75,8 +77,8 @@ impl Pool {
         }
     }
 
-    /// The end, once every other seat was joined. Each row that a seat saw stands with the same content among those
-    /// that were published, and no row was published twice.
+    /// The end, once every other seat was joined. Each row that a seat saw stands with the same
+    /// content among those that were published, and no row was published twice.
     pub fn close(self, seat: PoolSeat)
         requires own { IsSeatOf self seat }
         requires share { (view_of seat).share ≡ WHOLE_SHARE }

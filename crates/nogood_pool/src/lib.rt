@@ -1,4 +1,5 @@
-//! Rows of words that many seats share: each row is written once, by the seat that drew it, and never changes.
+//! Rows of words that many seats share: each row is written once, by the seat that drew it, and
+//! never changes.
 #![tactic(auto)]
 
 mod deal;

@@ -59,10 +59,15 @@ impl Pool {
     /// One exchange of the counter. It draws the row, or answers what it found.
     fn draw(&self, seat: &mut Seat<Row, PoolView>, next: u64, said: &Row) -> u64
         requires table { seat.old.table_id ≡ self.now.table.shared.table_id }
-        requires idle { (seat.old.me.1 ≡ []) × (seat.old.me.0.spent ≡ false) × (seat.old.me.0.writing ≡ None) }
-        requires row { (next < self.now.rows) × IsPoolRow (instance_seen self.now) (content_of_row said.now) × AreShort (content_of_row said.now).lits }
-        ensures same { (seat.new.table_id ≡ seat.old.table_id) × (seat.new.id ≡ seat.old.id) × (seat.new.me.1 ≡ []) }
-        ensures hit { result ≡ next → seat.new.me.0 ≡ after_draw seat.old.me.0 next (content_of_row said.now) }
+        requires idle { (seat.old.me.1 ≡ []) × (seat.old.me.0.spent ≡ false)
+            × (seat.old.me.0.writing ≡ None) }
+        requires row { (next < self.now.rows)
+            × IsPoolRow (instance_seen self.now) (content_of_row said.now)
+            × AreShort (content_of_row said.now).lits }
+        ensures same { (seat.new.table_id ≡ seat.old.table_id) × (seat.new.id ≡ seat.old.id)
+            × (seat.new.me.1 ≡ []) }
+        ensures hit { result ≡ next → seat.new.me.0
+            ≡ after_draw seat.old.me.0 next (content_of_row said.now) }
         ensures miss { result ≢ next → seat.new.me.0 ≡ after_miss seat.old.me.0 next result }
         ensures most { (seat.old.me.0.counter ≤ result) × (result ≤ seat.old.me.0.rows) }
         ensures alone { seat.old.me.0.share ≡ WHOLE_SHARE → result ≡ seat.old.me.0.counter }
@@ -76,9 +81,16 @@ impl Pool {
     fn write_row(&self, seat: &mut Seat<Row, PoolView>, row: usize, said: &Row)
         requires table { seat.old.table_id ≡ self.now.table.shared.table_id }
         requires idle { (seat.old.me.1 ≡ []) × (seat.old.me.0.spent ≡ false) }
-        requires row { (row < self.now.rows) × (seat.old.me.0.writing ≡ Some (record { row = row; content = content_of_row said.now; stored = 0 })) }
-        requires said { AreShort (content_of_row said.now).lits × (length (content_of_row said.now).lits ≡ said.now.len) }
-        ensures same { (seat.new.table_id ≡ seat.old.table_id) × (seat.new.id ≡ seat.old.id) × (seat.new.me.1 ≡ []) }
+        requires row { (row < self.now.rows)
+            × (seat.old.me.0.writing ≡ Some (record {
+              row = row;
+              content = content_of_row said.now;
+              stored = 0;
+            })) }
+        requires said { AreShort (content_of_row said.now).lits
+            × (length (content_of_row said.now).lits ≡ said.now.len) }
+        ensures same { (seat.new.table_id ≡ seat.old.table_id) × (seat.new.id ≡ seat.old.id)
+            × (seat.new.me.1 ≡ []) }
         ensures view { seat.new.me.0 ≡ after_publish seat.old.me.0 row (content_of_row said.now) }
     {
         for k in 0..usize::from(said.len) {
@@ -92,16 +104,19 @@ impl Pool {
             .store::<StoreTag>(seat, 1 + 9 * row, said.tag.code);
     }
 
-    /// Offers literals that are implied at a tag above (0, 0, 0), with one try. `Home` is the number of the row that
-    /// holds them from then on; it is above every row that the seat published, got or was given before. `TooLong`
-    /// comes exactly where there are more than 8 literals, and then no step was made. `Full(n)` comes exactly where the
-    /// counter was read as n, no less than the number of rows. `Busy` comes exactly where the counter was read as
-    /// `read` and the one exchange found `seen` in its place; never for a seat with the whole share.
+    /// Offers literals that are implied at a tag above (0, 0, 0), with one try. `Home` is the
+    /// number of the row that holds them from then on; it is above every row that the seat
+    /// published, got or was given before. `TooLong` comes exactly where there are more than 8
+    /// literals, and then no step was made. `Full(n)` comes exactly where the counter was read as
+    /// n, no less than the number of rows. `Busy` comes exactly where the counter was read as
+    /// `read` and the one exchange found `seen` in its place; never for a seat with the whole
+    /// share.
     pub fn publish(&self, seat: &mut PoolSeat, lits: &[Literal], tag: Tag) -> Published
         requires own { IsSeatOf self.now seat.old }
         requires row { IsPoolRow (instance_seen self.now) (content lits.now tag.code) }
         ensures same { IsSameSeat seat.old seat.new }
-        ensures published { SeatPublishes (view_of seat.old) lits.now tag.code result (view_of seat.new) }
+        ensures published { SeatPublishes (view_of seat.old) lits.now tag.code result
+            (view_of seat.new) }
     {
         let Some(said) = row_of(lits, tag) else {
             return Published::TooLong;
@@ -128,7 +143,8 @@ impl Pool {
         requires table { seat.old.table_id ≡ self.now.table.shared.table_id }
         requires idle { (seat.old.me.1 ≡ []) × (seat.old.me.0.spent ≡ false) }
         requires row { row < self.now.rows }
-        ensures same { (seat.new.table_id ≡ seat.old.table_id) × (seat.new.id ≡ seat.old.id) × (seat.new.me.1 ≡ []) }
+        ensures same { (seat.new.table_id ≡ seat.old.table_id) × (seat.new.id ≡ seat.old.id)
+            × (seat.new.me.1 ≡ []) }
         ensures read { ReadsTag seat.old.me.0 row result seat.new.me.0 }
     {
         self.table.shared.load::<ReadTag>(seat, 1 + 9 * row)
@@ -139,8 +155,10 @@ impl Pool {
         requires table { seat.old.table_id ≡ self.now.table.shared.table_id }
         requires idle { (seat.old.me.1 ≡ []) × (seat.old.me.0.spent ≡ false) }
         requires row { row < self.now.rows }
-        ensures same { (seat.new.table_id ≡ seat.old.table_id) × (seat.new.id ≡ seat.old.id) × (seat.new.me ≡ seat.old.me) }
-        ensures words { (c : Content) → Contains seat.old.me.0.seen (held_row row c) → (i : ℕ) → i < 8 → slice_index result i ≡ pool_word_at c.lits i }
+        ensures same { (seat.new.table_id ≡ seat.old.table_id) × (seat.new.id ≡ seat.old.id)
+            × (seat.new.me ≡ seat.old.me) }
+        ensures words { (c : Content) → Contains seat.old.me.0.seen (held_row row c) → (i : ℕ) →
+            i < 8 → slice_index result i ≡ pool_word_at c.lits i }
     {
         let mut words = [0u64; 8];
         for k in 0..8 {
@@ -167,10 +185,10 @@ impl Pool {
         Some(row_from(&words, Tag { code }))
     }
 
-    /// The content of a row, for good, once it has one: literals of the instance, ascending by path, that are implied at
-    /// its tag. None comes exactly where the row's tag word was 0 at this call's load of it; never for a row that the
-    /// seat published, got or was given. Where the row is not below the counter that the seat saw last, the counter is
-    /// loaded first.
+    /// The content of a row, for good, once it has one: literals of the instance, ascending by
+    /// path, that are implied at its tag. None comes exactly where the row's tag word was 0 at this
+    /// call's load of it; never for a row that the seat published, got or was given. Where the row
+    /// is not below the counter that the seat saw last, the counter is loaded first.
     pub fn get(&self, seat: &mut PoolSeat, row: u32) -> Option<Row>
         requires own { IsSeatOf self.now seat.old }
         requires row { row < self.now.rows }

@@ -16,7 +16,8 @@ pub const MAX_ROWS: u32 = 65_536;
 pub struct Pool {
     pub(crate) table: Table<Row, PoolView, Key, PoolRule, Global>,
     pub(crate) rows: u32,
-    ghost sizes: { (table.shared.table_id.words ≡ 1 + 9 * rows) × (table.shared.table_id.slots ≡ 0) },
+    ghost sizes: { (table.shared.table_id.words ≡ 1 + 9 * rows)
+        × (table.shared.table_id.slots ≡ 0) },
     ghost key: { table.shared.key.rows ≡ rows },
     ghost most: { rows ≤ MAX_ROWS },
 }

@@ -175,11 +175,13 @@ fn publish_by<R: Threads + Sync>(
     let (left, right) = join(
         rt,
         move || -> (PoolSeat, Result<Vec<u32>, NoMemory>)
-            requires { IsSync R.row × IsSeatOf pool.now other × (instance_seen pool.now ≡ crowded []) × (half ≤ (view_of other).share) }
+            requires { IsSync R.row × IsSeatOf pool.now other
+                × (instance_seen pool.now ≡ crowded []) × (half ≤ (view_of other).share) }
             ensures { IsSeatOf pool.entry.now result.0 }
         { publish_by(rt, alloc, pool, other, half) },
         move || -> (PoolSeat, Result<Vec<u32>, NoMemory>)
-            requires { IsSync R.row × IsSeatOf pool.now seat × (instance_seen pool.now ≡ crowded []) × (rest ≤ (view_of seat).share) }
+            requires { IsSync R.row × IsSeatOf pool.now seat × (instance_seen pool.now ≡ crowded [])
+                × (rest ≤ (view_of seat).share) }
             ensures { IsSeatOf pool.entry.now result.0 }
         { publish_by(rt, alloc, pool, seat, rest) },
     );

@@ -16,7 +16,8 @@ pub(crate) fn word_of(a: Literal) -> u64
 // The literal of a word.
 pub(crate) fn literal_of(word: u64) -> Literal
     requires { (a : Literal) × (a.path < 65536) × (a.choice < 65536) × (word ≡ literal_word a) }
-    ensures { (a : Literal) → (a.path < 65536) → (a.choice < 65536) → (word ≡ literal_word a) → result ≡ a }
+    ensures { (a : Literal) → (a.path < 65536) → (a.choice < 65536) → (word ≡ literal_word a) →
+        result ≡ a }
 {
     Literal {
         path: ((word - 1) / 65536) as u16,
@@ -34,7 +35,9 @@ fn known(a: Literal) -> Literal
 
 // The literals and the tag as a row, where there are at most eight literals.
 pub(crate) fn row_of(lits: &[Literal], tag: Tag) -> Option<Row>
-    ensures { MatchOption result (8 < length lits.now) (λ r. (content_of_row r ≡ content lits.now tag.code) × AreShort lits.now × (length lits.now ≡ r.len)) }
+    ensures { MatchOption result (8 < length lits.now) (λ r.
+        (content_of_row r ≡ content lits.now tag.code) × AreShort lits.now
+        × (length lits.now ≡ r.len)) }
 {
     if lits.len() > 8 {
         return None;
@@ -52,8 +55,11 @@ pub(crate) fn row_of(lits: &[Literal], tag: Tag) -> Option<Row>
 
 // The row of eight words.
 pub(crate) fn row_from(words: &[u64; 8], tag: Tag) -> Row
-    requires { (lits : List Literal) × AreShort lits × ((k : ℕ) → k < 8 → slice_index words.now k ≡ pool_word_at lits k) }
-    ensures { (lits : List Literal) → AreShort lits → ((k : ℕ) → k < 8 → slice_index words.now k ≡ pool_word_at lits k) → content_of_row result ≡ content lits tag.code }
+    requires { (lits : List Literal) × AreShort lits
+        × ((k : ℕ) → k < 8 → slice_index words.now k ≡ pool_word_at lits k) }
+    ensures { (lits : List Literal) → AreShort lits →
+        ((k : ℕ) → k < 8 → slice_index words.now k ≡ pool_word_at lits k) →
+        content_of_row result ≡ content lits tag.code }
 {
     let mut all = [Literal { path: 0, choice: 0 }; 8];
     let mut len = 0;

@@ -33,7 +33,13 @@ abbrev pub refusals_in : PoolView → ℕ
 refusals_in v = sum_by (is_refusal v.rows) v.trail
 
 abbrev pub state_of : PoolView → List Cite → SharedState
-state_of v cites = record { copied = known_cites cites; published = all_known v.published; takes = true; refusals = refusals_in v }
+state_of v cites =
+    record {
+      copied = known_cites cites;
+      published = all_known v.published;
+      takes = true;
+      refusals = refusals_in v;
+    }
 
 abbrev pub in_copies : ℕ → List Cite → ℕ
 in_copies row cites = sum_by (λ (cite : Cite). once row cite.row) cites
@@ -41,9 +47,10 @@ in_copies row cites = sum_by (λ (cite : Cite). once row cite.row) cites
 abbrev pub in_missing : ℕ → List ℕ → ℕ
 in_missing row missing = sum_by (λ m. once row m) missing
 
--- The copies are the last rows that the seat saw. Each row below next was copied once, or is still missing. With the published
--- ones, one number has one content. What was copied is implied.
-pub record AreSeatCopies (v : PoolView) (cites : List Cite) (next : ℕ) (missing : List ℕ) : Type 0 where
+-- The copies are the last rows that the seat saw. Each row below next was copied once, or is still
+-- missing. With the published ones, one number has one content. What was copied is implied.
+pub record AreSeatCopies (v : PoolView) (cites : List Cite) (next : ℕ)
+    (missing : List ℕ) : Type 0 where
   pub few : length cites ≤ length v.seen
   pub last : known_cites cites ≡ all_known (drop (length v.seen - length cites) v.seen)
   pub one : HaveOneContent (known_cites cites ++ all_known v.published)
@@ -63,9 +70,13 @@ pub record Looked (v w : PoolView) : Type 0 where
 
 -- one row was asked for: it is copied with its content, or it has none yet
 abbrev pub TakesRow : PoolView → ℕ → Bool → List Cite → PoolView → List Cite → Type 0
-TakesRow v row true old w new = (r : Row) × IsPoolRow v.instance (content_of_row r) × IsOnlyContent v row (content_of_row r)
-    × (w ≡ after_read v row r.tag.code (held_row row (content_of_row r) ∷ [])) × (new ≡ old ++ cite_of row r ∷ [])
-TakesRow v row false old w new = (w ≡ after_read v row 0 []) × ((h : HeldRow) → Contains v.published h → h.row ≢ row) × (new ≡ old)
+TakesRow v row true old w new =
+    (r : Row) × IsPoolRow v.instance (content_of_row r) × IsOnlyContent v row (content_of_row r)
+    × (w ≡ after_read v row r.tag.code (held_row row (content_of_row r) ∷ []))
+    × (new ≡ old ++ cite_of row r ∷ [])
+TakesRow v row false old w new =
+    (w ≡ after_read v row 0 []) × ((h : HeldRow) → Contains v.published h → h.row ≢ row)
+    × (new ≡ old)
 
 -- no row in some list was published by this seat
 abbrev pub NonePublished : PoolView → List ℕ → Type 0
@@ -77,7 +88,8 @@ pub record Grew {X : Type 0} (old new : List X) : Type 0 where
   pub are : new ≡ old ++ more
 
 -- some rows were asked for
-pub record AreRowsAskedFor (v w : PoolView) (old new : List Cite) (next : ℕ) (missing : List ℕ) : Type 0 where
+pub record AreRowsAskedFor (v w : PoolView) (old new : List Cite) (next : ℕ)
+    (missing : List ℕ) : Type 0 where
   pub looked : Looked v w
   pub gains : Grew old new
   pub copied : AreSeatCopies w new next missing
@@ -95,17 +107,19 @@ word_of cite = (cite.row, cite.content.tag.code)
 abbrev pub in_words : ℕ → List (ℕ × ℕ) → ℕ
 in_words row words = sum_by (λ p. once row p.0) words
 
--- Tag words were loaded, in order. Exactly the rows whose word was not 0 were copied; the others are spare.
+-- Tag words were loaded, in order. Exactly the rows whose word was not 0 were copied; the others
+-- are spare.
 pub record IsRead (v w : PoolView) (old new : List Cite) (before spare : List ℕ) : Type 0 where
   pub words : List (ℕ × ℕ)
   pub trail : w.trail ≡ v.trail ++ map read_of words
   pub more : List Cite
   pub are : new ≡ old ++ more
   pub found : map word_of more ≡ filter is_tagged words
-  pub each : (row : ℕ) → in_words row words + in_missing row before ≡ in_copies row more + in_missing row spare
+  pub each : (row : ℕ) → in_words row words + in_missing row before ≡ in_copies row more
+      + in_missing row spare
 
--- A look-up loads the counter, and then the tag word of each row below what it found that was not copied, once. Exactly the rows
--- whose word was not 0 were then copied.
+-- A look-up loads the counter, and then the tag word of each row below what it found that was not
+-- copied, once. Exactly the rows whose word was not 0 were then copied.
 pub record IsLookUp (v w : PoolView) (old new : List Cite) : Type 0 where
   pub count : ℕ
   pub loads : Loads v count

@@ -16,11 +16,12 @@ use search_log::{Cite, Shared};
 use std::alloc::Global;
 
 impl<'a> PoolRows<'a> {
-    /// No copy yet. Room for a copy of each row of the pool is made here. Where there is none, the seat comes back as it
-    /// was.
+    /// No copy yet. Room for a copy of each row of the pool is made here. Where there is none, the
+    /// seat comes back as it was.
     pub fn new(alloc: Global, pool: &'a Pool, seat: PoolSeat) -> Result<PoolRows<'a>, SeatBack>
         requires own { IsSeatOf pool.now seat }
-        ensures ok { IfOk result (λ rows. (rows.copies.cites ≡ []) × (rows.seat ≡ seat) × (rows.pool.now ≡ pool.now)) }
+        ensures ok { IfOk result (λ rows. (rows.copies.cites ≡ []) × (rows.seat ≡ seat)
+            × (rows.pool.now ≡ pool.now)) }
         ensures err { IfErr result (λ back. back.seat ≡ seat) }
     {
         let rows = pool.rows();
@@ -47,7 +48,8 @@ impl<'a> PoolRows<'a> {
     pub fn into_seat(self) -> PoolSeat
         ensures seat { result ≡ self.entry.seat }
         ensures own { IsSeatOf self.entry.pool.now result }
-        ensures copied { All (Contains (all_known (view_of result).seen)) (known_cites self.entry.copies.cites) }
+        ensures copied { All (Contains (all_known (view_of result).seen))
+            (known_cites self.entry.copies.cites) }
     {
         self.seat
     }
@@ -64,10 +66,15 @@ impl<'a> Shared for PoolRows<'a> {
     ghost since = { are_later };
 
     fn lookup(&mut self, part: &Partial, target: Tag) -> Option<Cite>
-        ensures looks { LooksUp (state_of_rows self.old) (state_of_rows self.new) part.now target.code result }
-        ensures serves { (instance : Instance) → ((view_of self.old.seat).instance ≡ instance) ↔ ((view_of self.new.seat).instance ≡ instance) }
-        ensures look_up { IsLookUp (view_of self.old.seat) (view_of self.new.seat) self.old.copies.cites self.new.copies.cites }
-        ensures implied { (instance : Instance) → (view_of self.old.seat).instance ≡ instance → IsCiteOf instance result }
+        ensures looks { LooksUp (state_of_rows self.old) (state_of_rows self.new) part.now
+            target.code result }
+        ensures serves { (instance : Instance) →
+            ((view_of self.old.seat).instance ≡ instance)
+            ↔ ((view_of self.new.seat).instance ≡ instance) }
+        ensures look_up { IsLookUp (view_of self.old.seat) (view_of self.new.seat)
+            self.old.copies.cites self.new.copies.cites }
+        ensures implied { (instance : Instance) → (view_of self.old.seat).instance ≡ instance →
+            IsCiteOf instance result }
         ensures since { (was : _) → AreLater was self.old → AreLater was self.new }
     {
         let count = self.pool.count(&mut self.seat) as u32;
@@ -93,11 +100,16 @@ impl<'a> Shared for PoolRows<'a> {
     }
 
     fn offer(&mut self, lits: &[Literal], tag: Tag) -> Published
-        requires { (instance : Instance) × ((view_of self.old.seat).instance ≡ instance) × IsOffer instance lits.now tag.code }
-        ensures offered { OffersRow (state_of_rows self.old) (state_of_rows self.new) lits.now tag.code result }
-        ensures serves { (instance : Instance) → ((view_of self.old.seat).instance ≡ instance) ↔ ((view_of self.new.seat).instance ≡ instance) }
+        requires { (instance : Instance) × ((view_of self.old.seat).instance ≡ instance)
+            × IsOffer instance lits.now tag.code }
+        ensures offered { OffersRow (state_of_rows self.old) (state_of_rows self.new) lits.now
+            tag.code result }
+        ensures serves { (instance : Instance) →
+            ((view_of self.old.seat).instance ≡ instance)
+            ↔ ((view_of self.new.seat).instance ≡ instance) }
         ensures since { (was : _) → AreLater was self.old → AreLater was self.new }
-        ensures published { SeatPublishes (view_of self.old.seat) lits.now tag.code result (view_of self.new.seat) }
+        ensures published { SeatPublishes (view_of self.old.seat) lits.now tag.code result
+            (view_of self.new.seat) }
         ensures copies { self.new.copies ≡ self.old.copies }
     {
         self.pool.publish(&mut self.seat, lits, tag)

@@ -19,7 +19,8 @@ pub struct PoolRows<'a> {
     /// Room for those that still have none after a look-up.
     pub(crate) spare: Vec<u32>,
     ghost own: { IsSeatOf pool.now seat },
-    ghost room: { (copies.room ≡ pool.now.rows) × (pool.now.rows ≤ vec_capacity missing) × (pool.now.rows ≤ vec_capacity spare) },
+    ghost room: { (copies.room ≡ pool.now.rows) × (pool.now.rows ≤ vec_capacity missing)
+        × (pool.now.rows ≤ vec_capacity spare) },
     ghost empty: { spare.items ≡ [] },
     ghost copied: { AreSeatCopies (view_of seat) copies.cites next missing.items },
 }

@@ -64,8 +64,8 @@ fn records(alloc: Global) -> Result<Items<Record>, NoMemory>
     Ok(records)
 }
 
-/// Three paths that would need three frequencies and have two: no plan meets the records, so every list of literals is
-/// implied at the top tag.
+/// Three paths that would need three frequencies and have two: no plan meets the records, so every
+/// list of literals is implied at the top tag.
 #[tactic(auto, unfolding(nogood_pool::specs::Examples::crowded))]
 fn instance(alloc: Global) -> Result<Instance, NoMemory>
     ensures { IfOk result (λ instance. instance ≡ crowded []) }

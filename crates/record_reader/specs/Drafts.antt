@@ -17,7 +17,8 @@ use Rattle.record_reader.specs.Links.{choice_count, link_refusal, line_of, fault
 -- what some links are among all that a reader holds
 pub record IsDraft (reader : Reader) (earlier : List Pending) (draft : Draft) : Type 0 where
   pub paths : draft.paths.items ≡ map (path_of (domains_of reader)) (paths_of earlier)
-  pub records : draft.records.items ≡ map (record_of (paths_of reader.links)) (constraints_of earlier)
+  pub records : draft.records.items ≡ map (record_of (paths_of reader.links))
+      (constraints_of earlier)
   pub choices : draft.choices ≡ sum_by (choice_count (domains_of reader)) (paths_of earlier)
   pub few : draft.choices ≤ MAX_CHOICES
 
@@ -26,11 +27,14 @@ RefusesAs refused (Bad bad) = refused ≡ Some bad
 RefusesAs refused NoMemory = Unit {0}
 
 -- a draft of one more link, or why the whole text refuses it
-abbrev pub DraftGrows : Reader → List Pending → Pending → Result (Unit {0}) (Failure (LineFault Cause)) → Draft → Type 0
+abbrev pub DraftGrows : Reader → List Pending → Pending →
+    Result (Unit {0}) (Failure (LineFault Cause)) → Draft → Type 0
 DraftGrows reader earlier link (Ok done) new =
-    (link_refusal (domains_of reader) (paths_of reader.links) earlier link ≡ None) × IsDraft reader (earlier ++ link ∷ []) new
+    (link_refusal (domains_of reader) (paths_of reader.links) earlier link ≡ None)
+    × IsDraft reader (earlier ++ link ∷ []) new
 DraftGrows reader earlier link (Err failure) new =
-    RefusesAs (fault_at (line_of link) (link_refusal (domains_of reader) (paths_of reader.links) earlier link)) failure
+    RefusesAs (fault_at (line_of link) (link_refusal (domains_of reader) (paths_of reader.links)
+    earlier link)) failure
 
 -- the record between two positions, where both are known
 abbrev pub record_by : Option ℕ → Option ℕ → Demand → Option Record

@@ -1,4 +1,5 @@
--- What a line says, and what it is refused for by itself. The number of levels is that of the instance.
+-- What a line says, and what it is refused for by itself. The number of levels is that of the
+-- instance.
 use Rattle.std.specs.Prelude.{ℕ, Bool, true, false, ◌||◌, ◌==◌, ◌+◌, ◌-◌, nat_lt, List, [], ◌∷◌, ◌++◌, length, drop, replicate, codes, Result, Ok, Err, if◌then◌else◌}
 use Rattle.std.specs.Str.{bytes_eq}
 use Rattle.fapp_model.specs.declared.level.TheConstants.{MAX_LEVELS}
@@ -50,7 +51,12 @@ abbrev pub constraint : ℕ → ℕ → ℕ → Demand → Result Entry Cause
 constraint line first second rule =
     if first == second then Err SelfPair
     else (if rule_rises rule then Err Increasing
-    else Ok (entries.Pending (links.Constraint (record { line = line; first = first; second = second; rule = rule }))))
+    else Ok (entries.Pending (links.Constraint (record {
+      line = line;
+      first = first;
+      second = second;
+      rule = rule;
+    }))))
 
 abbrev pub domain_entry : List (List ℕ) → Result Entry Cause
 domain_entry fields = do
@@ -63,7 +69,12 @@ path_entry line fields = do
   path ← number (field fields 1)
   domain ← number (field fields 2)
   pol ← polarization (field fields 3)
-  Ok (entries.Pending (links.Path (record { line = line; number = path; domain = domain; pol = pol })))
+  Ok (entries.Pending (links.Path (record {
+    line = line;
+    number = path;
+    domain = domain;
+    pol = pol;
+  })))
 
 -- the rule of frequencies or that of polarizations, whose number is ignored
 abbrev pub imperative : Bool → Bool → ℕ → Demand

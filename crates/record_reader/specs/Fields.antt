@@ -14,7 +14,9 @@ carriage_return = 13
 
 -- a line without the carriage return at its end, where it has one
 abbrev pub without_return : List ℕ → List ℕ
-without_return line = if slice_index line (length line - 1) == carriage_return then take (length line - 1) line else line
+without_return line =
+    if slice_index line (length line - 1) == carriage_return then take (length line - 1) line
+    else line
 
 abbrev pub fields_of : List ℕ → List (List ℕ)
 fields_of line = fields (without_return line)
@@ -36,8 +38,10 @@ numbers (text ∷ rest) = do
 -- whether a field is the first of two words and not the second
 abbrev pub either_word : List ℕ → List ℕ → List ℕ → Result Bool Cause
 either_word first second text =
-    if bytes_eq text first then Ok true else (if bytes_eq text second then Ok false else Err BadWord)
+    if bytes_eq text first then Ok true else (if bytes_eq text second then Ok false
+    else Err BadWord)
 
 -- a sign, or 0 where the path is free
 abbrev pub polarization : List ℕ → Result ℤ Cause
-polarization text = if bytes_eq text (codes "0") then Ok (pos 0) else ok_or (sign_of text) BadPolarization
+polarization text =
+    if bytes_eq text (codes "0") then Ok (pos 0) else ok_or (sign_of text) BadPolarization

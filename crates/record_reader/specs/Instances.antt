@@ -18,10 +18,12 @@ use Rattle.record_reader.specs.Contents.{Domains}
 -- a number at its place among ascending ones, where it stands once
 abbrev pub put : ℕ → List ℕ → List ℕ
 put n [] = n ∷ []
-put n (m ∷ rest) = if nat_lt n m then n ∷ m ∷ rest else (if n == m then m ∷ rest else m ∷ put n rest)
+put n (m ∷ rest) =
+    if nat_lt n m then n ∷ m ∷ rest else (if n == m then m ∷ rest else m ∷ put n rest)
 
 abbrev pub put_entry : ℕ → List ℕ → DomainEntry → List ℕ
-put_entry domain so_far entry = if entry.domain == domain then put entry.frequency so_far else so_far
+put_entry domain so_far entry =
+    if entry.domain == domain then put entry.frequency so_far else so_far
 
 -- the frequencies of a domain, ascending
 abbrev pub frequencies : List DomainEntry → ℕ → List ℕ
@@ -42,7 +44,8 @@ abbrev pub place_of : List PathEntry → ℕ → Option ℕ
 place_of paths number = position (λ entry. entry.number == number) paths
 
 abbrev pub path_of : Domains → PathEntry → Path
-path_of domains entry = record { number = entry.number; freqs = domains entry.domain; pol = entry.pol }
+path_of domains entry =
+    record { number = entry.number; freqs = domains entry.domain; pol = entry.pol }
 
 -- a rule between the paths at two positions
 abbrev pub record_between : ℕ → ℕ → Demand → Record
@@ -53,7 +56,8 @@ record_between i j (Other dist) = records.Other i j dist
 
 abbrev pub record_of : List PathEntry → ConstraintEntry → Record
 record_of paths entry =
-    record_between (unwrap_or (place_of paths entry.first) 0) (unwrap_or (place_of paths entry.second) 0) entry.rule
+    record_between (unwrap_or (place_of paths entry.first) 0)
+    (unwrap_or (place_of paths entry.second) 0) entry.rule
 
 -- paths and constraint records in the order of their lines
 abbrev pub instance_of : Domains → List Pending → Instance

@@ -20,7 +20,8 @@ use Rattle.record_reader.specs.Instances.{frequencies, paths_of, constraints_of,
 abbrev pub domain_refusal : List DomainEntry → DomainEntry → Option Cause
 domain_refusal earlier entry =
     if nat_le MAX_DOMAIN_RECORDS (length earlier) then Some TooManyValues
-    else (if nat_lt MAX_DOMAIN_FREQUENCIES (length (frequencies (earlier ++ entry ∷ []) entry.domain)) then Some DomainTooLarge
+    else (if nat_lt MAX_DOMAIN_FREQUENCIES
+    (length (frequencies (earlier ++ entry ∷ []) entry.domain)) then Some DomainTooLarge
     else None)
 
 abbrev pub path_refusal : List PathEntry → PathEntry → Option Cause
@@ -29,16 +30,20 @@ path_refusal earlier entry =
     else (if nat_le MAX_PATHS (length earlier) then Some TooManyPaths else None)
 
 abbrev pub constraint_refusal : List ConstraintEntry → Option Cause
-constraint_refusal earlier = if nat_le MAX_RECORDS (length earlier) then Some TooManyRecords else None
+constraint_refusal earlier =
+    if nat_le MAX_RECORDS (length earlier) then Some TooManyRecords else None
 
 -- what an entry is refused for, after earlier ones
 abbrev pub entry_refusal : Contents → Entry → Option Cause
 entry_refusal earlier (entries.Domain entry) = domain_refusal earlier.domains entry
-entry_refusal earlier (entries.Pending (links.Path entry)) = path_refusal (paths_of earlier.links) entry
-entry_refusal earlier (entries.Pending (links.Constraint entry)) = constraint_refusal (constraints_of earlier.links)
+entry_refusal earlier (entries.Pending (links.Path entry)) =
+    path_refusal (paths_of earlier.links) entry
+entry_refusal earlier (entries.Pending (links.Constraint entry)) =
+    constraint_refusal (constraints_of earlier.links)
 
 abbrev pub with_entry : Contents → Entry → Contents
-with_entry contents (entries.Domain entry) = record contents { domains = contents.domains ++ entry ∷ [] }
+with_entry contents (entries.Domain entry) =
+    record contents { domains = contents.domains ++ entry ∷ [] }
 with_entry contents (entries.Pending link) = record contents { links = contents.links ++ link ∷ [] }
 
 -- an entry after earlier ones

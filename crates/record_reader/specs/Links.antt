@@ -20,17 +20,20 @@ choice_count domains entry = length (choices (path_of domains entry))
 abbrev pub path_link_refusal : Domains → List PathEntry → PathEntry → Option Cause
 path_link_refusal domains earlier entry =
     if length (domains entry.domain) == 0 then Some UnknownDomain
-    else (if nat_lt MAX_CHOICES (sum_by (choice_count domains) (earlier ++ entry ∷ [])) then Some TooManyChoices
+    else (if nat_lt MAX_CHOICES (sum_by (choice_count domains) (earlier ++ entry ∷ []))
+    then Some TooManyChoices
     else None)
 
 -- one of its numbers is no path's
 abbrev pub constraint_link_refusal : List PathEntry → ConstraintEntry → Option Cause
 constraint_link_refusal paths entry =
-    if is_some (place_of paths entry.first) && is_some (place_of paths entry.second) then None else Some UnknownPath
+    if is_some (place_of paths entry.first) && is_some (place_of paths entry.second) then None
+    else Some UnknownPath
 
 -- what a link is refused for, after earlier ones, among all paths
 abbrev pub link_refusal : Domains → List PathEntry → List Pending → Pending → Option Cause
-link_refusal domains paths earlier (links.Path entry) = path_link_refusal domains (paths_of earlier) entry
+link_refusal domains paths earlier (links.Path entry) =
+    path_link_refusal domains (paths_of earlier) entry
 link_refusal domains paths earlier (links.Constraint entry) = constraint_link_refusal paths entry
 
 abbrev pub line_of : Pending → ℕ
@@ -46,7 +49,8 @@ or_later None later = later
 or_later (Some first) later = Some first
 
 -- the first link that is refused
-abbrev pub first_link_refusal : Domains → List PathEntry → List Pending → List Pending → Option (LineFault Cause)
+abbrev pub first_link_refusal : Domains → List PathEntry → List Pending → List Pending →
+    Option (LineFault Cause)
 first_link_refusal domains paths earlier [] = None
 first_link_refusal domains paths earlier (link ∷ rest) =
     or_later (fault_at (line_of link) (link_refusal domains paths earlier link))

@@ -22,7 +22,8 @@ abbrev pub frequencies_in : BTreeMap ℕ (BTreeSet ℕ) → Domains
 frequencies_in domains domain = keys_of (get nat_cmp domains domain)
 
 -- each domain has the entry's frequency beside its own, if it is the entry's domain
-abbrev pub AddsFrequency : DomainEntry → BTreeMap ℕ (BTreeSet ℕ) → ℕ → BTreeMap ℕ (BTreeSet ℕ) → Type 0
+abbrev pub AddsFrequency : DomainEntry → BTreeMap ℕ (BTreeSet ℕ) → ℕ → BTreeMap ℕ (BTreeSet ℕ) →
+    Type 0
 AddsFrequency entry old count new =
     ((domain : ℕ) → frequencies_in new domain ≡ put_entry domain (frequencies_in old domain) entry)
     × (count ≡ length (frequencies_in new entry.domain))
@@ -34,27 +35,32 @@ domains_of reader = frequencies_in reader.domains
 abbrev pub HasPositions : BTreeMap ℕ ℕ → List PathEntry → Type 0
 HasPositions positions paths = (number : ℕ) → get nat_cmp positions number ≡ place_of paths number
 
--- the links, the positions of their paths, each domain's frequencies, and how many domain records and constraints
--- there are
+-- the links, the positions of their paths, each domain's frequencies, and how many domain records
+-- and constraints there are
 pub record ReaderHolds (reader : Reader) (contents : Contents) : Type 0 where
   pub links : reader.links ≡ contents.links
   pub positions : HasPositions reader.positions (paths_of contents.links)
   pub paths : btree_map_len reader.positions ≡ length (paths_of contents.links)
-  pub domains : (domain : ℕ) → frequencies_in reader.domains domain ≡ frequencies contents.domains domain
+  pub domains : (domain : ℕ) → frequencies_in reader.domains domain
+      ≡ frequencies contents.domains domain
   pub domain_records : reader.domain_records ≡ length contents.domains
   pub constraints : reader.constraints ≡ length (constraints_of contents.links)
 
 -- the reader holds what reading gives, or reading fails so
 abbrev pub HoldsRead : Result Contents (LineFault Cause)
     → Result (Unit {0}) (Failure (LineFault Cause)) → Reader → Type 0
-HoldsRead read (Ok done) reader = (contents : Contents) × (read ≡ Ok contents) × ReaderHolds reader contents
+HoldsRead read (Ok done) reader =
+    (contents : Contents) × (read ≡ Ok contents) × ReaderHolds reader contents
 HoldsRead read (Err failure) reader = Fails failure read
 
 -- what a line makes of each contents that the reader may hold
 abbrev pub TakesLine : (Contents → Result Contents (LineFault Cause))
     → Reader → Result (Unit {0}) (Failure (LineFault Cause)) → Reader → Type 0
-TakesLine read old result new = (contents : Contents) → ReaderHolds old contents → HoldsRead (read contents) result new
+TakesLine read old result new =
+    (contents : Contents) → ReaderHolds old contents → HoldsRead (read contents) result new
 
-abbrev pub GivesReader : Result Contents (LineFault Cause) → Result Reader (Failure (LineFault Cause)) → Type 0
-GivesReader read (Ok reader) = (contents : Contents) × (read ≡ Ok contents) × ReaderHolds reader contents
+abbrev pub GivesReader : Result Contents (LineFault Cause) →
+    Result Reader (Failure (LineFault Cause)) → Type 0
+GivesReader read (Ok reader) =
+    (contents : Contents) × (read ≡ Ok contents) × ReaderHolds reader contents
 GivesReader read (Err failure) = Fails failure read

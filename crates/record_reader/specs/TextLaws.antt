@@ -21,7 +21,9 @@ OneInstance = (text : List ℕ) (one other : Instance)
 
 -- which is valid
 abbrev pub ValidInstance : Type 0
-ValidInstance = (text : List ℕ) (instance : Instance) → instance_of_text text ≡ Ok instance → IsInstance instance
+ValidInstance =
+    (text : List ℕ) (instance : Instance) → instance_of_text text ≡ Ok instance →
+    IsInstance instance
 
 -- a line that is refused for itself or for those before it is refused whatever follows it
 abbrev pub FirstRefusal : Type 0
@@ -31,7 +33,8 @@ FirstRefusal = (texts more : List (List ℕ)) (bad : LineFault Cause)
 -- where no line is, the contents of all of them decide
 abbrev pub LinkRefusal : Type 0
 LinkRefusal = (texts : List (List ℕ)) (contents : Contents)
-    → read_lines no_contents 1 texts ≡ Ok contents → instance_of_lines texts ≡ instance_of_contents contents
+    → read_lines no_contents 1 texts ≡ Ok contents →
+    instance_of_lines texts ≡ instance_of_contents contents
 
 -- a line feed more at the end of a text changes nothing
 abbrev pub LineFeedMore : Type 0
@@ -41,11 +44,13 @@ LineFeedMore = (text : List ℕ) → instance_of_text (text ++ line_feed ∷ [])
 abbrev pub CarriageReturnMore : Type 0
 CarriageReturnMore = (before after : List (List ℕ)) (line : List ℕ)
     → slice_index line (length line - 1) ≢ carriage_return
-    → instance_of_lines (before ++ (line ++ carriage_return ∷ []) ∷ after) ≡ instance_of_lines (before ++ line ∷ after)
+    → instance_of_lines (before ++ (line ++ carriage_return ∷ []) ∷ after)
+    ≡ instance_of_lines (before ++ line ∷ after)
 
 -- the frequencies of a domain ascend
 abbrev pub Ascending : Type 0
-Ascending = (entries : List DomainEntry) (domain : ℕ) → IsStrictlyIncreasing (frequencies entries domain)
+Ascending =
+    (entries : List DomainEntry) (domain : ℕ) → IsStrictlyIncreasing (frequencies entries domain)
 
 -- and are those that its entries give
 abbrev pub OwnFrequencies : Type 0

@@ -13,7 +13,8 @@ use Rattle.record_reader.specs.LineReading.{read_lines}
 
 -- the instance of links over domains, where none of them is refused
 abbrev pub instance_of_links : Domains → List Pending → Result Instance (LineFault Cause)
-instance_of_links domains links = unless (first_link_refusal domains (paths_of links) [] links) (instance_of domains links)
+instance_of_links domains links =
+    unless (first_link_refusal domains (paths_of links) [] links) (instance_of domains links)
 
 abbrev pub instance_of_contents : Contents → Result Instance (LineFault Cause)
 instance_of_contents contents = instance_of_links (frequencies contents.domains) contents.links

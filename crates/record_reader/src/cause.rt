@@ -4,8 +4,9 @@ use fapp_text::{Failure, LineFault};
 use std::error::Error;
 use std::fmt;
 
-/// What a line is refused for. `UnknownDomain`, `UnknownPath` and `TooManyChoices` need the whole text, and stand only
-/// where no line has another cause. The others are found at the line, given the lines before it.
+/// What a line is refused for. `UnknownDomain`, `UnknownPath` and `TooManyChoices` need the whole
+/// text, and stand only where no line has another cause. The others are found at the line, given
+/// the lines before it.
 #[derive(Clone, Copy, Debug, PartialEq, Eq)]
 pub enum Cause {
     /// The first field names no record.

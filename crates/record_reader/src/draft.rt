@@ -10,7 +10,7 @@ ghost use Rattle.record_reader.specs.Readers.{HasPositions, frequencies_in, doma
 ghost use Rattle.record_reader.specs.Drafts.{IsDraft, DraftGrows, record_by};
 ghost use Rattle.record_reader.specs.Validity.{AreDomains, ArePendings, IsPathEntry};
 
-use crate::entry::{ConstraintEntry, Pending, PathEntry, Demand};
+use crate::entry::{ConstraintEntry, Demand, PathEntry, Pending};
 use crate::reader::Reader;
 use crate::{Cause, ReadError};
 use fapp_model::{Instance, Items, MAX_CHOICES, Path, Record, choice_count};
@@ -107,7 +107,8 @@ fn frequencies(
 
 /// The record of an entry, if the paths that it names have positions.
 fn record_of(positions: &BTreeMap<u32, u16>, entry: &ConstraintEntry) -> Option<Record>
-    ensures { result ≡ record_by (get nat_cmp positions.now entry.now.first) (get nat_cmp positions.now entry.now.second)
+    ensures { result ≡ record_by (get nat_cmp positions.now entry.now.first)
+        (get nat_cmp positions.now entry.now.second)
         entry.now.rule }
 {
     let first = *positions.get(&entry.first)?;
@@ -132,7 +133,8 @@ pub(crate) fn instance_of(alloc: Global, reader: &Reader) -> Result<Instance, Re
     requires domains { AreDomains (domains_of reader.now) }
     requires links { ArePendings reader.now.links }
     requires positions { HasPositions reader.now.positions (paths_of reader.now.links) }
-    ensures { Gives (λ instance. instance) result (instance_of_links (domains_of reader.now) reader.now.links) }
+    ensures { Gives (λ instance. instance) result
+        (instance_of_links (domains_of reader.now) reader.now.links) }
 {
     let mut draft = Draft {
         paths: Vec::new(alloc),

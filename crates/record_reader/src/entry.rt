@@ -29,8 +29,8 @@ pub enum Demand {
     Other { dist: [u32; MAX_LEVELS as usize] },
 }
 
-/// `CI first second` and a rule of the first two kinds, or `CE first second` or `CD first second` and a
-/// distance for each level. `first` and `second` are numbers of paths.
+/// `CI first second` and a rule of the first two kinds, or `CE first second` or `CD first second`
+/// and a distance for each level. `first` and `second` are numbers of paths.
 #[derive(Clone, Copy, Debug)]
 pub struct ConstraintEntry {
     pub line: u32,

@@ -6,15 +6,15 @@ pub fn one_instance_law()
     ensures valid { ValidInstance }
 {}
 
-/// A line that is refused for itself or for those before it is refused whatever follows it. Where no line is, the
-/// causes that need the whole text decide.
+/// A line that is refused for itself or for those before it is refused whatever follows it. Where
+/// no line is, the causes that need the whole text decide.
 pub fn refusal_law()
     ensures first { FirstRefusal }
     ensures later { LinkRefusal }
 {}
 
-/// A line feed more at the end of a text changes nothing, nor does a carriage return at the end of a line that has
-/// none there.
+/// A line feed more at the end of a text changes nothing, nor does a carriage return at the end of
+/// a line that has none there.
 pub fn line_end_law()
     ensures feed { LineFeedMore }
     ensures ret { CarriageReturnMore }

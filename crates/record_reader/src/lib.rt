@@ -9,8 +9,9 @@
 //! | `CE i j g0 g1 ..` | a least distance for each level at equal polarizations, which don't rise |
 //! | `CD i j d0 d1 ..` | a least distance for each level at unequal polarizations, which don't rise |
 //!
-//! Fields stand between spaces and tabs. A line without fields is skipped, but it counts, and one carriage return at
-//! the end of a line is ignored. Numbers are decimal digits of at most 1,000,000,000, leading zeros too.
+//! Fields stand between spaces and tabs. A line without fields is skipped, but it counts, and one
+//! carriage return at the end of a line is ignored. Numbers are decimal digits of at most
+//! 1,000,000,000, leading zeros too.
 #![tactic(auto)]
 
 mod cause;

@@ -5,7 +5,7 @@ ghost use Rattle.record_reader.specs.declared.entry.Entry.TheVariants as entries
 ghost use Rattle.record_reader.specs.declared.entry.Pending.TheVariants as links;
 
 use crate::Cause;
-use crate::entry::{ConstraintEntry, DomainEntry, Entry, Kind, Pending, PathEntry, Demand};
+use crate::entry::{ConstraintEntry, Demand, DomainEntry, Entry, Kind, PathEntry, Pending};
 use crate::field::{field_at, number_at, polarization_at, word_at};
 use fapp_model::MAX_LEVELS;
 use fapp_text::is;
@@ -66,7 +66,8 @@ fn path_entry(line: u32, fields: &[&[u8]]) -> Result<Entry, Cause>
 }
 
 fn path(line: u32, number: u32, domain: u32, pol: i8) -> Entry
-    ensures { result ≡ entries.Pending (links.Path (record { line = line; number = number; domain = domain; pol = pol })) }
+    ensures { result ≡ entries.Pending (links.Path
+        (record { line = line; number = number; domain = domain; pol = pol })) }
 {
     Entry::Pending(Pending::Path(PathEntry {
         line,

@@ -8,7 +8,7 @@ ghost use Rattle.record_reader.specs.Fields.{fields_of};
 ghost use Rattle.record_reader.specs.LineReading.{read_entry, read_line, read_lines};
 ghost use Rattle.record_reader.specs.Readers.{AddsFrequency, ReaderHolds, TakesLine, GivesReader};
 
-use crate::entry::{ConstraintEntry, DomainEntry, Entry, Pending, PathEntry};
+use crate::entry::{ConstraintEntry, DomainEntry, Entry, PathEntry, Pending};
 use crate::field::first_fields;
 use crate::line::entry_of;
 use crate::{Cause, ReadError};
@@ -50,7 +50,8 @@ impl Reader {
 
     /// Takes what a line says, if the lines before it allow it.
     fn add(&mut self, alloc: Global, line: u32, entry: Entry) -> Result<(), ReadError>
-        ensures { TakesLine (λ contents. at_line line (read_entry contents entry)) self.old result self.new }
+        ensures { TakesLine (λ contents. at_line line (read_entry contents entry)) self.old result
+            self.new }
     {
         match entry {
             Entry::Domain(entry) => self.add_domain(alloc, line, entry),
@@ -75,7 +76,8 @@ impl Reader {
     }
 
     fn add_path(&mut self, line: u32, entry: PathEntry) -> Result<(), ReadError>
-        ensures { TakesLine (λ contents. at_line line (read_entry contents (entries.Pending (links.Path entry))))
+        ensures { TakesLine (λ contents. at_line line
+            (read_entry contents (entries.Pending (links.Path entry))))
             self.old result self.new }
     {
         if self.positions.contains_key(&entry.number) {
@@ -91,7 +93,8 @@ impl Reader {
     }
 
     fn add_constraint(&mut self, line: u32, entry: ConstraintEntry) -> Result<(), ReadError>
-        ensures { TakesLine (λ contents. at_line line (read_entry contents (entries.Pending (links.Constraint entry))))
+        ensures { TakesLine (λ contents. at_line line
+            (read_entry contents (entries.Pending (links.Constraint entry))))
             self.old result self.new }
     {
         if is_full(self.constraints, MAX_RECORDS) {
@@ -104,7 +107,8 @@ impl Reader {
 
     /// Takes a line, if the lines before it allow it. One without fields says nothing.
     fn add_line(&mut self, alloc: Global, line: u32, text: &[u8]) -> Result<(), ReadError>
-        ensures { TakesLine (λ contents. at_line line (read_line contents line (fields_of text.now)))
+        ensures { TakesLine (λ contents. at_line line
+            (read_line contents line (fields_of text.now)))
             self.old result self.new }
     {
         let fields = first_fields(alloc, text)?;
@@ -112,7 +116,8 @@ impl Reader {
     }
 
     fn add_fields(&mut self, alloc: Global, line: u32, fields: &[&[u8]]) -> Result<(), ReadError>
-        ensures { TakesLine (λ contents. at_line line (read_line contents line (map (λ x. x.now) fields.now)))
+        ensures { TakesLine (λ contents. at_line line
+            (read_line contents line (map (λ x. x.now) fields.now)))
             self.old result self.new }
     {
         if fields.is_empty() {

@@ -10,9 +10,9 @@ use fapp_model::Instance;
 use fapp_text::MAX_TEXT;
 use std::alloc::Global;
 
-/// Reads the instance of a text of at most `MAX_TEXT` bytes. `Bad` is the first line that is refused for itself or for
-/// the lines before it or, where there is none, the first one that the whole text refuses. `NoMemory` comes where room
-/// could not be had.
+/// Reads the instance of a text of at most `MAX_TEXT` bytes. `Bad` is the first line that is
+/// refused for itself or for the lines before it or, where there is none, the first one that the
+/// whole text refuses. `NoMemory` comes where room could not be had.
 pub fn read_instance(alloc: Global, bytes: &[u8]) -> Result<Instance, ReadError>
     requires { length bytes.now ≤ MAX_TEXT }
     // The instance of the text, or the first line that is refused and why.

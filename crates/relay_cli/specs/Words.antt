@@ -6,9 +6,11 @@ use Rattle.fapp_words.specs.declared.request.Request.{Request}
 use Rattle.fapp_words.specs.declared.request.Request.TheVariants.{Solve, Check, Gen, Demo}
 use Rattle.fapp_words.specs.Promises.{ArePromised}
 
--- behind the word `solve` the words are promised with these options, and the plan is not to be written alone
+-- behind the word `solve` the words are promised with these options, and the plan is not to be
+-- written alone
 abbrev pub AreRelayWords : List Text → SolveOptions → Type 0
-AreRelayWords words options = ArePromised (codes "solve" ∷ words) (Solve options) × (options.answer_only ≡ false)
+AreRelayWords words options =
+    ArePromised (codes "solve" ∷ words) (Solve options) × (options.answer_only ≡ false)
 
 -- the options, exactly where the words have some
 abbrev pub ReadsRelay : List Text → Option SolveOptions → Type 0

@@ -1,5 +1,5 @@
-//! Plans a radio network like the command `solve`, and writes the answer while several senders make the text of its
-//! certificate. It may wait for its senders, and is not known to return.
+//! Plans a radio network like the command `solve`, and writes the answer while several senders make
+//! the text of its certificate. It may wait for its senders, and is not known to return.
 #![tactic(auto)]
 
 use env_words::given_words;

@@ -8,9 +8,9 @@ use fapp_io::NoMemory;
 use fapp_words::{Request, SolveOptions, read_words};
 use std::alloc::Global;
 
-/// The options that the words name. `None` comes exactly where they are none of the promised ones: `--workers`, `--fuel`,
-/// `--split`, `--pool` and `--cert`, with the values that `solve` takes, each at most once and in any order. `NoMemory`
-/// comes where the words' copies could not be had.
+/// The options that the words name. `None` comes exactly where they are none of the promised ones:
+/// `--workers`, `--fuel`, `--split`, `--pool` and `--cert`, with the values that `solve` takes,
+/// each at most once and in any order. `NoMemory` comes where the words' copies could not be had.
 pub fn relay_options(alloc: Global, words: &[String]) -> Result<Option<SolveOptions>, NoMemory>
     ensures words { IfOk result (ReadsRelay (map string_bytes words.now)) }
     ensures range { IfOk result (λ options. IfSome options AreOptions) }
@@ -35,7 +35,8 @@ fn whole_options(request: Request) -> Option<SolveOptions>
 
 /// The same words behind the word `solve`.
 fn behind_solve(alloc: Global, words: &[String]) -> Result<Vec<String>, NoMemory>
-    ensures { IfOk result (λ all. map string_bytes all.items ≡ codes "solve" ∷ map string_bytes words.now) }
+    ensures { IfOk result (λ all. map string_bytes all.items ≡ codes "solve"
+        ∷ map string_bytes words.now) }
 {
     let mut all = Vec::new(alloc);
     all.push(String::from_str(alloc, "solve")?)?;

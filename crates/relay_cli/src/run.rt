@@ -24,9 +24,10 @@ use std::thread::Threads;
 /// The most senders of a relay.
 const MAX_SENDERS: u32 = 8;
 
-/// Does all that the program does, for the words after its name: reads an instance, solves it as the command `solve` does,
-/// and relays the answer's text to the sink by as many senders as workers, 8 at most. A refusal is written as `solve`
-/// writes it. The text of an answer is made while it is written: `NoMemory` may come after a front of it.
+/// Does all that the program does, for the words after its name: reads an instance, solves it as
+/// the command `solve` does, and relays the answer's text to the sink by as many senders as
+/// workers, 8 at most. A refusal is written as `solve` writes it. The text of an answer is made
+/// while it is written: `NoMemory` may come after a front of it.
 pub fn run_relay<R: Threads + Wait + Sync, S: Source, K: Sink, G: Gate>(
     rt: &R,
     alloc: Global,
@@ -39,8 +40,8 @@ pub fn run_relay<R: Threads + Wait + Sync, S: Source, K: Sink, G: Gate>(
     ensures run { IsRelayRun words.now (S.moment source.old) (S.moment source.new)
         (K.moment sink.old) (K.moment sink.new) result }
 
-    // On promised words, a text of an instance and no fault, the answer is Best, NoneFeasible or Open, and not Open where
-    // the fuel is enough for one level; or there was no memory.
+    // On promised words, a text of an instance and no fault, the answer is Best, NoneFeasible or
+    // Open, and not Open where the fuel is enough for one level; or there was no memory.
     ensures completes { CompletesRelay words.now (S.moment source.old) (S.moment source.new)
         (K.moment sink.old) (K.moment sink.new) result }
 {
@@ -62,7 +63,8 @@ fn solve_and_relay<R: Threads + Wait + Sync, S: Source, K: Sink, G: Gate>(
 ) -> Status
     requires range { AreOptions options.now }
     requires whole { options.now.answer_only ≡ false }
-    ensures reads { DropsUpTo (S.moment source.old).left (S.moment source.new).left (MAX_INPUT + 1) }
+    ensures reads { DropsUpTo (S.moment source.old).left (S.moment source.new).left
+        (MAX_INPUT + 1) }
     ensures run { IsRunBy options.now (S.moment source.old) (S.moment source.new)
         (K.moment sink.old) (K.moment sink.new) result }
 {
@@ -85,8 +87,10 @@ fn solution<R: Threads + Sync, S: Source, G: Gate>(
     gate: &G,
 ) -> Result<Solution, NoMemory>
     requires { AreOptions options.now }
-    ensures reads { DropsUpTo (S.moment source.old).left (S.moment source.new).left (MAX_INPUT + 1) }
-    ensures solution { IfOk result (IsSolutionOf options.now (S.moment source.old) (S.moment source.new)) }
+    ensures reads { DropsUpTo (S.moment source.old).left (S.moment source.new).left
+        (MAX_INPUT + 1) }
+    ensures solution { IfOk result (IsSolutionOf options.now (S.moment source.old)
+        (S.moment source.new)) }
 {
     match read_all(alloc, source, MAX_INPUT) {
         Ok(bytes) => solve_input(rt, alloc, &bytes, options, gate),
@@ -98,7 +102,8 @@ fn solution<R: Threads + Sync, S: Source, G: Gate>(
 
 /// Writes the line that tells of a refusal.
 fn refused<K: Sink>(alloc: Global, status: Status, sink: &mut K) -> Status
-    ensures { IsWriting status (refusal_line status) (K.moment sink.old) (K.moment sink.new) result }
+    ensures { IsWriting status (refusal_line status) (K.moment sink.old) (K.moment sink.new)
+        result }
 {
     let Ok(text) = refusal_text(alloc, &status) else {
         return Status::NoMemory;
@@ -109,8 +114,9 @@ fn refused<K: Sink>(alloc: Global, status: Status, sink: &mut K) -> Status
     }
 }
 
-/// Writes an answer by so many senders. `NoMemory` also comes, before anything is written, where there are more than
-/// `MAX_NUMBER` certificate lines, which no merge makes, although no clause says so.
+/// Writes an answer by so many senders. `NoMemory` also comes, before anything is written, where
+/// there are more than `MAX_NUMBER` certificate lines, which no merge makes, although no clause
+/// says so.
 fn relayed<R: Threads + Wait + Sync, K: Sink>(
     rt: &R,
     alloc: Global,

@@ -62,8 +62,8 @@ const ENDS: [(&str, &str, u8, &str); 22] = [
     ),
 ];
 
-// Words, an input, how many bytes are given and taken in a call, which read or write fails (0: none), the exit status
-// and what is written.
+// Words, an input, how many bytes are given and taken in a call, which read or write fails (0:
+// none), the exit status and what is written.
 const FAULTS: [(&str, &str, usize, u64, u64, u8, &str); 6] = [
     ("", PLAIN, 4, 0, 3, 67, "AL 1 10 "),
     ("", PLAIN, 4096, 0, 1, 67, ""),
@@ -81,7 +81,8 @@ fn words_of(alloc: Global, line: &str) -> Result<Vec<String>, Fail> {
     Ok(words)
 }
 
-/// How a run ends on these words and this input, given and taken in pieces, one call failing (0: none).
+/// How a run ends on these words and this input, given and taken in pieces, one call failing (0:
+/// none).
 fn end_of<R: Threads + Wait + Sync>(
     rt: &R,
     alloc: Global,

@@ -8,8 +8,9 @@ use search_log::{Cite, fits};
 use std::alloc::Global;
 use std::marker::Model;
 
-/// Rows that were copied, in order, with room for so many. Each is filed in the bucket of one of its literals, so that a
-/// look-up goes through the buckets of the literals that are set, and not through all rows.
+/// Rows that were copied, in order, with room for so many. Each is filed in the bucket of one of
+/// its literals, so that a look-up goes through the buckets of the literals that are set, and not
+/// through all rows.
 #[derive(Drop)]
 pub struct Copies {
     cites: Vec<Cite>,
@@ -17,8 +18,8 @@ pub struct Copies {
     filed: Vec<u32>,
     /// By row: 1 and the place of the row before it in its bucket, or 0.
     before: Vec<u32>,
-    /// By bucket: 1 and the place of its last row, or 0. Rows without literals have a bucket of their own, behind the
-    /// others.
+    /// By bucket: 1 and the place of its last row, or 0. Rows without literals have a bucket of
+    /// their own, behind the others.
     last: Vec<u32>,
     /// By bucket: how many rows it has. Nothing rests on it.
     sizes: Vec<u32>,
@@ -38,9 +39,11 @@ impl Model for Copies {
 
     ghost view = { λ copies. record { cites = copies.cites.items; room = copies.room } };
 
-    ghost invariant = { λ copies. AreFiled copies.buckets copies.cites.items copies.filed.items copies.before.items copies.last.items copies.paths
+    ghost invariant = { λ copies. AreFiled copies.buckets copies.cites.items copies.filed.items
+        copies.before.items copies.last.items copies.paths
         × (length copies.sizes.items ≡ length copies.last.items)
-        × (copies.room ≤ vec_capacity copies.cites) × (copies.room ≤ vec_capacity copies.filed) × (copies.room ≤ vec_capacity copies.before)
+        × (copies.room ≤ vec_capacity copies.cites) × (copies.room ≤ vec_capacity copies.filed)
+        × (copies.room ≤ vec_capacity copies.before)
         × (length copies.cites.items ≤ copies.room) };
 }
 
@@ -73,7 +76,8 @@ fn paths_of(paths: u32, lits: &[Literal]) -> u32
     most
 }
 
-/// The bucket that a row with these literals is put into: of those of its literals one with the fewest rows.
+/// The bucket that a row with these literals is put into: of those of its literals one with the
+/// fewest rows.
 fn bucket_for(sizes: &[u32], lits: &[Literal], buckets: u32) -> usize
     requires { 0 < buckets }
     ensures { IsBucketFor buckets lits.now result }
@@ -110,7 +114,8 @@ fn find_in(
     part: &Partial,
     target: Tag,
 ) -> Option<usize>
-    requires filed { (width : ℕ) × (paths : ℕ) × AreFiled width cites.now filed.now before.now last.now paths }
+    requires filed { (width : ℕ) × (paths : ℕ)
+        × AreFiled width cites.now filed.now before.now last.now paths }
     requires bucket { bucket < length last.now }
     ensures { IsFoundIn cites.now filed.now bucket part.now target.code result }
 {

@@ -1,4 +1,5 @@
-//! Worked rows of whole runs: networks that are solved, and their answers handed back to the checker. Tests alone.
+//! Worked rows of whole runs: networks that are solved, and their answers handed back to the
+//! checker. Tests alone.
 #![tactic(auto)]
 
 #[cfg(test)]

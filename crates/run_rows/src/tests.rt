@@ -20,7 +20,8 @@ const EDGE: &str =
 const CLASH: &str =
     "DM 1 10\nDM 1 20\nTR 1 1 1\nTR 2 1 1\nTR 3 1 1\nCI 1 2 F I 0\nCI 1 3 F I 0\nCI 2 3 F I 0\n";
 
-// A network, how many workers there are, the fuel and the most prefixes; the exit status and the verdict.
+// A network, how many workers there are, the fuel and the most prefixes; the exit status and the
+// verdict.
 const VERDICTS: [(&str, u32, u32, u32, u8, &str); 13] = [
     ("", 4, 1000, 64, 0, "BEST 0 0 0\n"),
     (SINGLE, 4, 1001, 64, 0, "BEST 0 0 0\n"),
@@ -105,7 +106,8 @@ fn written<R: Threads + Sync, G: Gate>(
     Ok(Vec::from_slice(alloc, sink.taken())?)
 }
 
-// A gate that waits for a job that never comes is missed: so the program's workers pass it at each job.
+// A gate that waits for a job that never comes is missed: so the program's workers pass it at each
+// job.
 #[test]
 fn two_workers_of_the_program_meet_and_steal(rt: HostRuntime) -> Result<(), Fail> {
     let wanted = "AL 9 5 -1\n--\nBEST 0 0 0\nC 0 0 0 0 0\nEND\n";

@@ -23,5 +23,6 @@ content_of line = record { tag = line.tag.code; lits = line.lits }
 
 -- a reference names what an earlier line of the log says, or what a row of the list says
 abbrev pub Cites : List KnownRow → List LogLine → Ref → Content → Type 0
-Cites rows earlier (Own n) content = (line : LogLine) × (slice_get earlier n ≡ Some line) × (content ≡ content_of line)
+Cites rows earlier (Own n) content =
+    (line : LogLine) × (slice_get earlier n ≡ Some line) × (content ≡ content_of line)
 Cites rows earlier (Row r) content = Contains rows (known_row r content)

@@ -1,4 +1,5 @@
--- A log of five lines on three paths of which no two may have one frequency, and each way not to be good.
+-- A log of five lines on three paths of which no two may have one frequency, and each way not to be
+-- good.
 use Rattle.std.specs.Prelude.{ℕ, List, [], ◌∷◌, Some, None, refl}
 use Rattle.fapp_model.specs.declared.literal.Literal.{Literal}
 use Rattle.fapp_model.specs.declared.tag.Tag.{Tag}
@@ -30,13 +31,14 @@ abbrev pub example_count : List Literal → List ChoiceRef → LogLine
 example_count lits refs = record { tag = bad_at_ten; lits = lits; path = None; refs = refs }
 
 abbrev pub example_branch : List Literal → ℕ → List ChoiceRef → LogLine
-example_branch lits path refs = record { tag = bad_at_ten; lits = lits; path = Some path; refs = refs }
+example_branch lits path refs =
+    record { tag = bad_at_ten; lits = lits; path = Some path; refs = refs }
 
 abbrev pub says : Tag → List Literal → Content
 says t lits = record { tag = t.code; lits = lits }
 
--- the rows of the pool that are known: row 2 has a lower tag, rows 7 and 9 are published from the log, and row 3 says
--- what row 9 says
+-- the rows of the pool that are known: row 2 has a lower tag, rows 7 and 9 are published from the
+-- log, and row 3 says what row 9 says
 abbrev pub known_rows : List KnownRow
 known_rows =
     known_row 2 (says bad_at_nine (literal 0 1 ∷ []))
@@ -49,7 +51,8 @@ known_rows =
 abbrev pub alike : LogLine
 alike = example_count (literal 0 0 ∷ literal 1 0 ∷ []) []
 
--- the first path's choice: the second path's first choice is alike, and its second one leaves the third path none
+-- the first path's choice: the second path's first choice is alike, and its second one leaves the
+-- third path none
 abbrev pub first_choice : LogLine
 first_choice = example_branch (literal 0 0 ∷ []) 1 (by 0 (Own 0) ∷ [])
 
@@ -62,7 +65,8 @@ both_choices = example_branch [] 0 (by 0 (Row 7) ∷ by 1 (Row 4) ∷ [])
 
 -- nothing is tested of it
 abbrev pub least_line : LogLine
-least_line = record { tag = least; lits = literal 2 0 ∷ []; path = Some 0; refs = by 0 (Own 3) ∷ [] }
+least_line =
+    record { tag = least; lits = literal 2 0 ∷ []; path = Some 0; refs = by 0 (Own 3) ∷ [] }
 
 -- the log with a line in the third place
 abbrev pub log_with : LogLine → List LogLine
@@ -87,16 +91,21 @@ pub record ExampleLog : Type 0 where
   pub good : IsGoodLog three_alike known_rows (log_with none_left) published
   pub no_such_choice : IsWrongLine (example_count (literal 0 2 ∷ []) [])
   pub literals_out_of_order : IsWrongLine (example_count (literal 1 0 ∷ literal 0 0 ∷ []) [])
-  pub no_such_child : IsWrongLine (example_branch (literal 0 0 ∷ []) 1 (by 0 (Own 0) ∷ by 2 (Row 7) ∷ []))
+  pub no_such_child : IsWrongLine (example_branch (literal 0 0 ∷ []) 1
+      (by 0 (Own 0) ∷ by 2 (Row 7) ∷ []))
   pub no_such_path : IsWrongLine (example_branch [] 3 [])
   pub children_out_of_order : IsWrongLine (example_branch [] 0 (by 1 (Row 4) ∷ by 0 (Own 1) ∷ []))
   pub cites_itself : IsWrongLine (example_count (literal 1 0 ∷ []) (by 0 (Own 2) ∷ []))
   pub cites_an_unknown_row : IsWrongLine (example_count (literal 1 0 ∷ []) (by 0 (Row 5) ∷ []))
-  pub two_literals_outside : IsWrongLine (example_count (literal 2 0 ∷ []) (by 0 (Own 0) ∷ by 0 (Row 7) ∷ by 0 (Row 4) ∷ []))
-  pub outside_of_a_named_path : IsWrongLine (example_count (literal 0 1 ∷ literal 1 1 ∷ []) (by 0 (Row 7) ∷ []))
+  pub two_literals_outside : IsWrongLine (example_count (literal 2 0 ∷ [])
+      (by 0 (Own 0) ∷ by 0 (Row 7) ∷ by 0 (Row 4) ∷ []))
+  pub outside_of_a_named_path : IsWrongLine
+      (example_count (literal 0 1 ∷ literal 1 1 ∷ []) (by 0 (Row 7) ∷ []))
   pub child_of_another_choice : IsWrongLine (example_branch [] 0 (by 0 (Row 4) ∷ by 1 (Row 4) ∷ []))
-  pub cited_tag_too_low : IsWrongLine (example_count (literal 1 0 ∷ []) (by 0 (Own 1) ∷ by 0 (Row 2) ∷ []))
-  pub path_is_named : IsWrongLine (example_branch (literal 0 0 ∷ []) 0 (by 0 (Own 1) ∷ by 1 (Row 4) ∷ []))
+  pub cited_tag_too_low : IsWrongLine (example_count (literal 1 0 ∷ [])
+      (by 0 (Own 1) ∷ by 0 (Row 2) ∷ []))
+  pub path_is_named : IsWrongLine (example_branch (literal 0 0 ∷ []) 0
+      (by 0 (Own 1) ∷ by 1 (Row 4) ∷ []))
   pub count_not_dead : IsWrongLine (example_count (literal 0 0 ∷ []) [])
   pub choice_not_settled : IsWrongLine (example_branch [] 0 (by 1 (Row 4) ∷ []))
   pub last_line_is_not_the_row : AreWrongSegments (segment 0 7 ∷ [])

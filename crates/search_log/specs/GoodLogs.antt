@@ -41,7 +41,8 @@ abbrev pub IsBare : LogLine → Type 0
 IsBare line = line.path ≡ None → line.refs ≡ []
 
 -- The logs are good over rows, each of which is home in one segment of them. No Count line cites.
-pub record AreGoodLogs (instance : Instance) (rows : List KnownRow) (logs : List LogState) : Type 0 where
+pub record AreGoodLogs (instance : Instance) (rows : List KnownRow)
+    (logs : List LogState) : Type 0 where
   pub good : All (λ log. IsGoodLog instance rows log.lines log.segments) logs
   pub home : All (IsHomeRow logs) rows
   pub once : AllPairs (λ p q. p.row ≢ q.row) (pieces_of logs)

@@ -12,17 +12,23 @@ use Rattle.search_log.specs.Segments.{IsGoodLog, ended}
 
 -- A good log stays good where more rows are known.
 abbrev pub GoodWithMoreRows : Type 0
-GoodWithMoreRows = (instance : Instance) (rows more : List KnownRow) (lines : List LogLine) (segments : List Segment) →
-    All (Contains more) rows → IsGoodLog instance rows lines segments → IsGoodLog instance more lines segments
+GoodWithMoreRows =
+    (instance : Instance) (rows more : List KnownRow) (lines : List LogLine)
+    (segments : List Segment) →
+    All (Contains more) rows → IsGoodLog instance rows lines segments →
+    IsGoodLog instance more lines segments
 
 -- A good log stays good with one more line that is good from its lines.
 abbrev pub GoodWithOneMoreLine : Type 0
-GoodWithOneMoreLine = (instance : Instance) (rows : List KnownRow) (lines : List LogLine) (segments : List Segment) (line : LogLine) →
+GoodWithOneMoreLine =
+    (instance : Instance) (rows : List KnownRow) (lines : List LogLine) (segments : List Segment)
+    (line : LogLine) →
     IsGoodLog instance rows lines segments → IsGoodLine instance rows lines line →
     IsGoodLog instance rows (lines ++ line ∷ []) segments
 
 -- the last line is published, as a row above all that were known
-pub record IsPublishedEnd (rows more : List KnownRow) (lines : List LogLine) (segments : List Segment) (s : Segment) : Type 0 where
+pub record IsPublishedEnd (rows more : List KnownRow) (lines : List LogLine)
+    (segments : List Segment) (s : Segment) : Type 0 where
   pub line : LogLine
   pub whole : s.last + 1 ≡ length lines
   pub last : slice_get lines s.last ≡ Some line
@@ -33,14 +39,19 @@ pub record IsPublishedEnd (rows more : List KnownRow) (lines : List LogLine) (se
 
 -- A good log stays good where its last line is published.
 abbrev pub GoodWithOneMoreSegment : Type 0
-GoodWithOneMoreSegment = (instance : Instance) (rows more : List KnownRow) (lines : List LogLine) (segments : List Segment) (s : Segment) →
+GoodWithOneMoreSegment =
+    (instance : Instance) (rows more : List KnownRow) (lines : List LogLine)
+    (segments : List Segment) (s : Segment) →
     IsGoodLog instance rows lines segments → IsPublishedEnd rows more lines segments s →
     IsGoodLog instance more lines (segments ++ s ∷ [])
 
 -- A good log stays good without lines that stand behind the end of its last segment.
 abbrev pub GoodLogIsCut : Type 0
-GoodLogIsCut = (instance : Instance) (rows : List KnownRow) (lines : List LogLine) (segments : List Segment) (n : ℕ) →
-    ended segments ≤ n → IsGoodLog instance rows lines segments → IsGoodLog instance rows (take n lines) segments
+GoodLogIsCut =
+    (instance : Instance) (rows : List KnownRow) (lines : List LogLine) (segments : List Segment)
+    (n : ℕ) →
+    ended segments ≤ n → IsGoodLog instance rows lines segments →
+    IsGoodLog instance rows (take n lines) segments
 
 -- what a row or a line says
 abbrev pub IsContentImplied : Instance → Content → Type 0
@@ -48,6 +59,8 @@ IsContentImplied instance content = Implied instance (triple_from content.tag) c
 
 -- Where the rows are implied, each line of a good log is implied at its tag.
 abbrev pub LoggedLinesAreImplied : Type 0
-LoggedLinesAreImplied = (instance : Instance) (rows : List KnownRow) (lines : List LogLine) (segments : List Segment) →
-    IsInstance instance → All (λ row. IsContentImplied instance row.content) rows → IsGoodLog instance rows lines segments →
+LoggedLinesAreImplied =
+    (instance : Instance) (rows : List KnownRow) (lines : List LogLine) (segments : List Segment) →
+    IsInstance instance → All (λ row. IsContentImplied instance row.content) rows →
+    IsGoodLog instance rows lines segments →
     All (λ line. IsContentImplied instance (content_of line)) lines

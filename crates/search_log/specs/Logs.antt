@@ -11,7 +11,8 @@ abbrev pub empty_log : LogState
 empty_log = record { lines = []; segments = []; best = None }
 
 abbrev pub log_with_line : LogState → LogLine → LogState
-log_with_line log line = record { lines = log.lines ++ line ∷ []; segments = log.segments; best = log.best }
+log_with_line log line =
+    record { lines = log.lines ++ line ∷ []; segments = log.segments; best = log.best }
 
 -- a segment more, which ends with the last line
 abbrev pub with_segment : LogState → ℕ → LogState
@@ -23,7 +24,12 @@ with_segment log row = record {
 
 -- without the lines from a place on, but with all up to the end of the last segment
 abbrev pub cut_behind : LogState → ℕ → LogState
-cut_behind log from = record { lines = take (max from (ended log.segments)) log.lines; segments = log.segments; best = log.best }
+cut_behind log from =
+    record {
+      lines = take (max from (ended log.segments)) log.lines;
+      segments = log.segments;
+      best = log.best;
+    }
 
 -- nothing was kept, or what was kept costs more
 abbrev pub IsBetter : Triple → Option KeptPlan → Type 0
@@ -31,9 +37,15 @@ IsBetter triple None = Unit {0}
 IsBetter triple (Some best) = IsBelow triple best.cost
 
 abbrev pub with_best : LogState → Triple → List ℕ → LogState
-with_best log triple plan = record { lines = log.lines; segments = log.segments; best = Some (record { cost = triple; plan = plan }) }
+with_best log triple plan =
+    record {
+      lines = log.lines;
+      segments = log.segments;
+      best = Some (record { cost = triple; plan = plan });
+    }
 
 -- a better assignment takes the place of the kept one, and no other does
 abbrev pub KeepsBest : LogState → Triple → List ℕ → LogState → Type 0
 KeepsBest old triple plan new =
-    (IsBetter triple old.best × (new ≡ with_best old triple plan)) ⊎ ((IsBetter triple old.best → ⊥) × (new ≡ old))
+    (IsBetter triple old.best × (new ≡ with_best old triple plan))
+    ⊎ ((IsBetter triple old.best → ⊥) × (new ≡ old))

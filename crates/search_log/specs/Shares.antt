@@ -13,7 +13,8 @@ use Rattle.nogood.specs.Rows.{row_literals}
 use Rattle.search_log.specs.Contents.{Content, KnownRow, known_row}
 use Rattle.search_log.specs.declared.shared.Cite.{Cite}
 
--- the rows that were copied and those that were published, whether offers are taken, and how many were refused
+-- the rows that were copied and those that were published, whether offers are taken, and how many
+-- were refused
 pub record SharedState : Type 0 where
   pub copied : List KnownRow
   pub published : List KnownRow
@@ -25,7 +26,8 @@ known state = state.copied ++ state.published
 
 -- one number has one content
 abbrev pub HaveOneContent : List KnownRow → Type 0
-HaveOneContent rows = (a b : KnownRow) → Contains rows a → Contains rows b → a.number ≡ b.number → a ≡ b
+HaveOneContent rows =
+    (a b : KnownRow) → Contains rows a → Contains rows b → a.number ≡ b.number → a ≡ b
 
 abbrev pub row_content : Row → Content
 row_content row = record { tag = row.tag.code; lits = row_literals row }
@@ -38,11 +40,13 @@ pub record FitsPart (part : List (Option ℕ)) (target : ℕ) (content : Content
 -- a copied row that fits; or none that was copied fits
 abbrev pub Finds : List KnownRow → List (Option ℕ) → ℕ → Option Cite → Type 0
 Finds copied part target (Some cite) =
-    Contains copied (known_row cite.row (row_content cite.content)) × FitsPart part target (row_content cite.content)
+    Contains copied (known_row cite.row (row_content cite.content))
+    × FitsPart part target (row_content cite.content)
 Finds copied part target None = All (λ row. FitsPart part target row.content → ⊥) copied
 
 -- A look-up may copy rows, and has then copied all that were published. It publishes none.
-pub record LooksUp (old new : SharedState) (part : List (Option ℕ)) (target : ℕ) (answer : Option Cite) : Type 0 where
+pub record LooksUp (old new : SharedState) (part : List (Option ℕ)) (target : ℕ)
+    (answer : Option Cite) : Type 0 where
   pub kept : All (Contains new.copied) old.copied
   pub brought : All (Contains new.copied) old.published
   pub published : new.published ≡ old.published
@@ -70,18 +74,23 @@ pub record IsOffer (instance : Instance) (lits : List Literal) (tag : ℕ) : Typ
 abbrev pub IsRefused : SharedState → SharedState → List Literal → Type 0
 IsRefused old new lits = (new.published ≡ old.published) × (length lits ≤ 8)
 
--- What an offer answers. Home: it is published, as a row above all others. Full and Busy: where offers are taken a
--- refusal was counted; where they are not, the answer is Full with the number of rows. TooLong: no row can have it.
+-- What an offer answers. Home: it is published, as a row above all others. Full and Busy: where
+-- offers are taken a refusal was counted; where they are not, the answer is Full with the number of
+-- rows. TooLong: no row can have it.
 abbrev pub AnswersOffer : SharedState → SharedState → List Literal → ℕ → Published → Type 0
-AnswersOffer old new lits tag (Home row) = (new.published ≡ old.published ++ known_row row (record { tag = tag; lits = lits }) ∷ [])
+AnswersOffer old new lits tag (Home row) =
+    (new.published ≡ old.published ++ known_row row (record { tag = tag; lits = lits }) ∷ [])
     × (length lits ≤ 8) × (old.takes ≡ true) × All (λ other. other.number < row) (known old)
-AnswersOffer old new lits tag (Full n) = IsRefused old new lits × (old.takes ≡ true → old.refusals < new.refusals)
+AnswersOffer old new lits tag (Full n) =
+    IsRefused old new lits × (old.takes ≡ true → old.refusals < new.refusals)
     × (old.takes ≡ false → n ≡ length (known old))
-AnswersOffer old new lits tag (Busy read seen) = IsRefused old new lits × (old.takes ≡ true) × (old.refusals < new.refusals)
+AnswersOffer old new lits tag (Busy read seen) =
+    IsRefused old new lits × (old.takes ≡ true) × (old.refusals < new.refusals)
 AnswersOffer old new lits tag TooLong = (new.published ≡ old.published) × (8 < length lits)
 
 -- An offer copies nothing.
-pub record OffersRow (old new : SharedState) (lits : List Literal) (tag : ℕ) (answer : Published) : Type 0 where
+pub record OffersRow (old new : SharedState) (lits : List Literal) (tag : ℕ)
+    (answer : Published) : Type 0 where
   pub copied : new.copied ≡ old.copied
   pub takes : new.takes ≡ old.takes
   pub refusals : old.refusals ≤ new.refusals

@@ -9,11 +9,12 @@ use std::marker::Model;
 pub trait Bound {
     ghost use Rattle.search_log.specs.Bounds.{BoundState};
 
-    /// The tag that the bound began with, the tag that was told last, at first this one, and the least tag that was
-    /// offered.
+    /// The tag that the bound began with, the tag that was told last, at first this one, and the
+    /// least tag that was offered.
     ghost state: { Self → BoundState };
 
-    /// What is known of a bound since an earlier state of it. Each call keeps what was known since any state.
+    /// What is known of a bound since an earlier state of it. Each call keeps what was known since
+    /// any state.
     ghost since: { Self → Self → Type 0 };
 
     /// The least tag that is known now. It is at most what was told last and what was offered.
@@ -44,7 +45,11 @@ impl Model for PlainBound {
 
     ghost Value = { BoundState };
 
-    ghost view = { λ bound. record { began = bound.began.code; told = bound.told.code; least = code_of_offer bound.least } };
+    ghost view = { λ bound. record {
+      began = bound.began.code;
+      told = bound.told.code;
+      least = code_of_offer bound.least;
+    } };
 }
 
 impl PlainBound {
@@ -60,7 +65,8 @@ impl PlainBound {
         }
     }
 
-    /// The least of the tag that it began with and of what was offered. It is at most what was told last.
+    /// The least of the tag that it began with and of what was offered. It is at most what was told
+    /// last.
     pub fn lowest(&self) -> Tag
         ensures lowest { result.code ≡ lowest self.now.began self.now.least }
         ensures told { result.code ≤ self.now.told }
@@ -79,7 +85,8 @@ impl Bound for PlainBound {
     /// The tag that it began with, or the least that was offered since where that is less.
     fn now(&mut self) -> Tag
         ensures tells { Tells self.old self.new result.code }
-        ensures since { (was : BoundState) → ⟦<PlainBound as Bound>⟧.since was self.old → ⟦<PlainBound as Bound>⟧.since was self.new }
+        ensures since { (was : BoundState) → ⟦<PlainBound as Bound>⟧.since was self.old →
+            ⟦<PlainBound as Bound>⟧.since was self.new }
         ensures kept { result.code ≡ lowest self.old.began self.old.least }
     {
         self.told = self.tag;
@@ -89,7 +96,8 @@ impl Bound for PlainBound {
     fn offer(&mut self, tag: Tag)
         requires { tag.code ≤ self.old.told }
         ensures offers { Offers self.old self.new tag.code }
-        ensures since { (was : BoundState) → ⟦<PlainBound as Bound>⟧.since was self.old → ⟦<PlainBound as Bound>⟧.since was self.new }
+        ensures since { (was : BoundState) → ⟦<PlainBound as Bound>⟧.since was self.old →
+            ⟦<PlainBound as Bound>⟧.since was self.new }
     {
         self.tag = lesser(self.tag, tag);
         self.least = Some(least_offer(self.least, tag));

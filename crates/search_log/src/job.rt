@@ -1,6 +1,6 @@
 // What a job is, and how it ends.
-use fapp_model::{Items, Literal, Tag};
 use crate::Ref;
+use fapp_model::{Items, Literal, Tag};
 
 /// A part of the work: a level on a prefix.
 #[derive(Debug, Drop)]
@@ -14,8 +14,8 @@ pub struct Job {
 /// How a job ended.
 #[derive(Clone, Copy, Debug, PartialEq, Eq)]
 pub enum Outcome {
-    /// No assignment that extends the job's prefix and meets the imperative records costs less than the tag. A line of
-    /// the log or a row of the pool says so.
+    /// No assignment that extends the job's prefix and meets the imperative records costs less than
+    /// the tag. A line of the log or a row of the pool says so.
     Refuted { line: Ref, tag: Tag },
     /// There is nothing to find: the bound was read as this.
     Moot { seen: Tag },

@@ -16,13 +16,14 @@ pub fn good_with_one_more_segment()
     ensures { GoodWithOneMoreSegment }
 {}
 
-/// A good log stays good without its last lines, where they stand behind the end of its last segment.
+/// A good log stays good without its last lines, where they stand behind the end of its last
+/// segment.
 pub fn good_log_is_cut()
     ensures { GoodLogIsCut }
 {}
 
-/// Where the rows are implied, no assignment that meets the imperative records and has the literals of a good log's
-/// line costs less than the line's tag.
+/// Where the rows are implied, no assignment that meets the imperative records and has the literals
+/// of a good log's line costs less than the line's tag.
 pub fn good_lines_are_implied()
     ensures { LoggedLinesAreImplied }
 {}

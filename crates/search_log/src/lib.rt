@@ -1,6 +1,6 @@
-//! What one job of the search stands on: fuel, the bound, the shared rows, and the log of its lines, with the segments that
-//! pooled rows end in it. Laws over good logs stand each as the contract of a function that does nothing; the lemmas that
-//! they rest on are in `proofs/`.
+//! What one job of the search stands on: fuel, the bound, the shared rows, and the log of its
+//! lines, with the segments that pooled rows end in it. Laws over good logs stand each as the
+//! contract of a function that does nothing; the lemmas that they rest on are in `proofs/`.
 #![tactic(auto)]
 
 mod bound;

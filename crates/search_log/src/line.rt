@@ -18,7 +18,8 @@ pub struct ChoiceRef {
     pub line: Ref,
 }
 
-/// A line of a log: no assignment that extends its literals and breaks no imperative record costs less than its tag.
+/// A line of a log: no assignment that extends its literals and breaks no imperative record costs
+/// less than its tag.
 #[derive(Debug, Drop)]
 pub struct LogLine {
     pub tag: Tag,
@@ -30,7 +31,8 @@ pub struct LogLine {
     pub refs: Items<ChoiceRef>,
 }
 
-/// The lines of a log behind those of the segment before it, up to one that was published as a row of the pool.
+/// The lines of a log behind those of the segment before it, up to one that was published as a row
+/// of the pool.
 #[derive(Clone, Copy, Debug, PartialEq, Eq)]
 pub struct Segment {
     /// The place of its last line in the log, from 0.

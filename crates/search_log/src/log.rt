@@ -3,8 +3,8 @@ ghost use Rattle.std.specs.Prelude.{◌≡◌, ◌<◌, ◌≤◌, ◌^◌, leng
 ghost use Rattle.search_log.specs.Segments.{ended};
 ghost use Rattle.search_log.specs.Logs.{KeepsBest, cut_behind, empty_log, log_with_line, with_segment};
 
-use fapp_model::{Items, NoMemory, Triple};
 use crate::{LogLine, Segment};
+use fapp_model::{Items, NoMemory, Triple};
 use std::alloc::Global;
 use std::marker::Model;
 
@@ -16,8 +16,8 @@ pub struct KeptPlan {
     pub plan: Items<u16>,
 }
 
-/// Lines, of which each rests on earlier ones and on rows, the segments that were published as rows, and the best
-/// assignment that was found.
+/// Lines, of which each rests on earlier ones and on rows, the segments that were published as
+/// rows, and the best assignment that was found.
 #[derive(Drop)]
 pub struct Log {
     alloc: Global,
@@ -33,9 +33,15 @@ impl Model for Log {
 
     ghost Value = { LogState };
 
-    ghost view = { λ log. record { lines = log.lines.items; segments = log.segments.items; best = log.best } };
+    ghost view = { λ log. record {
+      lines = log.lines.items;
+      segments = log.segments.items;
+      best = log.best;
+    } };
 
-    ghost invariant = { λ log. (length log.lines.items < 2 ^ 32) × (ended log.segments.items ≤ length log.lines.items) × (length log.segments.items ≤ ended log.segments.items) };
+    ghost invariant = { λ log. (length log.lines.items < 2 ^ 32)
+        × (ended log.segments.items ≤ length log.lines.items)
+        × (length log.segments.items ≤ ended log.segments.items) };
 }
 
 impl Log {
@@ -51,10 +57,11 @@ impl Log {
         }
     }
 
-    /// Adds a line, and answers its place, from 0. NoMemory leaves the log as it was; it also comes where there are
-    /// 2^32 - 1 lines.
+    /// Adds a line, and answers its place, from 0. NoMemory leaves the log as it was; it also comes
+    /// where there are 2^32 - 1 lines.
     pub fn push(&mut self, line: LogLine) -> Result<u32, NoMemory>
-        ensures ok { IfOk result (λ place. (place ≡ length self.old.lines) × (self.new ≡ log_with_line self.old line)) }
+        ensures ok { IfOk result (λ place. (place ≡ length self.old.lines)
+            × (self.new ≡ log_with_line self.old line)) }
         ensures err { OnErr result (self.new ≡ self.old) }
     {
         let place = self.lines.len();
@@ -65,7 +72,8 @@ impl Log {
         Ok(place as u32)
     }
 
-    /// Ends a segment with the last line, which was published as that row. NoMemory leaves the log as it was.
+    /// Ends a segment with the last line, which was published as that row. NoMemory leaves the log
+    /// as it was.
     pub fn home(&mut self, row: u32) -> Result<(), NoMemory>
         requires { ended self.old.segments < length self.old.lines }
         ensures ok { OnOk result (self.new ≡ with_segment self.old row) }
@@ -84,8 +92,8 @@ impl Log {
         self.lines.truncate((from as usize).max(end));
     }
 
-    /// Keeps an assignment, the index of a choice for each path, where none was kept or it costs less than the kept
-    /// one. NoMemory leaves the log as it was.
+    /// Keeps an assignment, the index of a choice for each path, where none was kept or it costs
+    /// less than the kept one. NoMemory leaves the log as it was.
     pub fn keep_best(&mut self, triple: Triple, plan: &[u16]) -> Result<(), NoMemory>
         ensures ok { OnOk result (KeepsBest self.old triple plan.now self.new) }
         ensures err { OnErr result (self.new ≡ self.old) }
@@ -102,7 +110,8 @@ impl Log {
 
     /// The kept assignment and its cost. None comes exactly where nothing was kept.
     pub fn best(&self) -> Option<(Triple, &[u16])>
-        ensures { MatchOption result (self.now.best ≡ None) (λ kept. self.now.best ≡ Some (record { cost = kept.0; plan = kept.1.now })) }
+        ensures { MatchOption result (self.now.best ≡ None) (λ kept.
+            self.now.best ≡ Some (record { cost = kept.0; plan = kept.1.now })) }
     {
         match &self.best {
             Some(best) => Some((best.cost, best.plan.as_slice())),

@@ -40,17 +40,28 @@ impl Shared for MemRows {
     ghost use Rattle.std.specs.Prelude.{List};
     ghost use Rattle.search_log.specs.NumberedRows.{numbered-one};
 
-    ghost state = { λ shared. record { copied = numbered_rows shared; published = []; takes = false; refusals = 0 } };
+    ghost state = { λ shared. record {
+      copied = numbered_rows shared;
+      published = [];
+      takes = false;
+      refusals = 0;
+    } };
 
-    ghost serves = { λ shared instance. All (λ row. IsServedContent instance (row_content row)) shared };
+    ghost serves = { λ shared instance. All (λ row. IsServedContent instance (row_content row))
+        shared };
 
     ghost since = { λ _ _. Unit {0} };
 
     fn lookup(&mut self, part: &Partial, target: Tag) -> Option<Cite>
-        ensures looks { LooksUp (⟦<MemRows as Shared>⟧.state self.old) (⟦<MemRows as Shared>⟧.state self.new) part.now target.code result }
-        ensures serves { (instance : Instance) → ⟦<MemRows as Shared>⟧.serves self.old instance ↔ ⟦<MemRows as Shared>⟧.serves self.new instance }
-        ensures implied { (instance : Instance) → ⟦<MemRows as Shared>⟧.serves self.old instance → IsCiteOf instance result }
-        ensures since { (was : List Row) → ⟦<MemRows as Shared>⟧.since was self.old → ⟦<MemRows as Shared>⟧.since was self.new }
+        ensures looks { LooksUp (⟦<MemRows as Shared>⟧.state self.old)
+            (⟦<MemRows as Shared>⟧.state self.new) part.now target.code result }
+        ensures serves { (instance : Instance) →
+            ⟦<MemRows as Shared>⟧.serves self.old instance
+            ↔ ⟦<MemRows as Shared>⟧.serves self.new instance }
+        ensures implied { (instance : Instance) → ⟦<MemRows as Shared>⟧.serves self.old instance →
+            IsCiteOf instance result }
+        ensures since { (was : List Row) → ⟦<MemRows as Shared>⟧.since was self.old →
+            ⟦<MemRows as Shared>⟧.since was self.new }
         ensures held { self.new ≡ self.old }
     {
         let rows = self.rows.as_slice();
@@ -64,10 +75,15 @@ impl Shared for MemRows {
     }
 
     fn offer(&mut self, lits: &[Literal], tag: Tag) -> Published
-        requires { (instance : Instance) × ⟦<MemRows as Shared>⟧.serves self.old instance × IsOffer instance lits.now tag.code }
-        ensures offered { OffersRow (⟦<MemRows as Shared>⟧.state self.old) (⟦<MemRows as Shared>⟧.state self.new) lits.now tag.code result }
-        ensures serves { (instance : Instance) → ⟦<MemRows as Shared>⟧.serves self.old instance ↔ ⟦<MemRows as Shared>⟧.serves self.new instance }
-        ensures since { (was : List Row) → ⟦<MemRows as Shared>⟧.since was self.old → ⟦<MemRows as Shared>⟧.since was self.new }
+        requires { (instance : Instance) × ⟦<MemRows as Shared>⟧.serves self.old instance
+            × IsOffer instance lits.now tag.code }
+        ensures offered { OffersRow (⟦<MemRows as Shared>⟧.state self.old)
+            (⟦<MemRows as Shared>⟧.state self.new) lits.now tag.code result }
+        ensures serves { (instance : Instance) →
+            ⟦<MemRows as Shared>⟧.serves self.old instance
+            ↔ ⟦<MemRows as Shared>⟧.serves self.new instance }
+        ensures since { (was : List Row) → ⟦<MemRows as Shared>⟧.since was self.old →
+            ⟦<MemRows as Shared>⟧.since was self.new }
         ensures held { self.new ≡ self.old }
     {
         if lits.len() > 8 {

@@ -16,28 +16,34 @@ pub trait Shared {
     ghost use Rattle.fapp_model.specs.declared.instance.Instance.{Instance};
     ghost use Rattle.search_log.specs.Shares.{HaveOneContent, SharedState, known};
 
-    /// The rows that it has copied and those that it has published, whether it takes offers, and how many it refused.
+    /// The rows that it has copied and those that it has published, whether it takes offers, and
+    /// how many it refused.
     ghost state: { Self → SharedState };
 
     /// The instances whose conflicts its rows are.
     ghost serves: { Self → Instance → Type 0 };
 
-    /// What is known of a holder since an earlier state of it. Each call keeps what was known since any state.
+    /// What is known of a holder since an earlier state of it. Each call keeps what was known since
+    /// any state.
     ghost since: { Self → Self → Type 0 };
 
-    /// A copied row whose literals the part has, at a tag of at least the target. None comes only where no copied row
-    /// is one.
+    /// A copied row whose literals the part has, at a tag of at least the target. None comes only
+    /// where no copied row is one.
     fn lookup(&mut self, part: &Partial, target: Tag) -> Option<Cite>
         ensures looks { LooksUp (state self.old) (state self.new) part.now target.code result }
-        ensures serves { (instance : Instance) → serves self.old instance ↔ serves self.new instance }
-        ensures implied { (instance : Instance) → serves self.old instance → IsCiteOf instance result }
+        ensures serves { (instance : Instance) →
+            serves self.old instance ↔ serves self.new instance }
+        ensures implied { (instance : Instance) → serves self.old instance →
+            IsCiteOf instance result }
         ensures since { (was : Self) → since was self.old → since was self.new };
 
     /// Offers literals that are implied at a tag above (0, 0, 0).
     fn offer(&mut self, lits: &[Literal], tag: Tag) -> Published
-        requires { (instance : Instance) × serves self.old instance × IsOffer instance lits.now tag.code }
+        requires { (instance : Instance) × serves self.old instance
+            × IsOffer instance lits.now tag.code }
         ensures offered { OffersRow (state self.old) (state self.new) lits.now tag.code result }
-        ensures serves { (instance : Instance) → serves self.old instance ↔ serves self.new instance }
+        ensures serves { (instance : Instance) →
+            serves self.old instance ↔ serves self.new instance }
         ensures since { (was : Self) → since was self.old → since was self.new };
 
     /// One number has one content.

@@ -1,4 +1,5 @@
--- The views of all seats, in the order in which the seats were made. Some are spent, and each has a share.
+-- The views of all seats, in the order in which the seats were made. Some are spent, and each has a
+-- share.
 use Rattle.std.specs.Prelude.{◌≡◌, ℕ, ◌≤◌, Bool, false, cond, List, sum_by}
 use mathlib.Core.Option.{some}
 use lib.ListN.{get_elem?}

@@ -1,5 +1,5 @@
-//! Laws of seats: rights to step on shared words, each with a view of what its holder knows and with a part of one
-//! whole share. They hold whatever else a view has.
+//! Laws of seats: rights to step on shared words, each with a view of what its holder knows and
+//! with a part of one whole share. They hold whatever else a view has.
 #![tactic(auto)]
 
 ghost use Rattle.std.specs.Prelude.{ℕ, List, Bool};

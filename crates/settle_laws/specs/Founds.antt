@@ -24,7 +24,8 @@ HasOwnTag instance (Own n) content = IsTagOf instance (triple_from content.tag)
 HasOwnTag instance (Row r) content = Unit {0}
 
 -- what a reference names lies within some literals, has at least the tag, and is implied at its own
-pub record IsRefuted (instance : Instance) (rows : List KnownRow) (lines : List LogLine) (literals : List Literal) (line : Ref) (tag : ℕ) : Type 0 where
+pub record IsRefuted (instance : Instance) (rows : List KnownRow) (lines : List LogLine)
+    (literals : List Literal) (line : Ref) (tag : ℕ) : Type 0 where
   pub content : Content
   pub cited : Cites rows lines line content
   pub reaches : tag ≤ content.tag
@@ -40,7 +41,8 @@ IsTarget level bound tag = tag ≡ target_code level (floor bound)
 abbrev pub IsWanted : ℕ → BoundState → Type 0
 IsWanted level bound = level_code level < bound.told
 
--- a line of the log is one of those that were added, and the last; where a row is named, no tick was taken and no line was added
+-- a line of the log is one of those that were added, and the last; where a row is named, no tick
+-- was taken and no line was added
 abbrev pub IsLastRef : World → World → Ref → Type 0
 IsLastRef old new (Own n) = (length old.log.lines ≤ n) × (n + 1 ≡ length new.log.lines)
 IsLastRef old new (Row r) = (new.fuel ≡ old.fuel) × (new.log.lines ≡ old.log.lines)
@@ -49,9 +51,11 @@ IsLastRef old new (Row r) = (new.fuel ≡ old.fuel) × (new.log.lines ≡ old.lo
 abbrev pub IsExact : ℕ → World → World → ℕ → Type 0
 IsExact level old new tag = new.fuel ≡ old.fuel → tag ≡ target_code level new.bound.told
 
--- A line or a row settles some literals. Its tag is the lesser of the level's target and of what the bound told last or was
--- offered: where the bound is read at each part, the least of the targets that the parts were judged at.
-pub record IsSettledBy (instance : Instance) (level : ℕ) (literals : List Literal) (old new : World) (line : Ref) (tag : ℕ) : Type 0 where
+-- A line or a row settles some literals. Its tag is the lesser of the level's target and of what
+-- the bound told last or was offered: where the bound is read at each part, the least of the
+-- targets that the parts were judged at.
+pub record IsSettledBy (instance : Instance) (level : ℕ) (literals : List Literal) (old new : World)
+    (line : Ref) (tag : ℕ) : Type 0 where
   pub is_open : IsWanted level new.bound
   pub target : IsTarget level new.bound tag
   pub exact : IsExact level old new tag
@@ -59,7 +63,8 @@ pub record IsSettledBy (instance : Instance) (level : ℕ) (literals : List Lite
   pub last : IsLastRef old new line
 
 -- some literals are dead at the target, where no copied row says so
-pub record IsFoundDead (instance : Instance) (level : ℕ) (literals : List Literal) (old new : World) (tag : ℕ) : Type 0 where
+pub record IsFoundDead (instance : Instance) (level : ℕ) (literals : List Literal) (old new : World)
+    (tag : ℕ) : Type 0 where
   pub is_open : IsWanted level new.bound
   pub target : IsTarget level new.bound tag
   pub exact : tag ≡ target_code level new.bound.told
@@ -76,17 +81,24 @@ refused (Ok (Moot seen)) = 0
 refused (Ok Spent) = 1
 refused (Err e) = 0
 
--- Dead comes with the target, settled with the least target, Moot with the bound that was told last, Spent without fuel
-abbrev pub IsFoundBy : {E : Type 0} → Instance → ℕ → List Literal → World → World → Result Found E → Type 0
-IsFoundBy instance level literals old new (Ok (FoundDead tag)) = IsFoundDead instance level literals old new tag.code
-IsFoundBy instance level literals old new (Ok (Settled line tag)) = IsSettledBy instance level literals old new line tag.code
-IsFoundBy instance level literals old new (Ok (Moot seen)) = (seen.code ≡ new.bound.told) × (new.bound.told ≤ level_code level)
+-- Dead comes with the target, settled with the least target, Moot with the bound that was told
+-- last, Spent without fuel
+abbrev pub IsFoundBy : {E : Type 0} → Instance → ℕ → List Literal → World → World → Result Found E →
+    Type 0
+IsFoundBy instance level literals old new (Ok (FoundDead tag)) =
+    IsFoundDead instance level literals old new tag.code
+IsFoundBy instance level literals old new (Ok (Settled line tag)) =
+    IsSettledBy instance level literals old new line tag.code
+IsFoundBy instance level literals old new (Ok (Moot seen)) =
+    (seen.code ≡ new.bound.told) × (new.bound.told ≤ level_code level)
 IsFoundBy instance level literals old new (Ok Spent) = IsWanted level new.bound × (new.fuel ≡ 0)
 IsFoundBy instance level literals old new (Err e) = Unit {0}
 
--- what was found, what was kept, and at which prefixes ticks were taken or refused; with each line at least one was taken, the
--- bound was read, and the cost of each assignment that a tick fell on was offered, or less, and it has its line
-pub record Searched {E : Type 0} (instance : Instance) (level : ℕ) (literals : List Literal) (old new : World) (result : Result Found E) : Type 0 where
+-- what was found, what was kept, and at which prefixes ticks were taken or refused; with each line
+-- at least one was taken, the bound was read, and the cost of each assignment that a tick fell on
+-- was offered, or less, and it has its line
+pub record Searched {E : Type 0} (instance : Instance) (level : ℕ) (literals : List Literal)
+    (old new : World) (result : Result Found E) : Type 0 where
   pub keeps : Keeps instance old new
   pub few : length new.log.lines + new.fuel ≤ length old.log.lines + old.fuel
   pub read : new.bound.told ≤ floor old.bound

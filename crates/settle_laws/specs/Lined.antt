@@ -15,7 +15,8 @@ use Rattle.settle_laws.specs.Ticks.{HaveCountLines, AreOffered, Ticks}
 use Rattle.settle_laws.specs.Worlds.{Keeps, World}
 
 -- one Count line on the literals, where no copied row says as much
-pub record IsOneCount (instance : Instance) (literals : List Literal) (copied : List KnownRow) (old new : List LogLine) : Type 0 where
+pub record IsOneCount (instance : Instance) (literals : List Literal) (copied : List KnownRow)
+    (old new : List LogLine) : Type 0 where
   pub line : LogLine
   pub added : new ≡ old ++ line ∷ []
   pub count : line.path ≡ None
@@ -25,18 +26,23 @@ pub record IsOneCount (instance : Instance) (literals : List Literal) (copied : 
 -- no line, or that one
 abbrev pub IsAtMostCount : Instance → List Literal → World → World → Type 0
 IsAtMostCount instance literals old new =
-    (new.log.lines ≡ old.log.lines) ⊎ IsOneCount instance literals new.shared.copied old.log.lines new.log.lines
+    (new.log.lines ≡ old.log.lines) ⊎ IsOneCount instance literals new.shared.copied old.log.lines
+    new.log.lines
 
-abbrev pub IsLinedBy : {E : Type 0} → Instance → ℕ → List Literal → World → World → Result Found E → Type 0
+abbrev pub IsLinedBy : {E : Type 0} → Instance → ℕ → List Literal → World → World → Result Found E →
+    Type 0
 IsLinedBy instance level literals old new (Ok (Dead tag)) = ⊥
-IsLinedBy instance level literals old new (Ok (Settled line tag)) = IsSettledBy instance level literals old new line tag.code
+IsLinedBy instance level literals old new (Ok (Settled line tag)) =
+    IsSettledBy instance level literals old new line tag.code
     × (new.fuel ≡ old.fuel → IsAtMostCount instance literals old new)
-IsLinedBy instance level literals old new (Ok (Moot seen)) = (seen.code ≡ new.bound.told) × (new.bound.told ≤ level_code level)
+IsLinedBy instance level literals old new (Ok (Moot seen)) =
+    (seen.code ≡ new.bound.told) × (new.bound.told ≤ level_code level)
 IsLinedBy instance level literals old new (Ok Spent) = IsWanted level new.bound × (new.fuel ≡ 0)
 IsLinedBy instance level literals old new (Err e) = Unit {0}
 
 -- with each line a tick was taken, or one line was added without
-pub record Lined {E : Type 0} (instance : Instance) (level : ℕ) (literals : List Literal) (old new : World) (result : Result Found E) : Type 0 where
+pub record Lined {E : Type 0} (instance : Instance) (level : ℕ) (literals : List Literal)
+    (old new : World) (result : Result Found E) : Type 0 where
   pub keeps : Keeps instance old new
   pub few : length new.log.lines ≤ length old.log.lines + max 1 (old.fuel - new.fuel)
   pub read : new.bound.told ≤ floor old.bound

@@ -24,7 +24,8 @@ pub record AreSorted (instance : Instance) (pushed literals : List Literal) : Ty
   pub only : HasAll pushed literals
 
 -- a line on the literals was added, and it is what was found
-pub record AddsLine (instance : Instance) (literals : List Literal) (tag : Tag) (path : Option ℕ) (refs : List ChoiceRef) (old new : LogState) (found : Found) : Type 0 where
+pub record AddsLine (instance : Instance) (literals : List Literal) (tag : Tag) (path : Option ℕ)
+    (refs : List ChoiceRef) (old new : LogState) (found : Found) : Type 0 where
   pub line : LogLine
   pub added : new ≡ log_with_line old line
   pub sorted : AreSorted instance literals line.lits
@@ -34,12 +35,16 @@ pub record AddsLine (instance : Instance) (literals : List Literal) (tag : Tag) 
   pub found_is : found ≡ Settled (Own (length old.lines)) tag
 
 -- a line was added, or none for want of memory
-abbrev pub IsLined : {E : Type 0} → Instance → List Literal → Tag → Option ℕ → List ChoiceRef → LogState → LogState → Result Found E → Type 0
-IsLined instance literals tag path refs old new (Ok found) = AddsLine instance literals tag path refs old new found
+abbrev pub IsLined : {E : Type 0} → Instance → List Literal → Tag → Option ℕ → List ChoiceRef →
+    LogState → LogState → Result Found E → Type 0
+IsLined instance literals tag path refs old new (Ok found) =
+    AddsLine instance literals tag path refs old new found
 IsLined instance literals tag path refs old new (Err e) = new ≡ old
 
--- an assignment that has the literals was given to the log with its cost, and then its cost was offered
-pub record OffersPlan (instance : Instance) (literals : List Literal) (bound after : BoundState) (old new : LogState) : Type 0 where
+-- an assignment that has the literals was given to the log with its cost, and then its cost was
+-- offered
+pub record OffersPlan (instance : Instance) (literals : List Literal) (bound after : BoundState)
+    (old new : LogState) : Type 0 where
   pub plan : List ℕ
   pub feasible : IsFeasible instance plan
   pub extends : Extends plan literals
@@ -47,7 +52,8 @@ pub record OffersPlan (instance : Instance) (literals : List Literal) (bound aft
   pub offers : Offers bound after (code_of (cost instance plan))
 
 -- then a Count line at that cost was added, on literals that are dead at it
-pub record Concludes (instance : Instance) (literals : List Literal) (bound after : BoundState) (old new : LogState) (found : Found) : Type 0 where
+pub record Concludes (instance : Instance) (literals : List Literal) (bound after : BoundState)
+    (old new : LogState) (found : Found) : Type 0 where
   pub kept : LogState
   pub tag : Tag
   pub offered : OffersPlan instance literals bound after old kept
@@ -57,7 +63,9 @@ pub record Concludes (instance : Instance) (literals : List Literal) (bound afte
   pub adds : AddsLine instance fewer tag None [] kept new found
 
 -- or there was no memory, to keep it or for the line
-abbrev pub IsConcluded : {E : Type 0} → Instance → List Literal → BoundState → BoundState → LogState → LogState → Result Found E → Type 0
-IsConcluded instance literals bound after old new (Ok found) = Concludes instance literals bound after old new found
+abbrev pub IsConcluded : {E : Type 0} → Instance → List Literal → BoundState → BoundState →
+    LogState → LogState → Result Found E → Type 0
+IsConcluded instance literals bound after old new (Ok found) =
+    Concludes instance literals bound after old new found
 IsConcluded instance literals bound after old new (Err e) =
     ((after ≡ bound) × (new ≡ old)) ⊎ OffersPlan instance literals bound after old new

@@ -18,10 +18,12 @@ pub record Goes (old new : Node) (tag : ℕ) (refs : List ChoiceRef) : Type 0 wh
 abbrev pub by_choice : ℕ → Ref → ChoiceRef
 by_choice choice line = record { choice = choice; line = line }
 
--- what is dead is left out, what settles the choice is listed, and nothing else lets the search go on
+-- what is dead is left out, what settles the choice is listed, and nothing else lets the search go
+-- on
 abbrev pub Notes : Node → Node → Found → Option Found → Type 0
 Notes old new (Dead tag) end = (end ≡ None) × Goes old new tag.code old.refs
-Notes old new (Settled line tag) end = (end ≡ None) × Goes old new tag.code (old.refs ++ by_choice old.choice line ∷ [])
+Notes old new (Settled line tag) end =
+    (end ≡ None) × Goes old new tag.code (old.refs ++ by_choice old.choice line ∷ [])
 Notes old new (Moot seen) end = end ≡ Some (Moot seen)
 Notes old new Spent end = end ≡ Some Spent
 

@@ -25,7 +25,8 @@ EndsBy log after row (Ok _) = after ≡ with_segment log row
 EndsBy log after row (Err _) = after ≡ log
 
 -- it can be a row, and got one above all others, which ends a segment where there was memory
-pub record GotRow {T E : Type 0} (old new : SharedState) (log after : LogState) (place : ℕ) (result : Result T E) : Type 0 where
+pub record GotRow {T E : Type 0} (old new : SharedState) (log after : LogState) (place : ℕ)
+    (result : Result T E) : Type 0 where
   pub row : ℕ
   pub line : LogLine
   pub last : slice_get log.lines place ≡ Some line
@@ -35,13 +36,16 @@ pub record GotRow {T E : Type 0} (old new : SharedState) (log after : LogState) 
   pub ends : EndsBy log after row result
 
 -- it got none, and where offers are taken a refusal was counted for a line that can be a row
-pub record GotNone {T E : Type 0} (old new : SharedState) (log after : LogState) (place : ℕ) (result : Result T E) : Type 0 where
+pub record GotNone {T E : Type 0} (old new : SharedState) (log after : LogState) (place : ℕ)
+    (result : Result T E) : Type 0 where
   pub published : new.published ≡ old.published
   pub log_same : after ≡ log
   pub went : IsOk result
-  pub refused : old.takes ≡ true → (line : LogLine) → slice_get log.lines place ≡ Some line → IsShortLine line → old.refusals < new.refusals
+  pub refused : old.takes ≡ true → (line : LogLine) → slice_get log.lines place ≡ Some line →
+      IsShortLine line → old.refusals < new.refusals
 
-pub record IsPublished {T E : Type 0} (old new : SharedState) (log after : LogState) (place : ℕ) (result : Result T E) : Type 0 where
+pub record IsPublished {T E : Type 0} (old new : SharedState) (log after : LogState) (place : ℕ)
+    (result : Result T E) : Type 0 where
   pub copied : new.copied ≡ old.copied
   pub takes : new.takes ≡ old.takes
   pub refusals : old.refusals ≤ new.refusals

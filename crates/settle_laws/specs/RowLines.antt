@@ -18,12 +18,15 @@ pub record AreAll (count : ℕ) (line : Ref) (refs : List ChoiceRef) : Type 0 wh
   pub each : (i : ℕ) (d : ChoiceRef) → i < count → get_or refs i d ≡ by_choice i line
 
 -- a line on the row's literals was added, and each choice of the path has the row
-pub record AddsByRow (instance : Instance) (cite : Cite) (tag : Tag) (path count : ℕ) (old new : LogState) (found : Found) : Type 0 where
+pub record AddsByRow (instance : Instance) (cite : Cite) (tag : Tag) (path count : ℕ)
+    (old new : LogState) (found : Found) : Type 0 where
   pub refs : List ChoiceRef
   pub all : AreAll count (Row cite.row) refs
   pub adds : AddsLine instance (row_literals cite.content) tag (Some path) refs old new found
 
 -- or none, for want of memory
-abbrev pub IsLinedByRow : {E : Type 0} → Instance → Cite → Tag → ℕ → ℕ → LogState → LogState → Result Found E → Type 0
-IsLinedByRow instance cite tag path count old new (Ok found) = AddsByRow instance cite tag path count old new found
+abbrev pub IsLinedByRow : {E : Type 0} → Instance → Cite → Tag → ℕ → ℕ → LogState → LogState →
+    Result Found E → Type 0
+IsLinedByRow instance cite tag path count old new (Ok found) =
+    AddsByRow instance cite tag path count old new found
 IsLinedByRow instance cite tag path count old new (Err e) = new ≡ old

@@ -24,7 +24,8 @@ use Rattle.settle_laws.specs.Worlds.{Gains, IsGoodWorld, IsKeptRight, IsLeastOff
 
 -- the segments are of the rows, in their order
 abbrev pub AreHome : List KnownRow → List Segment → Type 0
-AreHome rows segments = map (λ (row : KnownRow). row.number) rows ≡ map (λ (s : Segment). s.row) segments
+AreHome rows segments =
+    map (λ (row : KnownRow). row.number) rows ≡ map (λ (s : Segment). s.row) segments
 
 -- or of all but the last of them
 pub record AreAlmostHome (rows : List KnownRow) (segments : List Segment) : Type 0 where
@@ -65,9 +66,11 @@ pub record IsHomeLine (old new : World) (place : ℕ) (line : LogLine) : Type 0 
 -- a line was not published; where it can be a row and offers are taken, a refusal was counted
 pub record IsAway (old new : World) (line : LogLine) : Type 0 where
   pub none : PublishesNone old new
-  pub refused : old.shared.takes ≡ true → IsShortLine line → old.shared.refusals < new.shared.refusals
+  pub refused : old.shared.takes ≡ true → IsShortLine line →
+      old.shared.refusals < new.shared.refusals
 
--- a row was published with a content that lies within some literals and is implied, and no segment was kept for it
+-- a row was published with a content that lies within some literals and is implied, and no segment
+-- was kept for it
 pub record IsUnkept (instance : Instance) (literals : List Literal) (old new : World) : Type 0 where
   pub content : Content
   pub row : ℕ
@@ -78,15 +81,19 @@ pub record IsUnkept (instance : Instance) (literals : List Literal) (old new : W
 
 -- the line that settles a job is offered, and no row
 abbrev pub IsOfferedAsRow : World → World → Ref → Type 0
-IsOfferedAsRow old new (Own n) = (line : LogLine) × (slice_get new.log.lines n ≡ Some line) × (IsHomeLine old new n line ⊎ IsAway old new line)
+IsOfferedAsRow old new (Own n) =
+    (line : LogLine) × (slice_get new.log.lines n ≡ Some line)
+    × (IsHomeLine old new n line ⊎ IsAway old new line)
 IsOfferedAsRow old new (Row r) = PublishesNone old new
 
 -- The log's lines are as before.
 abbrev pub IsCut : World → World → Type 0
 IsCut old new = new.log.lines ≡ old.log.lines
 
--- No fuel is left, and the lines are cut. There was less fuel than tries, and so less than prefixes that go on from the literals.
-pub record RunsOut (instance : Instance) (level : ℕ) (literals : List Literal) (old new : World) : Type 0 where
+-- No fuel is left, and the lines are cut. There was less fuel than tries, and so less than prefixes
+-- that go on from the literals.
+pub record RunsOut (instance : Instance) (level : ℕ) (literals : List Literal)
+    (old new : World) : Type 0 where
   pub is_open : IsWanted level new.bound
   pub empty : new.fuel ≡ 0
   pub cut : IsCut old new
@@ -108,21 +115,28 @@ OnRefuted (Ok (Moot seen)) P = Unit {0}
 OnRefuted (Ok Spent) P = Unit {0}
 OnRefuted (Err e) P = Unit {0}
 
--- Refuted: the line or row lies within the literals, at no lower tag; the tag is the least target, and that of the last reading
--- where no tick was taken; then at most one Count line was added. A line is offered to the shared rows. Moot: what the bound told last is at most the level. After all but Refuted the lines are cut; only for
--- want of memory may a row have been published then.
-abbrev pub IsOutcome : {E : Type 0} → Instance → ℕ → List Literal → World → World → Result Outcome E → Type 0
-IsOutcome instance level literals old new (Ok (Refuted line tag)) = IsSettledBy instance level literals old new line tag.code
+-- Refuted: the line or row lies within the literals, at no lower tag; the tag is the least target,
+-- and that of the last reading where no tick was taken; then at most one Count line was added. A
+-- line is offered to the shared rows. Moot: what the bound told last is at most the level. After
+-- all but Refuted the lines are cut; only for want of memory may a row have been published then.
+abbrev pub IsOutcome : {E : Type 0} → Instance → ℕ → List Literal → World → World →
+    Result Outcome E → Type 0
+IsOutcome instance level literals old new (Ok (Refuted line tag)) =
+    IsSettledBy instance level literals old new line tag.code
     × IsOfferedAsRow old new line
     × (new.fuel ≡ old.fuel → IsAtMostCount instance literals old new)
-IsOutcome instance level literals old new (Ok (Moot seen)) = (seen.code ≡ new.bound.told) × (new.bound.told ≤ level_code level) × IsCut old new × PublishesNone old new
+IsOutcome instance level literals old new (Ok (Moot seen)) =
+    (seen.code ≡ new.bound.told) × (new.bound.told ≤ level_code level) × IsCut old new
+    × PublishesNone old new
 IsOutcome instance level literals old new (Ok Spent) = RunsOut instance level literals old new
-IsOutcome instance level literals old new (Err e) = IsCut old new × (PublishesNone old new ⊎ IsUnkept instance literals old new)
+IsOutcome instance level literals old new (Err e) =
+    IsCut old new × (PublishesNone old new ⊎ IsUnkept instance literals old new)
 
--- What a job's search keeps and finds, and at which prefixes ticks were taken or, at the end, one was refused. Whatever it finds,
--- the bound was read, and the cost of each assignment that a tick fell on was offered, or less; where the job is refuted, it has
--- its Count line.
-pub record Settles {E : Type 0} (instance : Instance) (level : ℕ) (literals : List Literal) (old new : World) (result : Result Outcome E) : Type 0 where
+-- What a job's search keeps and finds, and at which prefixes ticks were taken or, at the end, one
+-- was refused. Whatever it finds, the bound was read, and the cost of each assignment that a tick
+-- fell on was offered, or less; where the job is refuted, it has its Count line.
+pub record Settles {E : Type 0} (instance : Instance) (level : ℕ) (literals : List Literal)
+    (old new : World) (result : Result Outcome E) : Type 0 where
   pub fuel : new.fuel ≤ old.fuel
   pub copied : All (Contains new.shared.copied) old.shared.copied
   pub publishes : Publishes old new result
@@ -135,7 +149,8 @@ pub record Settles {E : Type 0} (instance : Instance) (level : ℕ) (literals : 
   pub tells : new.bound.told ≤ old.bound.told
   pub lowers : (tag : ℕ) → lowest tag new.bound.least ≤ lowest tag old.bound.least
   pub falls : floor new.bound ≤ floor old.bound
-  pub least : IsLeastOffered old.log.best old.bound.least → IsLeastOffered new.log.best new.bound.least
+  pub least : IsLeastOffered old.log.best old.bound.least →
+      IsLeastOffered new.log.best new.bound.least
   pub right : IsKeptRight instance old.log.best → IsKeptRight instance new.log.best
   pub better : (tag : ℕ) → KeepsAtMost old.log.best tag → KeepsAtMost new.log.best tag
   pub read : OnOk result (new.bound.told ≤ floor old.bound)

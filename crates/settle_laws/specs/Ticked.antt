@@ -10,7 +10,8 @@ use Rattle.settle_laws.specs.Stops.{ComesAfter, IsUndecided, stop_at}
 use Rattle.settle_laws.specs.Worlds.{Keeps, World}
 
 -- at the target, where neither the bound, nor a row, nor the test whether they are dead decided
-pub record IsTicked (instance : Instance) (level : ℕ) (literals : List Literal) (old new : World) (tag : Tag) : Type 0 where
+pub record IsTicked (instance : Instance) (level : ℕ) (literals : List Literal) (old new : World)
+    (tag : Tag) : Type 0 where
   pub keeps : Keeps instance old new
   pub least : new.bound.least ≡ old.bound.least
   pub took : old.fuel ≡ new.fuel + 1

@@ -20,12 +20,15 @@ NoneWithin level rows literals = NoneFits (level_code (level + 1)) rows literals
 
 -- each prefix longer than one stands behind that which is one shorter
 abbrev pub StandBehind : List Literal → List (List Literal) → Type 0
-StandBehind prefix asked = (place : ℕ) (literals : List Literal) → slice_get asked place ≡ Some literals → length prefix < length literals →
+StandBehind prefix asked =
+    (place : ℕ) (literals : List Literal) → slice_get asked place ≡ Some literals →
+    length prefix < length literals →
     Contains (take place asked) (take (length literals - 1) literals)
 
--- The cost of an assignment is the least offer, and the log keeps one that costs no more. A tick fell on the prefix that names
--- all its choices.
-pub record OffersCost (instance : Instance) (tried : List (List Literal)) (new : World) : Type 0 where
+-- The cost of an assignment is the least offer, and the log keeps one that costs no more. A tick
+-- fell on the prefix that names all its choices.
+pub record OffersCost (instance : Instance) (tried : List (List Literal))
+    (new : World) : Type 0 where
   pub plan : List ℕ
   pub prefix : List Literal
   pub ticked : Contains tried prefix
@@ -41,7 +44,8 @@ OfferedAtMost (Some least) tag = least ≤ tag
 -- the cost of each assignment that is one of some prefixes was offered, or less
 abbrev pub AreOffered : Instance → List (List Literal) → Option ℕ → Type 0
 AreOffered instance tried least =
-    All (λ prefix. (plan : List ℕ) → IsWholePrefix instance prefix plan → OfferedAtMost least (code_of (cost instance plan))) tried
+    All (λ prefix. (plan : List ℕ) → IsWholePrefix instance prefix plan →
+    OfferedAtMost least (code_of (cost instance plan))) tried
 
 -- a Count line at so much was gained, within a prefix
 pub record GainsCount (old new : List LogLine) (prefix : List Literal) (code : ℕ) : Type 0 where
@@ -56,13 +60,16 @@ pub record GainsCount (old new : List LogLine) (prefix : List Literal) (code : �
 -- each assignment that is one of some prefixes has a Count line at its cost
 abbrev pub HaveCountLines : Instance → List (List Literal) → List LogLine → List LogLine → Type 0
 HaveCountLines instance tried old new =
-    All (λ prefix. (plan : List ℕ) → IsWholePrefix instance prefix plan → GainsCount old new prefix (code_of (cost instance plan))) tried
+    All (λ prefix. (plan : List ℕ) → IsWholePrefix instance prefix plan →
+    GainsCount old new prefix (code_of (cost instance plan))) tried
 
--- The prefixes at which ticks fell, in order, as many as the fuel fell by; and behind them those at which fuel was refused. They
--- go on from a prefix, each once and behind the one that is one shorter, none dead at the level's target (as the law of tries
--- asks). At each of them neither what the bound told, nor the rows copied by then, nor the test whether it is dead decided; where
--- fuel was refused, nothing changed after. The least offer, where it fell, was made at such a tick.
-pub record Ticks (instance : Instance) (level : ℕ) (prefix : List Literal) (old new : World) (refused : List (List Literal)) : Type 0 where
+-- The prefixes at which ticks fell, in order, as many as the fuel fell by; and behind them those at
+-- which fuel was refused. They go on from a prefix, each once and behind the one that is one
+-- shorter, none dead at the level's target (as the law of tries asks). At each of them neither what
+-- the bound told, nor the rows copied by then, nor the test whether it is dead decided; where fuel
+-- was refused, nothing changed after. The least offer, where it fell, was made at such a tick.
+pub record Ticks (instance : Instance) (level : ℕ) (prefix : List Literal) (old new : World)
+    (refused : List (List Literal)) : Type 0 where
   pub tried : List (List Literal)
   pub asked : List (List Literal)
   pub asked_is : asked ≡ tried ++ refused
@@ -75,11 +82,13 @@ pub record Ticks (instance : Instance) (level : ℕ) (prefix : List Literal) (ol
 
 -- a prefix itself, or one that goes on from it by an earlier choice of the path
 abbrev pub IsEarlier : List Literal → ℕ → ℕ → List Literal → Type 0
-IsEarlier prefix path index literals = (literals ≡ prefix) ⊎ ((i : ℕ) × (i < index) × GoesOn (prefix ++ literal path i ∷ []) literals)
+IsEarlier prefix path index literals =
+    (literals ≡ prefix) ⊎ ((i : ℕ) × (i < index) × GoesOn (prefix ++ literal path i ∷ []) literals)
 
--- ticks at a prefix and at those that go on by the earlier choices of the next path, none refused; what they cost was offered and
--- has its line
-pub record TicksBelow (instance : Instance) (level : ℕ) (prefix : List Literal) (path index : ℕ) (old new : World) : Type 0 where
+-- ticks at a prefix and at those that go on by the earlier choices of the next path, none refused;
+-- what they cost was offered and has its line
+pub record TicksBelow (instance : Instance) (level : ℕ) (prefix : List Literal) (path index : ℕ)
+    (old new : World) : Type 0 where
   pub ticks : Ticks instance level prefix old new []
   pub begins : Contains ticks.asked prefix
   pub each : All (IsEarlier prefix path index) ticks.asked

@@ -25,9 +25,12 @@ pub record World : Type 0 where
 abbrev pub world : ℕ → BoundState → SharedState → LogState → World
 world fuel bound shared log = record { fuel = fuel; bound = bound; shared = shared; log = log }
 
--- each line from some place on has literals of the instance, and is implied at its tag, which is one of it
+-- each line from some place on has literals of the instance, and is implied at its tag, which is
+-- one of it
 abbrev pub AreServed : Instance → ℕ → List LogLine → Type 0
-AreServed instance from lines = (n : ℕ) (line : LogLine) → from ≤ n → slice_get lines n ≡ Some line → IsServedContent instance (content_of line) × IsTagFor instance line.tag
+AreServed instance from lines =
+    (n : ℕ) (line : LogLine) → from ≤ n → slice_get lines n ≡ Some line →
+    IsServedContent instance (content_of line) × IsTagFor instance line.tag
 
 -- the log is good over the rows that are known
 abbrev pub IsGoodWorld : Instance → World → Type 0
@@ -49,15 +52,17 @@ IsLeastOffered (Some best) (Some tag) = best.cost ≡ triple_from tag
 -- nothing is kept, or an assignment that meets the imperative records, with its cost
 abbrev pub IsKeptRight : Instance → Option KeptPlan → Type 0
 IsKeptRight instance None = Unit {0}
-IsKeptRight instance (Some best) = IsFeasible instance best.plan × (best.cost ≡ cost instance best.plan)
+IsKeptRight instance (Some best) =
+    IsFeasible instance best.plan × (best.cost ≡ cost instance best.plan)
 
 -- what is kept costs at most so much
 abbrev pub KeepsAtMost : Option KeptPlan → ℕ → Type 0
 KeepsAtMost None tag = ⊥
 KeepsAtMost (Some best) tag = IsAtMost best.cost (triple_from tag)
 
--- What every search keeps, whatever it answers: rows and lines are only added, and nothing is published; a good log is good
--- again; neither what the bound told nor its least offer rises; what is kept stays the least offer, and a true cost, where it was.
+-- What every search keeps, whatever it answers: rows and lines are only added, and nothing is
+-- published; a good log is good again; neither what the bound told nor its least offer rises; what
+-- is kept stays the least offer, and a true cost, where it was.
 pub record Keeps (instance : Instance) (old new : World) : Type 0 where
   pub fuel : new.fuel ≤ old.fuel
   pub copied : All (Contains new.shared.copied) old.shared.copied
@@ -72,6 +77,7 @@ pub record Keeps (instance : Instance) (old new : World) : Type 0 where
   pub tells : new.bound.told ≤ old.bound.told
   pub lowers : (tag : ℕ) → lowest tag new.bound.least ≤ lowest tag old.bound.least
   pub falls : floor new.bound ≤ floor old.bound
-  pub least : IsLeastOffered old.log.best old.bound.least → IsLeastOffered new.log.best new.bound.least
+  pub least : IsLeastOffered old.log.best old.bound.least →
+      IsLeastOffered new.log.best new.bound.least
   pub right : IsKeptRight instance old.log.best → IsKeptRight instance new.log.best
   pub better : (tag : ℕ) → KeepsAtMost old.log.best tag → KeepsAtMost new.log.best tag

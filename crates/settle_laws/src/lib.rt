@@ -1,4 +1,5 @@
-//! What the search of a job finds and what it keeps, as definitions, and the lemmas that the search rests on.
+//! What the search of a job finds and what it keeps, as definitions, and the lemmas that the search
+//! rests on.
 #![tactic(auto)]
 
 mod found;

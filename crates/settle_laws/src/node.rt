@@ -8,7 +8,8 @@ pub struct Node {
     pub tag: Tag,
     /// That path: the next one of the work order, or one that was looked ahead to.
     pub path: u16,
-    /// The choice that comes next, or that is being tried: the index, or the number of choices at the end.
+    /// The choice that comes next, or that is being tried: the index, or the number of choices at
+    /// the end.
     pub choice: u32,
     /// How many choices the path has.
     pub count: u32,

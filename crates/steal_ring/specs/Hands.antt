@@ -24,7 +24,8 @@ pub record IsHandOf (ring : Ring) (hand : Hand) : Type 0 where
 -- neither the number nor the share changes
 abbrev pub IsSameHand : Hand → Hand → Type 0
 IsSameHand old new =
-    (new.number ≡ old.number) × (new.neighbour ≡ old.neighbour) × (new.workers ≡ old.workers) × (share_of_hand new ≡ share_of_hand old)
+    (new.number ≡ old.number) × (new.neighbour ≡ old.neighbour) × (new.workers ≡ old.workers)
+    × (share_of_hand new ≡ share_of_hand old)
 
 -- the job stands in the hand's list or in its neighbour's
 abbrev pub IsListed : Hand → ℕ → Type 0

@@ -30,8 +30,8 @@ times job jobs = sum_by (once job) jobs
 abbrev pub wins : ℕ → RingView → ℕ
 wins job v = times job v.won
 
--- What holds between any two steps: a job's word is 0 or 1 and tells how often it was won, by all seats together;
--- the word of each job that a seat found is 1.
+-- What holds between any two steps: a job's word is 0 or 1 and tells how often it was won, by all
+-- seats together; the word of each job that a seat found is 1.
 pub record IsRing (jobs : ℕ) (s : Words) : Type 0 where
   pub width : length s.words ≡ jobs
   pub bits : (job : ℕ) → word s job ≤ 1
@@ -56,12 +56,20 @@ given_half v = record { spent = false; share = v.share / 2; found = []; won = []
 
 -- what a seat knows after another was joined into it
 abbrev pub after_join : RingView → RingView → RingView
-after_join v w = record { spent = false; share = v.share + w.share; found = v.found ++ w.found; won = v.won ++ w.won }
+after_join v w =
+    record {
+      spent = false;
+      share = v.share + w.share;
+      found = v.found ++ w.found;
+      won = v.won ++ w.won;
+    }
 
 -- what it knows after a swap found a job's word 0
 abbrev pub after_win : RingView → ℕ → RingView
-after_win v job = record { spent = false; share = v.share; found = v.found ++ job ∷ []; won = v.won ++ job ∷ [] }
+after_win v job =
+    record { spent = false; share = v.share; found = v.found ++ job ∷ []; won = v.won ++ job ∷ [] }
 
 -- and after a swap found it 1
 abbrev pub after_miss : RingView → ℕ → RingView
-after_miss v job = record { spent = false; share = v.share; found = v.found ++ job ∷ []; won = v.won }
+after_miss v job =
+    record { spent = false; share = v.share; found = v.found ++ job ∷ []; won = v.won }

@@ -14,8 +14,8 @@ use std::alloc::{AllocError as NoMemory, Global};
 pub const MAX_WORKERS: u32 = 32;
 
 impl Hand {
-    /// The hand of a seat that has found nothing. A single hand has no neighbour: no job stands in the list of the
-    /// number that is kept for it.
+    /// The hand of a seat that has found nothing. A single hand has no neighbour: no job stands in
+    /// the list of the number that is kept for it.
     fn begin(
         alloc: Global,
         seat: RingSeat,
@@ -25,7 +25,9 @@ impl Hand {
     ) -> Result<Hand, NoMemory>
         requires seat { ((view_of seat).found ≡ []) × ((view_of seat).won ≡ []) }
         requires number { (number < workers) × (workers ≤ MAX_WORKERS) }
-        ensures { IfOk result (λ hand. (hand.seat ≡ seat) × (hand.number ≡ number) × (hand.workers ≡ workers) × (hand.jobs ≡ jobs) × (hand.neighbour ≡ neighbour_of workers number)) }
+        ensures { IfOk result (λ hand. (hand.seat ≡ seat) × (hand.number ≡ number)
+            × (hand.workers ≡ workers) × (hand.jobs ≡ jobs)
+            × (hand.neighbour ≡ neighbour_of workers number)) }
     {
         let taken = Vec::with_capacity(alloc, 2 * jobs as usize)?;
         let neighbour = if workers == 1 {
@@ -60,28 +62,33 @@ impl Hand {
         self.seat.share()
     }
 
-    /// The jobs that it was given, in order. They are distinct, and stand in its own list or its neighbour's.
+    /// The jobs that it was given, in order. They are distinct, and stand in its own list or its
+    /// neighbour's.
     pub fn taken(&self) -> &[u32]
         ensures taken { result.now ≡ won_of self.now }
         ensures distinct { (job : ℕ) → times job result.now ≤ 1 }
-        ensures listed { (job : ℕ) → 0 < times job result.now → (job < self.now.jobs) × IsListed self.now job }
+        ensures listed { (job : ℕ) → 0 < times job result.now → (job < self.now.jobs)
+            × IsListed self.now job }
     {
         self.taken.as_slice()
     }
 }
 
 impl Ring {
-    /// So many free jobs, numbered from 0, and a hand for each worker, by number. Job `id` stands in the list of hand
-    /// `id % workers`. The neighbour of a hand is the next one, and that of the last is the first. All memory is taken
-    /// here.
+    /// So many free jobs, numbered from 0, and a hand for each worker, by number. Job `id` stands
+    /// in the list of hand `id % workers`. The neighbour of a hand is the next one, and that of the
+    /// last is the first. All memory is taken here.
     pub fn new(alloc: Global, jobs: u32, workers: u32) -> Result<(Ring, Vec<Hand>), NoMemory>
         requires jobs { 0 < jobs }
         requires workers { (0 < workers) × (workers ≤ MAX_WORKERS) }
         ensures jobs { IfOk result (λ made. made.0.jobs ≡ jobs) }
         ensures workers { IfOk result (λ made. length made.1.items ≡ workers) }
-        ensures hands { IfOk result (λ made. All (IsHandOf made.0) made.1.items × IsDealt jobs made.1.items) }
-        ensures neighbours { IfOk result (λ made. All (λ hand. hand.neighbour ≡ neighbour_of hand.workers hand.number) made.1.items) }
-        ensures new { IfOk result (λ made. All (λ hand. (won_of hand ≡ []) × (found_of hand ≡ [])) made.1.items) }
+        ensures hands { IfOk result (λ made. All (IsHandOf made.0) made.1.items
+            × IsDealt jobs made.1.items) }
+        ensures neighbours { IfOk result (λ made.
+            All (λ hand. hand.neighbour ≡ neighbour_of hand.workers hand.number) made.1.items) }
+        ensures new { IfOk result (λ made.
+            All (λ hand. (won_of hand ≡ []) × (found_of hand ≡ [])) made.1.items) }
         ensures parts { IfOk result (λ made. All (λ hand. 1 ≤ share_of_hand hand) made.1.items) }
         ensures shares { IfOk result (λ made. shares_of made.1.items ≡ WHOLE_SHARE) }
     {

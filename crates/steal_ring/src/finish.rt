@@ -28,8 +28,8 @@ impl Ring {
         self.join(seat, hand.into_seat());
     }
 
-    /// The end: each job was given to exactly one hand, once. All hands come back, by number, and each was answered
-    /// None last.
+    /// The end: each job was given to exactly one hand, once. All hands come back, by number, and
+    /// each was answered None last.
     pub fn close(self, hands: Vec<Hand>)
         requires own { All (IsHandOf self) hands.items }
         requires shares { shares_of hands.items ≡ WHOLE_SHARE }

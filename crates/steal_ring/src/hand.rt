@@ -21,7 +21,9 @@ pub struct Hand {
     ghost places: { (number < workers) × (own ≤ jobs) × (other ≤ jobs) },
     ghost apart: { number ≢ neighbour },
     ghost listed: { taken.items ≡ (view_of seat).won },
-    ghost swapped: { (job : ℕ) → times job (view_of seat).found ≡ one_if (is_between workers number 0 own job) + one_if (is_between workers neighbour 0 other job) },
+    ghost swapped: { (job : ℕ) → times job (view_of seat).found
+        ≡ one_if (is_between workers number 0 own job)
+        + one_if (is_between workers neighbour 0 other job) },
     ghost won: { (job : ℕ) → times job (view_of seat).won ≤ times job (view_of seat).found },
     ghost room: { (vec_len taken ≤ own + other) × (2 * jobs ≤ vec_capacity taken) },
 }

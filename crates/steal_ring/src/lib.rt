@@ -1,5 +1,5 @@
-//! Jobs that many hands take without a lock: each job once. A hand goes through a list of its own, and then through
-//! its neighbour's.
+//! Jobs that many hands take without a lock: each job once. A hand goes through a list of its own,
+//! and then through its neighbour's.
 #![tactic(auto)]
 
 mod deal;

@@ -23,7 +23,8 @@ impl Ring {
     /// So many free jobs, and the first seat.
     pub(crate) fn free(alloc: Global, jobs: u32) -> Result<(Ring, RingSeat), NoMemory>
         requires { 0 < jobs }
-        ensures { IfOk result (λ made. IsSeatOf made.0 made.1 × (view_of made.1 ≡ first_view) × (made.0.jobs ≡ jobs)) }
+        ensures { IfOk result (λ made. IsSeatOf made.0 made.1 × (view_of made.1 ≡ first_view)
+            × (made.0.jobs ≡ jobs)) }
     {
         let words = vec![in alloc; 0u64; jobs as usize]?;
         let (table, seat) = Table::of_words(alloc, words.as_slice(), &u64::from(jobs))?;
@@ -41,7 +42,8 @@ impl Ring {
         requires own { IsSeatOf self.now seat.old }
         requires job { job < self.now.jobs }
         ensures same { IsSameSeat seat.old seat.new }
-        ensures view { MatchBool result (view_of seat.new ≡ after_win (view_of seat.old) job) (view_of seat.new ≡ after_miss (view_of seat.old) job) }
+        ensures view { MatchBool result (view_of seat.new ≡ after_win (view_of seat.old) job)
+            (view_of seat.new ≡ after_miss (view_of seat.old) job) }
     {
         self.table
             .shared

@@ -10,8 +10,10 @@ use Rattle.settle_laws.specs.declared.found.Found.{Found}
 use Rattle.settle_laws.specs.Lined.{Lined}
 use Rattle.settle_laws.specs.Worlds.{World}
 
--- what was found of a job's prefix at a level of the instance, where its lines begin at a place behind all segments
-pub record IsClosing {E : Type 0} (instance : Instance) (level : ℕ) (literals : List Literal) (old now : World) (from : ℕ) (found : Result Found E) : Type 0 where
+-- what was found of a job's prefix at a level of the instance, where its lines begin at a place
+-- behind all segments
+pub record IsClosing {E : Type 0} (instance : Instance) (level : ℕ) (literals : List Literal)
+    (old now : World) (from : ℕ) (found : Result Found E) : Type 0 where
   pub valid : IsInstance instance
   pub within : level ≤ levels_of instance
   pub prefix : IsPrefix instance literals

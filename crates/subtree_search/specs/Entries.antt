@@ -15,7 +15,10 @@ use Rattle.settle_laws.specs.Worlds.{World}
 
 -- it is settled, by a row that was copied or otherwise, or a tick was taken
 abbrev pub IsArrival : Instance → ℕ → List Literal → World → World → Arrival → Type 0
-IsArrival instance level literals old new (Decided found) = Searched {E = AllocError} instance level literals old new (Ok found)
-IsArrival instance level literals old new (Cited cite tag) = Searched {E = AllocError} instance level literals old new (Ok (Settled (Row cite.row) tag))
+IsArrival instance level literals old new (Decided found) =
+    Searched {E = AllocError} instance level literals old new (Ok found)
+IsArrival instance level literals old new (Cited cite tag) =
+    Searched {E = AllocError} instance level literals old new (Ok (Settled (Row cite.row) tag))
     × Contains new.shared.copied (known_row cite.row (row_content cite.content))
-IsArrival instance level literals old new (Ticked tag) = IsTicked instance level literals old new tag
+IsArrival instance level literals old new (Ticked tag) =
+    IsTicked instance level literals old new tag

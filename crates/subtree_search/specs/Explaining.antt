@@ -15,7 +15,8 @@ use Rattle.settle_laws.specs.declared.node.Node.{Node}
 use Rattle.subtree_search.specs.Recalling.{IsSeen}
 
 -- a node of a further path of the instance, with a tag of it
-pub record IsNodeToExplain (instance : Instance) (literals : List Literal) (node : Node) : Type 0 where
+pub record IsNodeToExplain (instance : Instance) (literals : List Literal)
+    (node : Node) : Type 0 where
   pub valid : IsInstance instance
   pub partial : IsPartial instance literals
   pub tag : IsTagFor instance node.tag
@@ -25,5 +26,7 @@ pub record IsNodeToExplain (instance : Instance) (literals : List Literal) (node
 
 -- a line doesn't name a path, nor does a row, by what a look-up gave under its number
 abbrev pub IsOffPath : List Cite → List LogLine → ℕ → Ref → Type 0
-IsOffPath cites lines path (Own n) = (line : LogLine) → slice_get lines n ≡ Some line → names line.lits path ≡ false
-IsOffPath cites lines path (Row r) = (cite : Cite) × IsSeen cites r cite × (names (row_literals cite.content) path ≡ false)
+IsOffPath cites lines path (Own n) =
+    (line : LogLine) → slice_get lines n ≡ Some line → names line.lits path ≡ false
+IsOffPath cites lines path (Row r) =
+    (cite : Cite) × IsSeen cites r cite × (names (row_literals cite.content) path ≡ false)

@@ -12,7 +12,8 @@ use Rattle.settle_laws.specs.Lines.{AddsLine}
 use Rattle.subtree_search.specs.Explaining.{IsNodeToExplain}
 
 -- a node of a further path at a tag, with no choice left to try and nothing noted of any
-pub record IsWithoutRefs (instance : Instance) (literals : List Literal) (tag : Tag) (node : Node) : Type 0 where
+pub record IsWithoutRefs (instance : Instance) (literals : List Literal) (tag : Tag)
+    (node : Node) : Type 0 where
   pub asked : IsNodeToExplain instance literals node
   pub tag_is : node.tag ≡ tag
   pub done : node.choice ≡ node.count
@@ -20,10 +21,12 @@ pub record IsWithoutRefs (instance : Instance) (literals : List Literal) (tag : 
 
 -- such a node, each of whose choices is dead with the literals
 abbrev pub IsClosedAhead : Instance → List Literal → Tag → Node → Type 0
-IsClosedAhead instance literals tag node = IsWithoutRefs instance literals tag node × IsClosedBy instance literals node
+IsClosedAhead instance literals tag node =
+    IsWithoutRefs instance literals tag node × IsClosedBy instance literals node
 
 -- its line was added, on literals that it needs
-pub record ClosesAhead (instance : Instance) (literals : List Literal) (tag : Tag) (old new : LogState) (found : Found) : Type 0 where
+pub record ClosesAhead (instance : Instance) (literals : List Literal) (tag : Tag)
+    (old new : LogState) (found : Found) : Type 0 where
   pub node : Node
   pub shut : IsClosedAhead instance literals tag node
   pub cites : List Cite
@@ -32,7 +35,9 @@ pub record ClosesAhead (instance : Instance) (literals : List Literal) (tag : Ta
   pub adds : AddsLine instance fewer node.tag (Some node.path) node.refs old new found
 
 -- or the log is as it was
-abbrev pub LooksAhead : {E : Type 0} → Instance → List Literal → Tag → LogState → LogState → Result (Option Found) E → Type 0
-LooksAhead instance literals tag old new (Ok (Some found)) = ClosesAhead instance literals tag old new found
+abbrev pub LooksAhead : {E : Type 0} → Instance → List Literal → Tag → LogState → LogState →
+    Result (Option Found) E → Type 0
+LooksAhead instance literals tag old new (Ok (Some found)) =
+    ClosesAhead instance literals tag old new found
 LooksAhead instance literals tag old new (Ok None) = new ≡ old
 LooksAhead instance literals tag old new (Err e) = new ≡ old

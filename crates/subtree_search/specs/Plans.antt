@@ -9,4 +9,5 @@ IsNotAfter a b = (a.path < b.path) ⊎ ((a.path ≡ b.path) × (a.choice ≤ b.c
 
 -- what is given at each path, 0 where nothing is
 abbrev pub IsPlanOf : List (Option ℕ) → ℕ → List ℕ → Type 0
-IsPlanOf slots paths plan = (path : ℕ) → path < paths → slice_index plan path ≡ unwrap_or (choice_given slots path) 0
+IsPlanOf slots paths plan =
+    (path : ℕ) → path < paths → slice_index plan path ≡ unwrap_or (choice_given slots path) 0

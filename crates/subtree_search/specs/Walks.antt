@@ -13,7 +13,8 @@ pub record IsReady (instance : Instance) (walk : Walk) : Type 0 where
   pub level : walk.level ≤ levels_of instance
   pub room : length walk.plan.items ≡ length instance.paths
 
--- how much is left to do: at most so many nodes are to come as there is fuel, and each has at most 2^16 choices
+-- how much is left to do: at most so many nodes are to come as there is fuel, and each has at most
+-- 2^16 choices
 abbrev pub work_left : ℕ → List Node → ℕ
 work_left fuel nodes = fuel * 2 ^ 17 + sum_by (λ (node : Node). node.count - node.choice + 1) nodes
 

@@ -58,7 +58,8 @@ fn has_few_left(forward: &Forward, node: &Node) -> bool
     some_gone
 }
 
-/// The node of a path without a literal, where few of its choices are left and each choice is dead with the literals.
+/// The node of a path without a literal, where few of its choices are left and each choice is dead
+/// with the literals.
 fn shut_at(alloc: Global, forward: &mut Forward, tag: Tag, path: u16) -> Option<Node>
     requires valid { IsInstance forward.old.instance }
     requires tag { IsTagFor forward.old.instance tag }
@@ -99,8 +100,9 @@ fn shut_behind(alloc: Global, forward: &mut Forward, tag: Tag, place: usize) -> 
     None
 }
 
-/// Adds a line where the literals leave no choice of a path behind a place in the work order: one on that path, whose
-/// choices are all dead, on literals that it needs. Only paths of which few choices are left are looked at.
+/// Adds a line where the literals leave no choice of a path behind a place in the work order: one
+/// on that path, whose choices are all dead, on literals that it needs. Only paths of which few
+/// choices are left are looked at.
 pub fn look_ahead(
     alloc: Global,
     scratch: &mut Scratch,

@@ -33,7 +33,8 @@ pub fn add_by_row(
     log: &mut Log,
 ) -> Result<Found, NoMemory>
     requires { count ≤ 2 ^ 16 }
-    ensures { (instance : Instance) → AreLiterals instance (row_literals cite.content) → IsLinedByRow instance cite tag path count log.old log.new result }
+    ensures { (instance : Instance) → AreLiterals instance (row_literals cite.content) →
+        IsLinedByRow instance cite tag path count log.old log.new result }
 {
     let lits = Items::from_vec(Vec::from_slice(alloc, cite.content.literals())?);
     let refs = all_refs(alloc, count, Ref::Row(cite.row))?;

@@ -1,14 +1,14 @@
 // Numbers by slots.
 use std::alloc::Global;
 
-/// The numbers 0, 1, 2 and so on, each noted with a slot, to be gone through slot by slot from the newest on. It is a
-/// hint: what stands in it is in no contract.
+/// The numbers 0, 1, 2 and so on, each noted with a slot, to be gone through slot by slot from the
+/// newest on. It is a hint: what stands in it is in no contract.
 #[derive(Drop)]
 pub struct Chains {
     alloc: Global,
     slots: usize,
-    /// For each slot, one more than the number noted last with it; 0 where there is none. Room for them is made when
-    /// the first number is noted.
+    /// For each slot, one more than the number noted last with it; 0 where there is none. Room for
+    /// them is made when the first number is noted.
     heads: Vec<u32>,
     /// For each number, the same of the number that was noted before it with its slot.
     before: Vec<u32>,

@@ -27,8 +27,8 @@ pub enum Arrival {
     Ticked(Tag),
 }
 
-/// Reads the bound, looks the prefix up, tests whether it is dead, and takes fuel. The first of these that decides is
-/// the result.
+/// Reads the bound, looks the prefix up, tests whether it is dead, and takes fuel. The first of
+/// these that decides is the result.
 pub fn enter<B: Bound, H: Shared>(
     level: u32,
     forward: &Forward,
@@ -42,9 +42,12 @@ pub fn enter<B: Bound, H: Shared>(
     requires serves { H.serves shared.old forward.now.instance }
     ensures bound { (was : B) → B.since was bound.old → B.since was bound.new }
     ensures shared { (was : H) → H.since was shared.old → H.since was shared.new }
-    ensures serves { (instance : Instance) → H.serves shared.old instance ↔ H.serves shared.new instance }
-    ensures copied { (cites : List SomeCite) → AreCitesCopied (H.state shared.old).copied cites → AreCitesCopied (H.state shared.new).copied cites }
-    ensures entry { (log : LogState) → IsArrival forward.now.instance level forward.now.pushed (world fuel.old (B.state bound.old) (H.state shared.old) log)
+    ensures serves { (instance : Instance) →
+        H.serves shared.old instance ↔ H.serves shared.new instance }
+    ensures copied { (cites : List SomeCite) → AreCitesCopied (H.state shared.old).copied cites →
+        AreCitesCopied (H.state shared.new).copied cites }
+    ensures entry { (log : LogState) → IsArrival forward.now.instance level forward.now.pushed
+        (world fuel.old (B.state bound.old) (H.state shared.old) log)
         (world fuel.new (B.state bound.new) (H.state shared.new) log) result }
 {
     let seen = bound.now();

@@ -65,7 +65,8 @@ fn is_at(refs: &[ChoiceRef], place: usize, choice: u16) -> bool
     refs[place].choice == choice
 }
 
-/// Whether the literals' sum with a choice comes to the tag's limit, by what the choice adds in place of the least.
+/// Whether the literals' sum with a choice comes to the tag's limit, by what the choice adds in
+/// place of the least.
 fn is_over(forward: &Forward, tag: Tag, path: u16, choice: u16) -> bool
     requires valid { IsInstance forward.now.instance }
     requires tag { IsTagFor forward.now.instance tag }
@@ -74,7 +75,8 @@ fn is_over(forward: &Forward, tag: Tag, path: u16, choice: u16) -> bool
     requires choice { choice < count_at forward.now.instance path }
     requires partial { IsPartial forward.now.instance (literal path choice ∷ forward.now.pushed) }
     requires own { IsPartial forward.now.instance forward.now.pushed }
-    ensures { IsTrue result → Dead forward.now.instance (triple_from tag.code) (literal path choice ∷ forward.now.pushed) }
+    ensures { IsTrue result → Dead forward.now.instance (triple_from tag.code)
+        (literal path choice ∷ forward.now.pushed) }
 {
     let triple = triple_of(tag);
     if triple.v == 0 {
@@ -103,7 +105,8 @@ pub fn is_left(forward: &Forward, tag: Tag, path: u16, choice: u16) -> bool
     requires choice { choice < count_at forward.now.instance path }
     requires partial { IsPartial forward.now.instance (literal path choice ∷ forward.now.pushed) }
     requires own { IsPartial forward.now.instance forward.now.pushed }
-    ensures { result ≡ false → Dead forward.now.instance (triple_from tag.code) (literal path choice ∷ forward.now.pushed) }
+    ensures { result ≡ false → Dead forward.now.instance (triple_from tag.code)
+        (literal path choice ∷ forward.now.pushed) }
 {
     if tag.code == 0 {
         return true;
@@ -126,7 +129,8 @@ fn is_dead_with(forward: &mut Forward, tag: Tag, path: u16, choice: u16) -> bool
     requires free { names forward.old.pushed path ≡ false }
     requires partial { IsPartial forward.old.instance forward.old.pushed }
     ensures front { forward.new ≡ forward.old }
-    ensures dead { IsTrue result → Dead forward.old.instance (triple_from tag.code) (literal path choice ∷ forward.old.pushed) }
+    ensures dead { IsTrue result → Dead forward.old.instance (triple_from tag.code)
+        (literal path choice ∷ forward.old.pushed) }
 {
     if !is_left(forward, tag, path, choice) {
         return true;
@@ -142,7 +146,8 @@ fn is_settled(forward: &mut Forward, node: &Node, choice: u16, place: usize) -> 
     requires asked { IsNodeToExplain forward.old.instance forward.old.pushed node.now }
     requires choice { choice < node.now.count }
     ensures front { forward.new ≡ forward.old }
-    ensures settled { IsTrue result → IsSettled forward.old.instance node.now.tag.code forward.old.pushed node.now.path node.now.refs choice }
+    ensures settled { IsTrue result → IsSettled forward.old.instance node.now.tag.code
+        forward.old.pushed node.now.path node.now.refs choice }
 {
     if is_at(node.refs.as_slice(), place, choice) {
         return true;
@@ -168,7 +173,8 @@ pub fn is_closed(forward: &mut Forward, node: &Node) -> bool
     true
 }
 
-/// Whether what a reference names may name a path: a line or a row that does, or a row that isn't found again.
+/// Whether what a reference names may name a path: a line or a row that does, or a row that isn't
+/// found again.
 fn may_name(line: Ref, log: &Log, seen: &SeenRows, path: u16) -> bool
     ensures { result ≡ false → IsOffPath seen.now.cites.items log.now.lines path line }
 {
@@ -186,7 +192,8 @@ fn may_name(line: Ref, log: &Log, seen: &SeenRows, path: u16) -> bool
 
 /// Whether what settles some choice may name a path.
 fn is_used(refs: &[ChoiceRef], log: &Log, seen: &SeenRows, path: u16) -> bool
-    ensures { result ≡ false → All (λ r. IsOffPath seen.now.cites.items log.now.lines path r.line) refs.now }
+    ensures { result ≡ false → All (λ r. IsOffPath seen.now.cites.items log.now.lines path r.line)
+        refs.now }
 {
     for r in refs {
         if may_name(r.line, log, seen, path) {
@@ -207,9 +214,11 @@ fn leave_out(
 ) -> bool
     requires place { place < length literals.now }
     requires asked { IsNodeToExplain forward.old.instance literals.now node.now }
-    requires explains { Explains forward.old.instance seen.now.cites.items log.now.lines literals.now forward.old.pushed node.now }
+    requires explains { Explains forward.old.instance seen.now.cites.items log.now.lines
+        literals.now forward.old.pushed node.now }
     ensures front { forward.new ≡ with_literals forward.old forward.new.pushed }
-    ensures explains { Explains forward.old.instance seen.now.cites.items log.now.lines literals.now forward.new.pushed node.now }
+    ensures explains { Explains forward.old.instance seen.now.cites.items log.now.lines literals.now
+        forward.new.pushed node.now }
 {
     let literal = literals[place];
     if !forward.is_set(literal.path) {
@@ -226,8 +235,8 @@ fn leave_out(
     false
 }
 
-/// Takes out the node's literals one by one, the last one first, but those that are marked and those without which the
-/// node is not closed, until `FAILURES` in a row could not be left out.
+/// Takes out the node's literals one by one, the last one first, but those that are marked and
+/// those without which the node is not closed, until `FAILURES` in a row could not be left out.
 fn reduce(
     forward: &mut Forward,
     node: &Node,
@@ -237,9 +246,11 @@ fn reduce(
     needed: &[bool],
 )
     requires asked { IsNodeToExplain forward.old.instance literals.now node.now }
-    requires explains { Explains forward.old.instance seen.now.cites.items log.now.lines literals.now forward.old.pushed node.now }
+    requires explains { Explains forward.old.instance seen.now.cites.items log.now.lines
+        literals.now forward.old.pushed node.now }
     ensures front { forward.new ≡ with_literals forward.old forward.new.pushed }
-    ensures explains { Explains forward.old.instance seen.now.cites.items log.now.lines literals.now forward.new.pushed node.now }
+    ensures explains { Explains forward.old.instance seen.now.cites.items log.now.lines literals.now
+        forward.new.pushed node.now }
 {
     let mut failures = 0;
     for step in 0..literals.len() {
@@ -275,8 +286,9 @@ fn leave_out_of_dead(forward: &mut Forward, tag: Tag, literals: &[Literal], plac
     false
 }
 
-/// Takes out literals one by one, the last one first, but those without which the others are not dead at the tag, until
-/// `FAILURES` in a row could not be left out. None where the counts of the tag's level are not at hand.
+/// Takes out literals one by one, the last one first, but those without which the others are not
+/// dead at the tag, until `FAILURES` in a row could not be left out. None where the counts of the
+/// tag's level are not at hand.
 fn reduce_dead(forward: &mut Forward, tag: Tag, literals: &[Literal])
     requires valid { IsInstance forward.old.instance }
     requires tag { IsTagFor forward.old.instance tag }
@@ -318,7 +330,9 @@ pub fn add_dead(
     requires prefix { IsPrefix forward.old.instance forward.old.pushed }
     requires dead { Dead forward.old.instance (triple_from tag.code) forward.old.pushed }
     ensures front { forward.new ≡ forward.old }
-    ensures lined { (fewer : List SomeLiteral) × IsDeadPart forward.old.instance tag.code forward.old.pushed fewer × IsLined forward.old.instance fewer tag None [] log.old log.new result }
+    ensures lined { (fewer : List SomeLiteral)
+        × IsDeadPart forward.old.instance tag.code forward.old.pushed fewer
+        × IsLined forward.old.instance fewer tag None [] log.old log.new result }
 {
     scratch.literals.clear();
     scratch.literals.extend_from_slice(forward.pushed())?;
@@ -422,7 +436,10 @@ pub fn add_explained(
     requires prefix { IsPrefix forward.old.instance forward.old.pushed }
     requires closed { IsClosedBy forward.old.instance forward.old.pushed node }
     ensures front { forward.new ≡ forward.old }
-    ensures lined { (fewer : List SomeLiteral) × Explains forward.old.instance seen.now.cites.items log.old.lines forward.old.pushed fewer node × IsLined forward.old.instance fewer node.tag (Some node.path) node.refs log.old log.new result }
+    ensures lined { (fewer : List SomeLiteral)
+        × Explains forward.old.instance seen.now.cites.items log.old.lines forward.old.pushed fewer
+        node × IsLined forward.old.instance fewer node.tag (Some node.path) node.refs log.old
+        log.new result }
 {
     scratch.literals.clear();
     scratch.literals.extend_from_slice(forward.pushed())?;

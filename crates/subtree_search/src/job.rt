@@ -39,9 +39,11 @@ fn search_prefix<B: Bound, H: Shared>(
     requires serves { H.serves shared.old forward.old.instance }
     ensures bound { (was : B) → B.since was bound.old → B.since was bound.new }
     ensures shared { (was : H) → H.since was shared.old → H.since was shared.new }
-    ensures serves { (instance : Instance) → H.serves shared.old instance ↔ H.serves shared.new instance }
+    ensures serves { (instance : Instance) →
+        H.serves shared.old instance ↔ H.serves shared.new instance }
     ensures front { forward.new ≡ with_literals forward.old forward.new.pushed }
-    ensures lined { Lined forward.old.instance walk.old.level forward.old.pushed (world fuel.old (B.state bound.old) (H.state shared.old) log.old)
+    ensures lined { Lined forward.old.instance walk.old.level forward.old.pushed
+        (world fuel.old (B.state bound.old) (H.state shared.old) log.old)
         (world fuel.new (B.state bound.new) (H.state shared.new) log.new) result }
 {
     let alloc = walk.alloc;
@@ -58,12 +60,17 @@ fn finish<H: Shared>(
     shared: &mut H,
     log: &mut Log,
 ) -> Result<Outcome, NoMemory>
-    requires closing { (instance : Instance) × (level : ℕ) × (literals : List Literal) × (old : World) × (fuel : ℕ) × (bound : BoundState) × H.serves shared.old instance
-        × IsClosing instance level literals old (world fuel bound (H.state shared.old) log.old) from found }
+    requires closing { (instance : Instance) × (level : ℕ) × (literals : List Literal)
+        × (old : World) × (fuel : ℕ) × (bound : BoundState) × H.serves shared.old instance
+        × IsClosing instance level literals old (world fuel bound (H.state shared.old) log.old) from
+        found }
     ensures shared { (was : H) → H.since was shared.old → H.since was shared.new }
-    ensures serves { (instance : Instance) → H.serves shared.old instance ↔ H.serves shared.new instance }
-    ensures settled { (instance : Instance) (level : ℕ) (literals : List Literal) (old : World) (fuel : ℕ) (bound : BoundState) →
-        IsClosing instance level literals old (world fuel bound (H.state shared.old) log.old) from found →
+    ensures serves { (instance : Instance) →
+        H.serves shared.old instance ↔ H.serves shared.new instance }
+    ensures settled { (instance : Instance) (level : ℕ) (literals : List Literal) (old : World)
+        (fuel : ℕ) (bound : BoundState) →
+        IsClosing instance level literals old (world fuel bound (H.state shared.old) log.old) from
+        found →
         Settles instance level literals old (world fuel bound (H.state shared.new) log.new) result }
 {
     let found = match found {
@@ -96,13 +103,14 @@ fn finish<H: Shared>(
     }
 }
 
-/// Searches a job: each assignment that extends its prefix, at its level. `forward` has no literal before and after. It
-/// counts at the job's level after, and at the level that it had where `NoMemory` comes.
+/// Searches a job: each assignment that extends its prefix, at its level. `forward` has no literal
+/// before and after. It counts at the job's level after, and at the level that it had where
+/// `NoMemory` comes.
 ///
-/// Refuted names the line or row that settles the job, Moot what the bound told where it decided, Spent that the fuel did
-/// not suffice. `NoMemory` comes where room for the open nodes, for explanations, a line, the kept assignment or a segment
-/// could not be had.
-/// After Moot, Spent and `NoMemory` the log has no line of this job; fuel, bound, rows and the kept assignment stay.
+/// Refuted names the line or row that settles the job, Moot what the bound told where it decided,
+/// Spent that the fuel did not suffice. `NoMemory` comes where room for the open nodes, for
+/// explanations, a line, the kept assignment or a segment could not be had. After Moot, Spent and
+/// `NoMemory` the log has no line of this job; fuel, bound, rows and the kept assignment stay.
 pub fn settle<B: Bound, H: Shared>(
     alloc: Global,
     job: &Job,
@@ -118,10 +126,12 @@ pub fn settle<B: Bound, H: Shared>(
     requires serves { H.serves shared.old forward.old.instance }
     ensures bound { (was : B) → B.since was bound.old → B.since was bound.new }
     ensures shared { (was : H) → H.since was shared.old → H.since was shared.new }
-    ensures serves { (instance : Instance) → H.serves shared.old instance ↔ H.serves shared.new instance }
+    ensures serves { (instance : Instance) →
+        H.serves shared.old instance ↔ H.serves shared.new instance }
     ensures ok { OnOk result (forward.new ≡ at_level forward.old job.now.level) }
     ensures err { OnErr result (forward.new ≡ forward.old) }
-    ensures settles { Settles forward.old.instance job.now.level job.now.prefix (world fuel.old (B.state bound.old) (H.state shared.old) log.old)
+    ensures settles { Settles forward.old.instance job.now.level job.now.prefix
+        (world fuel.old (B.state bound.old) (H.state shared.old) log.old)
         (world fuel.new (B.state bound.new) (H.state shared.new) log.new) result }
 {
     let from = log.len();

@@ -74,7 +74,8 @@ fn fill(plan: &mut [u16], part: &Partial)
     }
 }
 
-/// Gives the assignment that is pushed to the log, offers its cost, and adds a Count line at that cost.
+/// Gives the assignment that is pushed to the log, offers its cost, and adds a Count line at that
+/// cost.
 pub fn conclude<B: Bound>(
     alloc: Global,
     scratch: &mut Scratch,
@@ -87,10 +88,13 @@ pub fn conclude<B: Bound>(
     requires room { length plan.old ≡ length forward.old.instance.paths }
     requires prefix { IsPrefix forward.old.instance forward.old.pushed }
     requires full { length (work_order forward.old.instance) ≤ length forward.old.pushed }
-    requires alive { (tag : SomeTag) × IsTagFor forward.old.instance tag × (tag.code ≤ (B.state bound.old).told) × (Dead forward.old.instance (triple_from tag.code) forward.old.pushed → ⊥) }
+    requires alive { (tag : SomeTag) × IsTagFor forward.old.instance tag
+        × (tag.code ≤ (B.state bound.old).told)
+        × (Dead forward.old.instance (triple_from tag.code) forward.old.pushed → ⊥) }
     ensures bound { (was : B) → B.since was bound.old → B.since was bound.new }
     ensures front { forward.new ≡ forward.old }
-    ensures concluded { IsConcluded forward.old.instance forward.old.pushed (B.state bound.old) (B.state bound.new) log.old log.new result }
+    ensures concluded { IsConcluded forward.old.instance forward.old.pushed (B.state bound.old)
+        (B.state bound.new) log.old log.new result }
 {
     fill(plan, forward.partial());
     let Some(triple) = cost(forward.tables().instance(), plan) else {

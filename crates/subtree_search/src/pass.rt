@@ -10,12 +10,13 @@ use forward_count::Forward;
 use search_log::{ChoiceRef, Log, Ref};
 use settle_laws::Node;
 
-/// Goes past the choices of a node that are seen not to be left, and those that a line of the search settles, as far as
-/// it is found: they need not be pushed.
+/// Goes past the choices of a node that are seen not to be left, and those that a line of the
+/// search settles, as far as it is found: they need not be pushed.
 pub fn pass_settled(node: &mut Node, forward: &Forward, recall: &Recall, log: &Log)
     requires asked { IsNodeToExplain forward.now.instance forward.now.pushed node.old }
     requires within { node.old.choice ≤ node.old.count }
-    ensures { Passes forward.now.instance recall.now.first forward.now.pushed log.now node.old node.new }
+    ensures { Passes forward.now.instance recall.now.first forward.now.pushed log.now node.old
+        node.new }
 {
     while node.choice < node.count {
         if !is_passed_by(node, forward, recall, log) {
@@ -28,7 +29,8 @@ pub fn pass_settled(node: &mut Node, forward: &Forward, recall: &Recall, log: &L
 fn is_passed_by(node: &mut Node, forward: &Forward, recall: &Recall, log: &Log) -> bool
     requires asked { IsNodeToExplain forward.now.instance forward.now.pushed node.old }
     requires more { node.old.choice < node.old.count }
-    ensures { IsPassedBy forward.now.instance recall.now.first forward.now.pushed log.now node.old node.new result }
+    ensures { IsPassedBy forward.now.instance recall.now.first forward.now.pushed log.now node.old
+        node.new result }
 {
     let path = node.path;
     let choice = node.choice as u16;

@@ -15,8 +15,8 @@ const LOOKS: u32 = 16;
 /// How many slots literals are spread over.
 const SLOTS: usize = 32_768;
 
-/// Where lines stand, by the literal that each was noted with. Which ones are found is a hint: a line that is found was
-/// looked at.
+/// Where lines stand, by the literal that each was noted with. Which ones are found is a hint: a
+/// line that is found was looked at.
 #[derive(Drop)]
 pub struct Recall {
     /// Where the lines of the search begin in the log.
@@ -44,9 +44,11 @@ impl Recall {
         self.chains.note(index, slot_of(literal));
     }
 
-    /// A line of the search with at least this tag, and with no literals but those that are pushed and this one.
+    /// A line of the search with at least this tag, and with no literals but those that are pushed
+    /// and this one.
     pub fn find(&self, log: &Log, forward: &Forward, tag: Tag, a: Literal) -> Option<u32>
-        ensures { IfSome result (λ place. IsRecalled log.now.lines self.now.first tag.code (forward.now.pushed ++ a ∷ []) place) }
+        ensures { IfSome result (λ place.
+            IsRecalled log.now.lines self.now.first tag.code (forward.now.pushed ++ a ∷ []) place) }
     {
         let mut next = self.chains.newest(slot_of(a));
         for _ in 0..LOOKS {
@@ -68,7 +70,8 @@ fn slot_of(a: Literal) -> usize {
     (a.path as usize * 613 + a.choice as usize) % SLOTS
 }
 
-/// Whether a line stands at a place that has at least this tag, and no literals but those that are pushed and this one.
+/// Whether a line stands at a place that has at least this tag, and no literals but those that are
+/// pushed and this one.
 fn says_of(log: &Log, place: u32, tag: Tag, forward: &Forward, a: Literal) -> bool
     ensures { IsTrue result → SaysOf log.now.lines tag.code (forward.now.pushed ++ a ∷ []) place }
 {

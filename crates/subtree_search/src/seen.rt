@@ -12,7 +12,8 @@ const LOOKS: u32 = 64;
 /// How many slots the rows' numbers are spread over.
 const SLOTS: usize = 1_024;
 
-/// Rows that look-ups gave, with their contents. Which ones are found is a hint: one that is found has the number.
+/// Rows that look-ups gave, with their contents. Which ones are found is a hint: one that is found
+/// has the number.
 #[derive(Drop)]
 pub struct SeenRows {
     pub cites: Vec<Cite>,
@@ -32,7 +33,8 @@ impl SeenRows {
 
     /// Notes a row that a look-up gave, where it isn't found and there is room.
     pub fn note(&mut self, cite: Cite)
-        ensures { (self.new.cites.items ≡ self.old.cites.items) ⊎ (self.new.cites.items ≡ self.old.cites.items ++ cite ∷ []) }
+        ensures { (self.new.cites.items ≡ self.old.cites.items)
+            ⊎ (self.new.cites.items ≡ self.old.cites.items ++ cite ∷ []) }
     {
         if self.find(cite.row).is_some() {
             return;

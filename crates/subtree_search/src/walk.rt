@@ -48,10 +48,12 @@ pub struct Walk {
 }
 
 impl Walk {
-    /// No node is open. Room is made for an assignment of so many paths, and for as many nodes. The lines of the search
-    /// begin at that place.
+    /// No node is open. Room is made for an assignment of so many paths, and for as many nodes. The
+    /// lines of the search begin at that place.
     pub fn new(alloc: Global, level: u32, paths: usize, first: u32) -> Result<Walk, NoMemory>
-        ensures { IfOk result (λ walk. (walk.level ≡ level) × (walk.nodes.items ≡ []) × (length walk.plan.items ≡ paths) × (walk.recall.first ≡ first) × (walk.seen.cites.items ≡ [])) }
+        ensures { IfOk result (λ walk. (walk.level ≡ level) × (walk.nodes.items ≡ [])
+            × (length walk.plan.items ≡ paths) × (walk.recall.first ≡ first)
+            × (walk.seen.cites.items ≡ [])) }
     {
         let nodes = Vec::with_capacity(alloc, paths)?;
         let plan = vec![in alloc; 0; paths]?;
@@ -70,7 +72,8 @@ impl Walk {
     }
 }
 
-/// Comes to the prefix that is pushed. Where it isn't settled at once, it is the innermost node from then on.
+/// Comes to the prefix that is pushed. Where it isn't settled at once, it is the innermost node
+/// from then on.
 fn visit<B: Bound, H: Shared>(
     walk: &mut Walk,
     forward: &mut Forward,
@@ -88,10 +91,14 @@ fn visit<B: Bound, H: Shared>(
     ensures level { walk.new.level ≡ walk.old.level }
     ensures first { walk.new.recall.first ≡ walk.old.recall.first }
     ensures shared { (was : H) → H.since was shared.old → H.since was shared.new }
-    ensures serves { (instance : Instance) → H.serves shared.old instance ↔ H.serves shared.new instance }
-    ensures held { AreCitesCopied (H.state shared.old).copied walk.old.seen.cites.items → AreCitesCopied (H.state shared.new).copied walk.new.seen.cites.items }
-    ensures visited { IsVisited forward.old.instance walk.old.level forward.old.pushed walk.old.nodes.items walk.new.nodes.items
-        (world fuel.old (B.state bound.old) (H.state shared.old) log.old) (world fuel.new (B.state bound.new) (H.state shared.new) log.new) result }
+    ensures serves { (instance : Instance) →
+        H.serves shared.old instance ↔ H.serves shared.new instance }
+    ensures held { AreCitesCopied (H.state shared.old).copied walk.old.seen.cites.items →
+        AreCitesCopied (H.state shared.new).copied walk.new.seen.cites.items }
+    ensures visited { IsVisited forward.old.instance walk.old.level forward.old.pushed
+        walk.old.nodes.items walk.new.nodes.items
+        (world fuel.old (B.state bound.old) (H.state shared.old) log.old)
+        (world fuel.new (B.state bound.new) (H.state shared.new) log.new) result }
 {
     let target = match enter(walk.level, forward, fuel, bound, shared) {
         Arrival::Decided(found) => return Ok(Some(found)),
@@ -139,8 +146,8 @@ fn visit<B: Bound, H: Shared>(
     Ok(None)
 }
 
-/// Tries the innermost node's next choice, or closes it with a line where none is left. None comes where a node more is
-/// open then.
+/// Tries the innermost node's next choice, or closes it with a line where none is left. None comes
+/// where a node more is open then.
 fn try_next<B: Bound, H: Shared>(
     walk: &mut Walk,
     forward: &mut Forward,
@@ -152,20 +159,28 @@ fn try_next<B: Bound, H: Shared>(
     requires ready { IsReady forward.old.instance walk.old }
     requires serves { H.serves shared.old forward.old.instance }
     requires held { AreCitesCopied (H.state shared.old).copied walk.old.seen.cites.items }
-    requires trying { (root : List Literal) × (from : World) × IsPrefix forward.old.instance root × BeginsAt walk.old from × IsTrying forward.old.instance walk.old.level root from walk.old.nodes.items forward.old.pushed
+    requires trying { (root : List Literal) × (from : World) × IsPrefix forward.old.instance root
+        × BeginsAt walk.old from × IsTrying forward.old.instance walk.old.level root from
+        walk.old.nodes.items forward.old.pushed
         (world fuel.old (B.state bound.old) (H.state shared.old) log.old) }
     ensures bound { (was : B) → B.since was bound.old → B.since was bound.new }
     ensures ready { IsReady forward.old.instance walk.new }
     ensures level { walk.new.level ≡ walk.old.level }
     ensures first { walk.new.recall.first ≡ walk.old.recall.first }
     ensures shared { (was : H) → H.since was shared.old → H.since was shared.new }
-    ensures serves { (instance : Instance) → H.serves shared.old instance ↔ H.serves shared.new instance }
+    ensures serves { (instance : Instance) →
+        H.serves shared.old instance ↔ H.serves shared.new instance }
     ensures front { forward.new ≡ with_literals forward.old forward.new.pushed }
     ensures held { AreCitesCopied (H.state shared.new).copied walk.new.seen.cites.items }
-    ensures advanced { (root : List Literal) (from : World) → IsPrefix forward.old.instance root → BeginsAt walk.old from → IsTrying forward.old.instance walk.old.level root from walk.old.nodes.items forward.old.pushed
-        (world fuel.old (B.state bound.old) (H.state shared.old) log.old) → IsAdvanced forward.old.instance walk.old.level root from walk.new.nodes.items forward.new.pushed
+    ensures advanced { (root : List Literal) (from : World) → IsPrefix forward.old.instance root →
+        BeginsAt walk.old from → IsTrying forward.old.instance walk.old.level root from
+        walk.old.nodes.items forward.old.pushed
+        (world fuel.old (B.state bound.old) (H.state shared.old) log.old) →
+        IsAdvanced forward.old.instance walk.old.level root from walk.new.nodes.items
+        forward.new.pushed
         (world fuel.new (B.state bound.new) (H.state shared.new) log.new) result }
-    ensures lighter { Lightens (work_left fuel.old walk.old.nodes.items) (work_left fuel.new walk.new.nodes.items) result }
+    ensures lighter { Lightens (work_left fuel.old walk.old.nodes.items)
+        (work_left fuel.new walk.new.nodes.items) result }
 {
     let Some(mut node) = walk.nodes.pop() else {
         unreachable!()
@@ -187,8 +202,8 @@ fn try_next<B: Bound, H: Shared>(
     visit(walk, forward, fuel, bound, shared, log)
 }
 
-/// Notes the line that was found with the last literal that is pushed: the line has it, where nodes that it doesn't name
-/// were left.
+/// Notes the line that was found with the last literal that is pushed: the line has it, where nodes
+/// that it doesn't name were left.
 fn remember(walk: &mut Walk, forward: &Forward, found: Found)
     ensures level { walk.new.level ≡ walk.old.level }
     ensures first { walk.new.recall.first ≡ walk.old.recall.first }
@@ -207,8 +222,8 @@ fn remember(walk: &mut Walk, forward: &Forward, found: Found)
     }
 }
 
-/// Where a row settles the choice of the innermost node that was tried and does not name its path, it settles the node:
-/// it is closed with a line on the row's literals.
+/// Where a row settles the choice of the innermost node that was tried and does not name its path,
+/// it settles the node: it is closed with a line on the row's literals.
 fn close_by_row(
     walk: &mut Walk,
     forward: &mut Forward,
@@ -216,15 +231,23 @@ fn close_by_row(
     log: &mut Log,
 ) -> Result<Found, NoMemory>
     requires ready { IsReady forward.old.instance walk.old }
-    requires coming { (root : List Literal) × (from : World) × (now : World) × IsPrefix forward.old.instance root × (now.log ≡ log.old) × ComesTo {E = AllocError} forward.old.instance walk.old.level root from walk.old.nodes.items forward.old.pushed now (Ok found) }
+    requires coming { (root : List Literal) × (from : World) × (now : World)
+        × IsPrefix forward.old.instance root × (now.log ≡ log.old)
+        × ComesTo {E = AllocError} forward.old.instance walk.old.level root from
+        walk.old.nodes.items forward.old.pushed now (Ok found) }
     ensures ready { IsReady forward.old.instance walk.new }
     ensures level { walk.new.level ≡ walk.old.level }
     ensures first { walk.new.recall.first ≡ walk.old.recall.first }
     ensures seen { walk.new.seen ≡ walk.old.seen }
     ensures front { forward.new ≡ with_literals forward.old forward.new.pushed }
-    ensures comes { (root : List Literal) (from now : World) → IsPrefix forward.old.instance root → now.log ≡ log.old → AreContents now.shared.copied walk.old.seen.cites.items → ComesTo {E = AllocError} forward.old.instance walk.old.level root from walk.old.nodes.items forward.old.pushed now (Ok found) →
-        ComesTo forward.old.instance walk.old.level root from walk.new.nodes.items forward.new.pushed (world now.fuel now.bound now.shared log.new) result }
-    ensures lighter { (fuel : ℕ) → work_left fuel walk.new.nodes.items ≤ work_left fuel walk.old.nodes.items }
+    ensures comes { (root : List Literal) (from now : World) → IsPrefix forward.old.instance root →
+        now.log ≡ log.old → AreContents now.shared.copied walk.old.seen.cites.items →
+        ComesTo {E = AllocError} forward.old.instance walk.old.level root from walk.old.nodes.items
+        forward.old.pushed now (Ok found) →
+        ComesTo forward.old.instance walk.old.level root from walk.new.nodes.items
+        forward.new.pushed (world now.fuel now.bound now.shared log.new) result }
+    ensures lighter { (fuel : ℕ) → work_left fuel walk.new.nodes.items
+        ≤ work_left fuel walk.old.nodes.items }
 {
     let Found::Settled { line, tag } = found else {
         return Ok(found);
@@ -246,18 +269,26 @@ fn close_by_row(
     add_by_row(walk.alloc, cite, tag, node.path, node.count, log)
 }
 
-/// Leaves the innermost nodes whose paths the line doesn't name that settles their choices: it settles them too.
+/// Leaves the innermost nodes whose paths the line doesn't name that settles their choices: it
+/// settles them too.
 fn jump(walk: &mut Walk, forward: &mut Forward, found: Found, log: &Log)
     requires ready { IsReady forward.old.instance walk.old }
-    requires coming { (root : List Literal) × (from : World) × (now : World) × IsPrefix forward.old.instance root × (now.log ≡ log.now) × ComesTo {E = AllocError} forward.old.instance walk.old.level root from walk.old.nodes.items forward.old.pushed now (Ok found) }
+    requires coming { (root : List Literal) × (from : World) × (now : World)
+        × IsPrefix forward.old.instance root × (now.log ≡ log.now)
+        × ComesTo {E = AllocError} forward.old.instance walk.old.level root from
+        walk.old.nodes.items forward.old.pushed now (Ok found) }
     ensures ready { IsReady forward.old.instance walk.new }
     ensures level { walk.new.level ≡ walk.old.level }
     ensures first { walk.new.recall.first ≡ walk.old.recall.first }
     ensures seen { walk.new.seen ≡ walk.old.seen }
     ensures front { forward.new ≡ with_literals forward.old forward.new.pushed }
-    ensures comes { (root : List Literal) (from now : World) → IsPrefix forward.old.instance root → now.log ≡ log.now → ComesTo {E = AllocError} forward.old.instance walk.old.level root from walk.old.nodes.items forward.old.pushed now (Ok found) →
-        ComesTo {E = AllocError} forward.old.instance walk.old.level root from walk.new.nodes.items forward.new.pushed now (Ok found) }
-    ensures lighter { (fuel : ℕ) → work_left fuel walk.new.nodes.items ≤ work_left fuel walk.old.nodes.items }
+    ensures comes { (root : List Literal) (from now : World) → IsPrefix forward.old.instance root →
+        now.log ≡ log.now → ComesTo {E = AllocError} forward.old.instance walk.old.level root from
+        walk.old.nodes.items forward.old.pushed now (Ok found) →
+        ComesTo {E = AllocError} forward.old.instance walk.old.level root from walk.new.nodes.items
+        forward.new.pushed now (Ok found) }
+    ensures lighter { (fuel : ℕ) → work_left fuel walk.new.nodes.items
+        ≤ work_left fuel walk.old.nodes.items }
 {
     let Found::Settled { line, .. } = found else {
         return;
@@ -276,7 +307,8 @@ fn jump(walk: &mut Walk, forward: &mut Forward, found: Found, log: &Log)
 
 /// Whether there is an innermost node and some literals don't name its path.
 fn is_passed(nodes: &[Node], literals: &[Literal]) -> bool
-    ensures { IsTrue result → (outer : List Node) × (node : Node) × (nodes.now ≡ outer ++ node ∷ []) × (names literals.now node.path ≡ false) }
+    ensures { IsTrue result → (outer : List Node) × (node : Node) × (nodes.now ≡ outer ++ node ∷ [])
+        × (names literals.now node.path ≡ false) }
 {
     match nodes.last() {
         Some(node) => !names_path(literals, node.path),
@@ -284,8 +316,8 @@ fn is_passed(nodes: &[Node], literals: &[Literal]) -> bool
     }
 }
 
-/// Tries the innermost node's next choice or closes it, and leaves the nodes that what was found settles as well. None
-/// comes where a node more is open then.
+/// Tries the innermost node's next choice or closes it, and leaves the nodes that what was found
+/// settles as well. None comes where a node more is open then.
 fn advance<B: Bound, H: Shared>(
     walk: &mut Walk,
     forward: &mut Forward,
@@ -297,20 +329,28 @@ fn advance<B: Bound, H: Shared>(
     requires ready { IsReady forward.old.instance walk.old }
     requires serves { H.serves shared.old forward.old.instance }
     requires held { AreCitesCopied (H.state shared.old).copied walk.old.seen.cites.items }
-    requires trying { (root : List Literal) × (from : World) × IsPrefix forward.old.instance root × BeginsAt walk.old from × IsTrying forward.old.instance walk.old.level root from walk.old.nodes.items forward.old.pushed
+    requires trying { (root : List Literal) × (from : World) × IsPrefix forward.old.instance root
+        × BeginsAt walk.old from × IsTrying forward.old.instance walk.old.level root from
+        walk.old.nodes.items forward.old.pushed
         (world fuel.old (B.state bound.old) (H.state shared.old) log.old) }
     ensures bound { (was : B) → B.since was bound.old → B.since was bound.new }
     ensures ready { IsReady forward.old.instance walk.new }
     ensures level { walk.new.level ≡ walk.old.level }
     ensures first { walk.new.recall.first ≡ walk.old.recall.first }
     ensures shared { (was : H) → H.since was shared.old → H.since was shared.new }
-    ensures serves { (instance : Instance) → H.serves shared.old instance ↔ H.serves shared.new instance }
+    ensures serves { (instance : Instance) →
+        H.serves shared.old instance ↔ H.serves shared.new instance }
     ensures front { forward.new ≡ with_literals forward.old forward.new.pushed }
     ensures held { AreCitesCopied (H.state shared.new).copied walk.new.seen.cites.items }
-    ensures advanced { (root : List Literal) (from : World) → IsPrefix forward.old.instance root → BeginsAt walk.old from → IsTrying forward.old.instance walk.old.level root from walk.old.nodes.items forward.old.pushed
-        (world fuel.old (B.state bound.old) (H.state shared.old) log.old) → IsAdvanced forward.old.instance walk.old.level root from walk.new.nodes.items forward.new.pushed
+    ensures advanced { (root : List Literal) (from : World) → IsPrefix forward.old.instance root →
+        BeginsAt walk.old from → IsTrying forward.old.instance walk.old.level root from
+        walk.old.nodes.items forward.old.pushed
+        (world fuel.old (B.state bound.old) (H.state shared.old) log.old) →
+        IsAdvanced forward.old.instance walk.old.level root from walk.new.nodes.items
+        forward.new.pushed
         (world fuel.new (B.state bound.new) (H.state shared.new) log.new) result }
-    ensures lighter { Lightens (work_left fuel.old walk.old.nodes.items) (work_left fuel.new walk.new.nodes.items) result }
+    ensures lighter { Lightens (work_left fuel.old walk.old.nodes.items)
+        (work_left fuel.new walk.new.nodes.items) result }
 {
     let Some(found) = try_next(walk, forward, fuel, bound, shared, log)? else {
         return Ok(None);
@@ -321,18 +361,24 @@ fn advance<B: Bound, H: Shared>(
     Ok(Some(settled))
 }
 
-/// Notes what was found of the choice that was tried at the innermost node. Where no node is open, or the search is
-/// over, it is handed back.
+/// Notes what was found of the choice that was tried at the innermost node. Where no node is open,
+/// or the search is over, it is handed back.
 fn note(walk: &mut Walk, forward: &mut Forward, found: Found) -> Result<Option<Found>, NoMemory>
     requires ready { IsReady forward.old.instance walk.old }
-    requires coming { (root : List Literal) × (from : World) × (now : World) × IsPrefix forward.old.instance root × ComesTo {E = AllocError} forward.old.instance walk.old.level root from walk.old.nodes.items forward.old.pushed now (Ok found) }
+    requires coming { (root : List Literal) × (from : World) × (now : World)
+        × IsPrefix forward.old.instance root
+        × ComesTo {E = AllocError} forward.old.instance walk.old.level root from
+        walk.old.nodes.items forward.old.pushed now (Ok found) }
     ensures ready { IsReady forward.old.instance walk.new }
     ensures level { walk.new.level ≡ walk.old.level }
     ensures first { walk.new.recall.first ≡ walk.old.recall.first }
     ensures seen { walk.new.seen ≡ walk.old.seen }
     ensures front { forward.new ≡ with_literals forward.old forward.new.pushed }
-    ensures noted { (root : List Literal) (from now : World) → IsPrefix forward.old.instance root → ComesTo {E = AllocError} forward.old.instance walk.old.level root from walk.old.nodes.items forward.old.pushed now (Ok found) →
-        IsNoted forward.old.instance walk.old.level root from walk.new.nodes.items forward.new.pushed now result }
+    ensures noted { (root : List Literal) (from now : World) → IsPrefix forward.old.instance root →
+        ComesTo {E = AllocError} forward.old.instance walk.old.level root from walk.old.nodes.items
+        forward.old.pushed now (Ok found) →
+        IsNoted forward.old.instance walk.old.level root from walk.new.nodes.items
+        forward.new.pushed now result }
     ensures lighter { NotesLess walk.old.nodes.items walk.new.nodes.items result }
 {
     let Some(mut node) = walk.nodes.pop() else {
@@ -346,8 +392,8 @@ fn note(walk: &mut Walk, forward: &mut Forward, found: Found) -> Result<Option<F
     Ok(None)
 }
 
-/// Searches the prefix that is pushed: its choices, theirs, and so on. The nodes that are open stand in a vector, so it
-/// takes the same stack whatever the number of paths.
+/// Searches the prefix that is pushed: its choices, theirs, and so on. The nodes that are open
+/// stand in a vector, so it takes the same stack whatever the number of paths.
 pub fn explore<B: Bound, H: Shared>(
     walk: &mut Walk,
     forward: &mut Forward,
@@ -364,10 +410,12 @@ pub fn explore<B: Bound, H: Shared>(
     requires serves { H.serves shared.old forward.old.instance }
     ensures bound { (was : B) → B.since was bound.old → B.since was bound.new }
     ensures shared { (was : H) → H.since was shared.old → H.since was shared.new }
-    ensures serves { (instance : Instance) → H.serves shared.old instance ↔ H.serves shared.new instance }
+    ensures serves { (instance : Instance) →
+        H.serves shared.old instance ↔ H.serves shared.new instance }
     ensures front { forward.new ≡ with_literals forward.old forward.new.pushed }
     ensures back { IfOk result (λ found. IsBack found forward.old.pushed forward.new.pushed) }
-    ensures searched { Searched forward.old.instance walk.old.level forward.old.pushed (world fuel.old (B.state bound.old) (H.state shared.old) log.old)
+    ensures searched { Searched forward.old.instance walk.old.level forward.old.pushed
+        (world fuel.old (B.state bound.old) (H.state shared.old) log.old)
         (world fuel.new (B.state bound.new) (H.state shared.new) log.new) result }
 {
     if let Some(found) = visit(walk, forward, fuel, bound, shared, log)? {

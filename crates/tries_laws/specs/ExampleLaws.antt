@@ -27,8 +27,8 @@ pub record ThreeAlikeJobs : Type 0 where
   pub level : job_level three_alike 0 ≡ 11
   pub prefix : job_prefix three_alike 64 0 ≡ literal 0 0 ∷ literal 1 0 ∷ literal 2 0 ∷ []
 
--- Where one way to choose must be enough, no path is chosen beforehand. Two paths at level 0 take three tries: no choice, the
--- second choice of the first path, and both choices.
+-- Where one way to choose must be enough, no path is chosen beforehand. Two paths at level 0 take
+-- three tries: no choice, the second choice of the first path, and both choices.
 pub record TwoPathsTries : Type 0 where
   pub depth : depth two_paths 1 ≡ 0
   pub prefix : job_prefix two_paths 1 11 ≡ []
@@ -42,10 +42,14 @@ pub record IsWithoutRecords (instance : Instance) : Type 0 where
 
 -- They are tried path by path.
 abbrev pub FreeTries : Type 0
-FreeTries = (instance : Instance) (level : ℕ) (prefix : List Literal) → IsWithoutRecords instance → IsPrefix instance prefix →
+FreeTries =
+    (instance : Instance) (level : ℕ) (prefix : List Literal) → IsWithoutRecords instance →
+    IsPrefix instance prefix →
     IsTries instance (target level) prefix (length instance.paths - length prefix + 1)
 
 -- The most paths that an instance has take 8,129 tries in each job.
 abbrev pub MostPathsTries : Type 0
-MostPathsTries = (instance : Instance) (id : ℕ) → IsWithoutRecords instance → length instance.paths ≡ 8192 → id < job_count instance 64 →
+MostPathsTries =
+    (instance : Instance) (id : ℕ) → IsWithoutRecords instance → length instance.paths ≡ 8192 →
+    id < job_count instance 64 →
     IsTries instance (target (job_level instance id)) (job_prefix instance 64 id) 8129

@@ -33,7 +33,8 @@ pub(super) struct Found {
 fn root_of(arcs: &ArcTable, old: &[Line]) -> Tag
     requires { AreOld arcs.now old.now }
     ensures tag { IsTagFor arcs.now result }
-    ensures code { (root : ℕ) × IsRootTag arcs.now (triple_from root) × (result.code ≡ max root (old_root old.now)) }
+    ensures code { (root : ℕ) × IsRootTag arcs.now (triple_from root)
+        × (result.code ≡ max root (old_root old.now)) }
 {
     let root = arcs.root_tag();
     match root_tag(old) {
@@ -42,7 +43,8 @@ fn root_of(arcs: &ArcTable, old: &[Line]) -> Tag
     }
 }
 
-/// Solves on from what old lines of these numbers, from 1, say, and from an assignment to begin with.
+/// Solves on from what old lines of these numbers, from 1, say, and from an assignment to begin
+/// with.
 pub(super) fn gone_on<R: Threads + Sync>(
     rt: &R,
     alloc: Global,

@@ -30,8 +30,8 @@ const FALLING_BEST: &str = "AL 1 10 1\nAL 2 20 1\n--\nBEST 5 1 4\n";
 const FREE_BEST: &str =
     "AL 1 10 1\nAL 2 10 -1\n--\nBEST 0 0 0\nC 0 0 0 1 0 0 0\nC 0 0 0 0 0\nEND\n";
 
-/// What is found from the first so many lines of an answer, of which those of these numbers stand as rows, and from an
-/// assignment to begin with. With this head, the certificate is accepted.
+/// What is found from the first so many lines of an answer, of which those of these numbers stand
+/// as rows, and from an assignment to begin with. With this head, the certificate is accepted.
 fn found_from<R: Threads + Sync>(
     rt: &R,
     alloc: Global,
@@ -128,7 +128,8 @@ fn a_least_start_is_kept(rt: HostRuntime) -> Result<(), Fail> {
     Ok(())
 }
 
-// Two old lines stand as rows, of which the second is a root line: it settles the jobs of the levels below 5, the last ones.
+// Two old lines stand as rows, of which the second is a root line: it settles the jobs of the
+// levels below 5, the last ones.
 #[test]
 fn a_better_plan_than_the_start_is_found(rt: HostRuntime) -> Result<(), Fail> {
     assert!(rt; FALLING.len() <= 1000);

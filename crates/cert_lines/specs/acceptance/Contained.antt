@@ -16,7 +16,8 @@ has literals a = list_any (λ b. is_same b a) literals
 abbrev pub has_all : List Literal → List Literal → Bool
 has_all literals cited = list_all (has literals) cited
 
--- a list has each literal of another but at most one, and that one is of a path that it doesn't name
+-- a list has each literal of another but at most one, and that one is of a path that it doesn't
+-- name
 abbrev pub has_all_but_one : List Literal → List Literal → Bool
 has_all_but_one literals cited = list_all (λ a. has literals a || not (names literals a.path)) cited
     && nat_le (count_by (λ a. not (has literals a)) cited) 1

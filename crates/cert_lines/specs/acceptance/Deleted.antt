@@ -28,7 +28,8 @@ is_kept lines n line = not (is_delete line.rule) && not (is_deleted lines n)
 abbrev pub kept_from : List Line → ℕ → List Line → List Line
 kept_from lines n [] = []
 kept_from lines n (line ∷ more) =
-    if is_kept lines n line then (line ∷ kept_from lines (n + 1) more) else kept_from lines (n + 1) more
+    if is_kept lines n line then (line ∷ kept_from lines (n + 1) more)
+    else kept_from lines (n + 1) more
 
 -- the Count and Branch lines that no line deletes, in their order
 unfoldable pub kept : List Line → List Line

@@ -24,12 +24,15 @@ is_only a (b ∷ c ∷ more) = false
 
 -- a line of this one literal has at least the tag
 abbrev pub is_marked : List Line → Tag → Literal → Bool
-is_marked earlier t a = list_any (λ line. is_only a line.lits && nat_le t.code line.tag.code) earlier
+is_marked earlier t a =
+    list_any (λ line. is_only a line.lits && nat_le t.code line.tag.code) earlier
 
 -- a cited line's literals are all among the literals and this one
 abbrev pub is_cited : List Line → List ℕ → List Literal → Literal → Bool
-is_cited earlier cites literals a = list_any (λ n. has_all (a ∷ literals) (line_at earlier n).lits) cites
+is_cited earlier cites literals a =
+    list_any (λ n. has_all (a ∷ literals) (line_at earlier n).lits) cites
 
 -- a choice is excluded by an earlier line of one literal that is kept, or by a cited one
 abbrev pub is_excluded : List Line → Tag → List ℕ → List Literal → Literal → Bool
-is_excluded earlier t cites literals a = is_marked (kept earlier) t a || is_cited earlier cites literals a
+is_excluded earlier t cites literals a =
+    is_marked (kept earlier) t a || is_cited earlier cites literals a

@@ -1,4 +1,5 @@
--- The test of a partial assignment: whether it is dead by the cases, where a test says what is excluded.
+-- The test of a partial assignment: whether it is dead by the cases, where a test says what is
+-- excluded.
 use Rattle.std.specs.Prelude.{ℕ, Bool, not, ◌&&◌, ◌||◌, ◌==◌, nat_lt, nat_le, List, length, fold, Option, Some, None, is_none, if◌then◌else◌}
 use Rattle.std.specs.List.{list_any, range_with_len}
 use Rattle.fapp_model.specs.declared.instance.Instance.{Instance}
@@ -25,9 +26,11 @@ lesser (Some p) q = if is_pair_at_most p q then p else q
 
 -- a choice is not excluded, and has no hard-bad record between it and the literals
 abbrev pub remains : (Literal → Bool) → Instance → ℕ → List Literal → Literal → Bool
-remains excluded instance level literals a = not (excluded a) && not (clashes_with instance level literals a)
+remains excluded instance level literals a =
+    not (excluded a) && not (clashes_with instance level literals a)
 
--- the least pair that a remaining choice of a path adds, found choice by choice; none where no choice remains
+-- the least pair that a remaining choice of a path adds, found choice by choice; none where no
+-- choice remains
 abbrev pub with_choice : (Literal → Bool) → Instance → ℕ → List Literal → ℕ → Option Pair → ℕ →
     Option Pair
 with_choice excluded instance level literals path found index =
@@ -37,7 +40,8 @@ with_choice excluded instance level literals path found index =
 
 unfoldable pub least_pair : (Literal → Bool) → Instance → ℕ → List Literal → ℕ → Option Pair
 least_pair excluded instance level literals path =
-    fold (with_choice excluded instance level literals path) None (range_with_len 0 (count_at instance path))
+    fold (with_choice excluded instance level literals path) None
+    (range_with_len 0 (count_at instance path))
 
 abbrev pub or_no_pair : Option Pair → Pair
 or_no_pair None = no_pair
@@ -61,5 +65,6 @@ is_over excluded instance t literals = has_limit t && is_pair_at_most (limit_of 
 unfoldable pub judged_dead : (Literal → Bool) → Instance → Triple → List Literal → Bool
 judged_dead excluded instance t literals =
     has_clash instance (mode_level t) literals || (list_any excluded literals
-    || (list_any (is_stuck excluded instance (mode_level t) literals) (range_with_len 0 (length instance.paths))
+    || (list_any (is_stuck excluded instance (mode_level t) literals)
+    (range_with_len 0 (length instance.paths))
     || is_over excluded instance t literals))

@@ -54,9 +54,11 @@ child_fault earlier t literals path child =
 -- a choice has a child, or the literals with it are judged dead without cites
 abbrev pub is_settled : Instance → List Line → Tag → List Literal → ℕ → List Child → ℕ → Bool
 is_settled instance earlier t literals path children index =
-    list_any (λ child. child.choice == index) children || is_dead instance earlier t [] (literal path index ∷ literals)
+    list_any (λ child. child.choice == index) children
+    || is_dead instance earlier t [] (literal path index ∷ literals)
 
-abbrev pub branch_fault : Instance → List Line → Tag → List Literal → ℕ → List Child → Option RejectCause
+abbrev pub branch_fault : Instance → List Line → Tag → List Literal → ℕ → List Child →
+    Option RejectCause
 branch_fault instance earlier t literals path children =
     option_or (cause_unless (not (names literals path)) WrongPath)
     (option_or (first_of (child_fault earlier t literals path) children)
@@ -72,7 +74,8 @@ delete_fault earlier n =
 -- the fault of a Count or Branch line above (0, 0, 0); a Delete line has none here
 abbrev pub rule_fault : Instance → List Line → Tag → List Literal → Rule → Option RejectCause
 rule_fault instance earlier t literals (Count cites) = count_fault instance earlier t literals cites
-rule_fault instance earlier t literals (Branch path children) = branch_fault instance earlier t literals path children
+rule_fault instance earlier t literals (Branch path children) =
+    branch_fault instance earlier t literals path children
 rule_fault instance earlier t literals (Delete cites) = None
 
 -- what a Delete line says has to be so; another line of the tag (0, 0, 0) has no fault
@@ -86,7 +89,8 @@ rejected_at n cause = record { line = n; cause = cause }
 
 -- the first fault of the line behind the first n ones, judged from these alone
 abbrev pub fault_at : Instance → List Line → ℕ → Option Rejected
-fault_at instance lines n = option_map (rejected_at (n + 1)) (line_fault instance (take n lines) (line_at lines (n + 1)))
+fault_at instance lines n =
+    option_map (rejected_at (n + 1)) (line_fault instance (take n lines) (line_at lines (n + 1)))
 
 -- that line is good
 abbrev pub IsGoodLine : Instance → List Line → ℕ → Type 0

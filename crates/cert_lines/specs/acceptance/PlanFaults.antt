@@ -37,11 +37,13 @@ shown_at shown position = slice_index_or shown position no_choice
 
 -- the indices of a shown plan's choices
 unfoldable pub indices : Instance → List Choice → List ℕ
-indices instance shown = map (λ position. index_in (path_at instance position) (shown_at shown position))
+indices instance shown =
+    map (λ position. index_in (path_at instance position) (shown_at shown position))
     (range_with_len 0 (length instance.paths))
 
 abbrev pub all_offered : Instance → List Choice → Bool
-all_offered instance shown = list_all (λ position. is_offered (path_at instance position) (shown_at shown position))
+all_offered instance shown =
+    list_all (λ position. is_offered (path_at instance position) (shown_at shown position))
     (range_with_len 0 (length instance.paths))
 
 abbrev pub cost_fault : Triple → Triple → Option RejectCause
@@ -59,7 +61,8 @@ shown_fault instance shown claimed =
 abbrev pub demanded : Instance → Verdict → Option Triple
 demanded instance (Best t) = Some t
 demanded instance NoneFeasible = None
-demanded instance (Open best lower level prefix) = if is_same_triple best (top_tag instance) then None else Some best
+demanded instance (Open best lower level prefix) =
+    if is_same_triple best (top_tag instance) then None else Some best
 
 abbrev pub shown_fault_by : Instance → List Choice → Option Triple → Option RejectCause
 shown_fault_by instance shown None = cause_unless (length shown == 0) AssignmentLength

@@ -44,7 +44,9 @@ verdict_tag instance (Open best lower level prefix) = lower
 
 abbrev pub root_fault_by : Tag → Option Tag → Option RejectCause
 root_fault_by claimed None = Some NoRootLine
-root_fault_by claimed (Some found) = cause_unless (nat_le claimed.code found.code) (RootTagTooLow claimed found)
+root_fault_by claimed (Some found) =
+    cause_unless (nat_le claimed.code found.code) (RootTagTooLow claimed found)
 
 unfoldable pub root_fault : Instance → Verdict → List Line → Option RejectCause
-root_fault instance verdict lines = root_fault_by (verdict_tag instance verdict) (root_tag (kept lines))
+root_fault instance verdict lines =
+    root_fault_by (verdict_tag instance verdict) (root_tag (kept lines))

@@ -14,16 +14,19 @@ joins first second r = (first_path r == first) && (second_path r == second)
 
 -- some record names both paths
 abbrev pub shares_record : Instance → ℕ → ℕ → Bool
-shares_record instance path other = list_any (λ r. joins path other r || joins other path r) instance.records
+shares_record instance path other =
+    list_any (λ r. joins path other r || joins other path r) instance.records
 
--- hard-bad at a level: an imperative record that is broken, or a compatibility record that is bad there
+-- hard-bad at a level: an imperative record that is broken, or a compatibility record that is bad
+-- there
 abbrev pub is_hard_bad : ℕ → Record → Choice → Choice → Bool
 is_hard_bad level r a b = is_broken r a b || is_bad level r a b
 
 -- some record that names the first literal's path first is hard-bad between the two
 abbrev pub blocks : Instance → ℕ → Literal → Literal → Bool
 blocks instance level a b =
-    list_any (λ r. joins a.path b.path r && is_hard_bad level r (choice_of instance a) (choice_of instance b)) instance.records
+    list_any (λ r. joins a.path b.path r && is_hard_bad level r (choice_of instance a)
+    (choice_of instance b)) instance.records
 
 -- some record is hard-bad between two literals
 abbrev pub clashes : Instance → ℕ → Literal → Literal → Bool

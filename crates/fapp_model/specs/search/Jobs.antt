@@ -19,10 +19,12 @@ abbrev pub greatest_to : (ℕ → Bool) → ℕ → ℕ
 greatest_to test zero = 0
 greatest_to test (suc n) = if test (suc n) then suc n else greatest_to test n
 
--- how many paths a job's prefix names: the most, up to MAX_DEPTH, that have together at most so many ways to choose
+-- how many paths a job's prefix names: the most, up to MAX_DEPTH, that have together at most so
+-- many ways to choose
 unfoldable pub depth : Instance → ℕ → ℕ
 depth instance split =
-    greatest_to (λ d. nat_le (ways instance (take d (work_order instance))) split) (min MAX_DEPTH (length instance.paths))
+    greatest_to (λ d. nat_le (ways instance (take d (work_order instance))) split)
+    (min MAX_DEPTH (length instance.paths))
 
 -- the prefixes of that length, as their choices' indices order them
 abbrev pub prefixes : Instance → ℕ → List (List Literal)
@@ -48,4 +50,5 @@ abbrev pub job_level : Instance → ℕ → ℕ
 job_level instance id = levels_of instance - id % (levels_of instance + 1)
 
 abbrev pub job_prefix : Instance → ℕ → ℕ → List Literal
-job_prefix instance split id = slice_index_or (prefixes instance split) (id / (levels_of instance + 1)) []
+job_prefix instance split id =
+    slice_index_or (prefixes instance split) (id / (levels_of instance + 1)) []

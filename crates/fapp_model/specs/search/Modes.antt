@@ -9,9 +9,14 @@ use Rattle.fapp_model.specs.Tags.{has_limit, mode_level}
 -- a plan's violations one level below a level, and their sum further below
 abbrev pub pair_below : Instance → List ℕ → ℕ → Pair
 pair_below instance plan level =
-    record { v = violations instance plan (level - 1); s = sum_under (violations instance plan) (level - 1) }
+    record {
+      v = violations instance plan (level - 1);
+      s = sum_under (violations instance plan) (level - 1);
+    }
 
--- no violation at the tag's level, and where the tag has a limit the violations further below stay below it
+-- no violation at the tag's level, and where the tag has a limit the violations further below stay
+-- below it
 pub record IsWithin (instance : Instance) (t : Triple) (plan : List ℕ) : Type 0 where
   pub clear : violations instance plan (mode_level t) ≡ 0
-  pub limited : IsTrue (has_limit t) → IsPairBelow (pair_below instance plan (mode_level t)) (limit_of t)
+  pub limited : IsTrue (has_limit t) → IsPairBelow (pair_below instance plan (mode_level t))
+      (limit_of t)

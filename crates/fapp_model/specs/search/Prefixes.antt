@@ -24,9 +24,12 @@ GoesOn start literals = (more : List Literal) × (literals ≡ start ++ more)
 
 -- the lists that one choice of a path and each of some lists make, by the choices' indices
 abbrev pub one_more : Instance → ℕ → List (List Literal) → List (List Literal)
-one_more instance path lists = flat_map (λ index. map (λ more. literal path index ∷ more) lists) (range_with_len 0 (count_at instance path))
+one_more instance path lists =
+    flat_map (λ index. map (λ more. literal path index ∷ more) lists)
+    (range_with_len 0 (count_at instance path))
 
--- all lists of choices of the first few of some paths: that of none, and those that begin with each choice of the first
+-- all lists of choices of the first few of some paths: that of none, and those that begin with each
+-- choice of the first
 abbrev pub lists_along : Instance → List ℕ → List (List Literal)
 lists_along instance [] = [] ∷ []
 lists_along instance (path ∷ paths) = [] ∷ one_more instance path (lists_along instance paths)
@@ -45,4 +48,5 @@ choice_lists instance (path ∷ paths) = one_more instance path (choice_lists in
 abbrev pub IsListBefore : List Literal → List Literal → Type 0
 IsListBefore [] more = ⊥
 IsListBefore (a ∷ more) [] = ⊥
-IsListBefore (a ∷ more) (b ∷ others) = (a.choice < b.choice) ⊎ ((a.choice ≡ b.choice) × IsListBefore more others)
+IsListBefore (a ∷ more) (b ∷ others) =
+    (a.choice < b.choice) ⊎ ((a.choice ≡ b.choice) × IsListBefore more others)

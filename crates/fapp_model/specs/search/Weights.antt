@@ -18,32 +18,43 @@ bad_before level r a b = if is_bad (level - 1) r a b then 1 else 0
 abbrev pub bad_further : ℕ → Record → Choice → Choice → ℕ
 bad_further level r a b = count_by (λ m. is_bad m r a b) (range_with_len 0 (level - 1))
 
--- the sum of a measure over the records that name the first literal's path first and the second's second
+-- the sum of a measure over the records that name the first literal's path first and the second's
+-- second
 abbrev pub between : Instance → (Record → Choice → Choice → ℕ) → Literal → Literal → ℕ
 between instance measure a b =
-    sum_by (λ r. if joins a.path b.path r then measure r (choice_of instance a) (choice_of instance b) else 0) instance.records
+    sum_by (λ r. if joins a.path b.path r
+    then measure r (choice_of instance a) (choice_of instance b) else 0) instance.records
 
 -- over the records between a literal and those of a list
 abbrev pub added : Instance → (Record → Choice → Choice → ℕ) → List Literal → Literal → ℕ
-added instance measure literals a = sum_by (λ b. between instance measure a b + between instance measure b a) literals
+added instance measure literals a =
+    sum_by (λ b. between instance measure a b + between instance measure b a) literals
 
 -- over the records between two literals of a list
 abbrev pub inside : Instance → (Record → Choice → Choice → ℕ) → List Literal → ℕ
-inside instance measure literals = sum_by (λ a. sum_by (λ b. between instance measure a b) literals) literals
+inside instance measure literals =
+    sum_by (λ a. sum_by (λ b. between instance measure a b) literals) literals
 
 -- the sum of a number for each path that no literal names
 abbrev pub over_open : Instance → List Literal → (ℕ → ℕ) → ℕ
 over_open instance literals f =
-    sum_by (λ path. if names literals path then 0 else f path) (range_with_len 0 (length instance.paths))
+    sum_by (λ path. if names literals path then 0 else f path)
+    (range_with_len 0 (length instance.paths))
 
 -- the pair that a literal adds against a list
 abbrev pub added_pair : Instance → ℕ → List Literal → Literal → Pair
 added_pair instance level literals a =
-    record { v = added instance (bad_before level) literals a; s = added instance (bad_further level) literals a }
+    record {
+      v = added instance (bad_before level) literals a;
+      s = added instance (bad_further level) literals a;
+    }
 
--- the pairs of the records between the literals, and one more pair for each path that they do not name
+-- the pairs of the records between the literals, and one more pair for each path that they do not
+-- name
 abbrev pub pair_with : Instance → ℕ → List Literal → (ℕ → Pair) → Pair
 pair_with instance level literals least = record {
-  v = inside instance (bad_before level) literals + over_open instance literals (λ path. (least path).v);
-  s = inside instance (bad_further level) literals + over_open instance literals (λ path. (least path).s);
+  v = inside instance (bad_before level) literals
+      + over_open instance literals (λ path. (least path).v);
+  s = inside instance (bad_further level) literals
+      + over_open instance literals (λ path. (least path).s);
 }

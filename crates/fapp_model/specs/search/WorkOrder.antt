@@ -13,10 +13,12 @@ names_path path r = (first_path r == path) || (second_path r == path)
 abbrev pub degree : Instance → ℕ → ℕ
 degree instance path = count_by (names_path path) instance.records
 
--- more records name the first path than the second, or as many and it stands earlier in the instance
+-- more records name the first path than the second, or as many and it stands earlier in the
+-- instance
 abbrev pub comes_before : Instance → ℕ → ℕ → Bool
 comes_before instance a b =
-    nat_lt (degree instance b) (degree instance a) || ((degree instance a == degree instance b) && nat_lt a b)
+    nat_lt (degree instance b) (degree instance a)
+    || ((degree instance a == degree instance b) && nat_lt a b)
 
 -- each path of the instance, each before all that it comes before
 pub record IsWorkOrder (instance : Instance) (order : List ℕ) : Type 0 where

@@ -4,7 +4,8 @@ use super::*;
 
 const ALONE: &str = "DM 1 10\nDM 1 20\nTR 1 1 1\n";
 
-// What stands before the first line `--`, that line and the rest, the exit status and what is written.
+// What stands before the first line `--`, that line and the rest, the exit status and what is
+// written.
 const CHECKS: [(&str, &str, u8, &str); 74] = [
     // Version 2: lines that delete others.
     (

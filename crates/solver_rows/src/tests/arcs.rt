@@ -5,8 +5,9 @@ use fapp_tables::Tables;
 use std::test::Fail;
 use worked_networks::{ALIKE, CHAIN, FALLING, FREE, TIED, TORN};
 
-// Texts; at how many levels some path has no choice in the arcs; the choices that are outside some level's arcs, with
-// the number of these levels before the path and the choice; and choices within all arcs.
+// Texts; at how many levels some path has no choice in the arcs; the choices that are outside some
+// level's arcs, with the number of these levels before the path and the choice; and choices within
+// all arcs.
 const ARCS: [(&str, u32, &[(u32, u16, u16)], &[(u16, u16)]); 6] = [
     (TIED, 11, &[(12, 1, 0), (11, 0, 0), (11, 1, 1)], &[]),
     (

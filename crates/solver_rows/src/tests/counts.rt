@@ -51,7 +51,8 @@ fn bound(forward: &Forward, level: u32) -> Option<u64> {
     None
 }
 
-/// What is counted for a choice: whether it remains, what it adds, and the least that its path adds.
+/// What is counted for a choice: whether it remains, what it adds, and the least that its path
+/// adds.
 fn counts_at(forward: &Forward, path: u16, choice: u16) -> Option<(bool, u64, Option<u64>)> {
     if is_literal(forward.tables().instance(), path, choice) {
         let least = forward.least_sum(path);

@@ -6,8 +6,8 @@ ghost use Rattle.search_log.specs.PlainBounds.{code_of_offer};
 use fapp_model::{Tag, Triple, tag_of};
 use search_log::Bound;
 
-/// Tells what it began with, or the least offer, so often. From then on it tells (0, 0, 0), as where another worker has
-/// found that.
+/// Tells what it began with, or the least offer, so often. From then on it tells (0, 0, 0), as
+/// where another worker has found that.
 #[derive(Clone, Copy, Debug)]
 pub struct FallingBound {
     began: Tag,
@@ -54,7 +54,11 @@ fn least_offer(least: Option<Tag>, tag: Tag) -> Tag
 }
 
 impl Bound for FallingBound {
-    ghost state = { λ bound. record { began = bound.began.code; told = bound.told.code; least = code_of_offer bound.least } };
+    ghost state = { λ bound. record {
+      began = bound.began.code;
+      told = bound.told.code;
+      least = code_of_offer bound.least;
+    } };
 
     ghost since = { λ _ _. Unit {0} };
 

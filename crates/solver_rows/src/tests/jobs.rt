@@ -166,7 +166,8 @@ fn run_with_row(forward: &mut Forward, job: &Job, row: Row, alloc: Global) -> Re
     run_job(forward, job, &mut bound, 0, &mut rows, alloc)
 }
 
-/// Runs APART's job of the last level without fuel, where the row that its own search finds is shared.
+/// Runs APART's job of the last level without fuel, where the row that its own search finds is
+/// shared.
 fn run_again(alloc: Global) -> Result<Ended, Fail> {
     let instance = read(alloc, APART)?;
     if 11 > levels(&instance) {

@@ -33,7 +33,8 @@ const COUNTS: [(&str, u32, (u32, u32, u32)); 9] = [
     (SMALL, 4096, (4, 108, 1296)),
 ];
 
-// Texts and split numbers; a job by its number, with its level and the paths and choices of its prefix.
+// Texts and split numbers; a job by its number, with its level and the paths and choices of its
+// prefix.
 const JOBS: [(&str, u32, u32, u32, &[(u16, u16)]); 5] = [
     ("", 64, 11, 0, &[]),
     (SINGLE, 64, 0, 11, &[(0, 0)]),

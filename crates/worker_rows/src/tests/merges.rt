@@ -17,8 +17,8 @@ use std::alloc::Global;
 use std::test::Fail;
 use worked_networks::{FALLING, FREE, TORN};
 
-// Texts, with the bound where all jobs are spent and no log has a line; and the lines of the certificate. The verdict is as
-// the arcs say.
+// Texts, with the bound where all jobs are spent and no log has a line; and the lines of the
+// certificate. The verdict is as the arcs say.
 const MERGES: [(&str, Triple, &str); 5] = [
     ("", Triple { k: 0, v: 0, s: 0 }, "C 0 0 0 0 0\n"),
     (FREE, Triple { k: 0, v: 0, s: 0 }, "C 0 0 0 0 0\n"),
@@ -37,7 +37,8 @@ const MERGES: [(&str, Triple, &str); 5] = [
 
 /// The outcomes where all jobs are spent.
 fn all_spent(alloc: Global, plan: &Plan) -> Result<Collected, NoMemory>
-    ensures { IfOk result (λ collected. AreSpent (job_count plan.now.instance plan.now.split) collected) }
+    ensures { IfOk result (λ collected. AreSpent (job_count plan.now.instance plan.now.split)
+        collected) }
 {
     let mut collected = Collected::new(alloc, plan)?;
     for id in 0..plan.job_count() {
@@ -48,7 +49,8 @@ fn all_spent(alloc: Global, plan: &Plan) -> Result<Collected, NoMemory>
 
 /// A bound as a tag, if it may be shown.
 fn bound(instance: &Instance, t: Triple) -> Option<Tag>
-    ensures { IfSome result (λ tag. IsTrue (is_shown (levels_of instance.now) (triple_from tag.code))) }
+    ensures { IfSome result (λ tag. IsTrue (is_shown (levels_of instance.now)
+        (triple_from tag.code))) }
 {
     let levels = levels(instance);
     let is_shown = is_tag(levels, t) && (t.v > 0 || t.k == 0 || t.k == levels + 1);

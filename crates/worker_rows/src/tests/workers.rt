@@ -38,8 +38,8 @@ fn segments_in(logs: &[Log]) -> usize {
     count
 }
 
-/// What workers find for a network: the word, whether each job has an outcome, the ticks of each job, and how many rows
-/// they published.
+/// What workers find for a network: the word, whether each job has an outcome, the ticks of each
+/// job, and how many rows they published.
 #[derive(Drop)]
 struct Found {
     word: Triple,
@@ -152,7 +152,8 @@ fn the_second_worker_reads_what_the_first_offered(rt: HostRuntime) -> Result<(),
     Ok(())
 }
 
-// The row without literals that the first job publishes settles all other jobs; without a pool each job takes ticks.
+// The row without literals that the first job publishes settles all other jobs; without a pool each
+// job takes ticks.
 #[test]
 fn a_published_row_settles_the_other_jobs(rt: HostRuntime) -> Result<(), Fail> {
     assert!(rt; CLASH.len() <= 1000);
@@ -170,7 +171,8 @@ fn a_published_row_settles_the_other_jobs(rt: HostRuntime) -> Result<(), Fail> {
     Ok(())
 }
 
-// The second worker begins when the first has ended a job: the row that it published settles all that is left.
+// The second worker begins when the first has ended a job: the row that it published settles all
+// that is left.
 #[test]
 fn a_row_of_one_worker_settles_the_other_workers_jobs(rt: HostRuntime) -> Result<(), Fail> {
     assert!(rt; CLASH.len() <= 1000);
@@ -188,7 +190,8 @@ fn a_row_of_one_worker_settles_the_other_workers_jobs(rt: HostRuntime) -> Result
     Ok(())
 }
 
-// Each of the eight assignments of three paths is refuted by a row of its own, where the pool has room for it.
+// Each of the eight assignments of three paths is refuted by a row of its own, where the pool has
+// room for it.
 #[test]
 fn as_many_rows_are_published_as_the_pool_has(rt: HostRuntime) -> Result<(), Fail> {
     assert!(rt; CLASH.len() <= 1000);
