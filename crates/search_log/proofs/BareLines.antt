@@ -5,6 +5,7 @@ use Rattle.fapp_model.specs.declared.instance.Instance.{Instance}
 use Rattle.fapp_model.specs.declared.literal.Literal.{Literal}
 use Rattle.fapp_model.specs.Tags.{mode_level, triple_from}
 use Rattle.fapp_model.specs.search.Arcs.{OutsideArc}
+use Rattle.fapp_model.specs.search.Dead as Dead
 use Rattle.fapp_model.specs.search.Dead.{Dead, DeadBy, Remains, clash, outside_literal, no_choice_left, over_limit}
 use Rattle.fapp_model.specs.search.Partials.{literal}
 use Rattle.search_log.specs.Contents.{Content}

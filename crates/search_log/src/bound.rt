@@ -42,6 +42,7 @@ pub struct PlainBound {
 
 impl Model for PlainBound {
     ghost use Rattle.search_log.specs.Bounds.{BoundState};
+    ghost use Rattle.search_log.specs.PlainBounds.{code_of_offer};
 
     ghost Value = { BoundState };
 
