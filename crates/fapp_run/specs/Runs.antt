@@ -106,10 +106,11 @@ ProvesAccepted source status =
     (bytes : List ℕ) → source.left ≡ Some bytes → status ≡ Accepted → IsProved bytes
 
 -- the most bytes of an input that is solved and of one that is checked, the levels of an instance,
--- and the limits of its text, as numbers
+-- the limits of its text, and the fuel of a made network's jobs, as numbers
 pub record AreLimits : Type 0 where
   pub input : MAX_INPUT ≡ 134217728
   pub check_input : MAX_CHECK_INPUT ≡ 1073741824
   pub levels : LEVELS ≡ 11
   pub most_levels : MAX_LEVELS ≡ 11
   pub texts : LimitsAre
+  pub demo_fuel : DEMO_FUEL ≡ 40000

@@ -1,4 +1,4 @@
--- What shared workers leave behind may be merged.
+-- What workers that share rows leave behind is good, and shows the outcomes of all jobs.
 use Rattle.std.proofs.Common.{◌≡◌, ℕ, ◌<◌, List, [], ◌∷◌, length, get_or, All, Some, None, sym, subst, arith}
 use Rattle.std.proofs.lemmas.List.{get_or-map, get_or_default}
 use Rattle.fapp_model.specs.declared.tag.Tag.{Tag}
