@@ -11,8 +11,8 @@ pub record TallyState : Type 0 where
   pub instance : Instance
   pub level : ℕ
 
-abbrev pub tallies_at : Instance → ℕ → TallyState
-tallies_at instance level = record { instance = instance; level = level }
+abbrev pub table_at : Instance → ℕ → TallyState
+table_at instance level = record { instance = instance; level = level }
 
 abbrev pub no_pair_cells : PairCells
 no_pair_cells = record { cells = []; far = NO_REACH }

@@ -1,6 +1,6 @@
 ghost use Rattle.std.specs.Prelude.{◌≡◌, ◌<◌, ◌≤◌, length, slice_index, IfOk};
 ghost use Rattle.choice_counts.specs.Links.{IsPairCells};
-ghost use Rattle.choice_counts.specs.Tables.{ArePairCells, AreLinksOf, HasLinks, tallies_at};
+ghost use Rattle.choice_counts.specs.Tables.{ArePairCells, AreLinksOf, HasLinks, table_at};
 ghost use Rattle.fapp_model.specs.declared.level.TheConstants.{MAX_LEVELS};
 ghost use Rattle.fapp_model.specs.Instances.{IsInstance};
 ghost use Rattle.fapp_tables.specs.Indexes.{neighbours_of};
@@ -151,7 +151,7 @@ impl<'a> TallyTable<'a> {
     ) -> Result<TallyTable<'a>, NoMemory>
         requires instance { IsInstance tables.now }
         requires level { level ≤ MAX_LEVELS }
-        ensures { IfOk result (λ tallies. tallies ≡ tallies_at tables.now level) }
+        ensures { IfOk result (λ tallies. tallies ≡ table_at tables.now level) }
     {
         let mut table = blank_table(alloc, tables)?;
         fill_all(tables, level, table.as_mut_slice());
@@ -167,7 +167,7 @@ impl<'a> TallyTable<'a> {
     pub fn keep_level(&mut self, level: u32)
         requires instance { IsInstance self.old.instance }
         requires level { level ≤ MAX_LEVELS }
-        ensures { self.new ≡ tallies_at self.old.instance level }
+        ensures { self.new ≡ table_at self.old.instance level }
     {
         fill_all(self.tables, level, self.table.as_mut_slice());
         self.level = level;

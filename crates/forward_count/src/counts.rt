@@ -3,7 +3,7 @@ ghost use Rattle.std.specs.Option.{is_some};
 ghost use Rattle.choice_counts.specs.Moves.{CanMove, CanMoveAll, moved, rows_with};
 ghost use Rattle.choice_counts.specs.Totals.{AreRows, AreOpenPaths};
 ghost use Rattle.choice_counts.specs.Tallies.{tallies_at, tally_at};
-ghost use Rattle.choice_counts.specs.Tables.{tallies_at};
+ghost use Rattle.choice_counts.specs.Tables.{table_at};
 ghost use Rattle.fapp_model.specs.Instances.{IsInstance};
 ghost use Rattle.forward_count.specs.SlotSteps.{CanCount, slot_after, slots_after};
 ghost use Rattle.nogood.specs.Partials.{choice_given};
@@ -77,7 +77,7 @@ pub fn count_step(
     partial: &mut Partial,
     totals: Totals,
 ) -> Totals
-    requires tallies { tallies.now ≡ tallies_at step.now.tables.now step.now.level }
+    requires tallies { tallies.now ≡ table_at step.now.tables.now step.now.level }
     requires instance { IsInstance step.now.tables.now }
     requires rows { AreRows step.now.tables.now rows.old }
     requires slots { length partial.old ≡ length step.now.tables.now.paths }

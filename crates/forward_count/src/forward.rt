@@ -45,7 +45,7 @@ pub struct Forward<'a> {
 impl<'a> Model for Forward<'a> {
     ghost use Rattle.std.specs.Prelude.{◌≡◌, vec_capacity};
     ghost use Rattle.choice_counts.specs.ForwardStates.{ForwardState};
-    ghost use Rattle.choice_counts.specs.Tables.{tallies_at};
+    ghost use Rattle.choice_counts.specs.Tables.{table_at};
     ghost use Rattle.forward_count.specs.Forwards.{IsForward};
 
     ghost Value = { ForwardState };
@@ -57,7 +57,7 @@ impl<'a> Model for Forward<'a> {
     } };
 
     ghost invariant = { λ f. ((f.arcs.now ≡ f.tables.now)
-        × (f.tallies ≡ tallies_at f.tables.now f.level))
+        × (f.tallies ≡ table_at f.tables.now f.level))
         × IsForward f.tables.now f.level f.pushed.items f.partial f.rows.items f.totals
         (vec_capacity f.pushed) };
 }

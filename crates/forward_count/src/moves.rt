@@ -3,7 +3,7 @@ ghost use Rattle.choice_counts.specs.Moves.{CanMoveAll, CanMoveRow, rows_with, t
 ghost use Rattle.choice_counts.specs.Totals.{AreRows, AreOpenPaths};
 ghost use Rattle.choice_counts.specs.Tallies.{tallies_at, tallies_by};
 ghost use Rattle.choice_counts.specs.Links.{IsPairCells};
-ghost use Rattle.choice_counts.specs.Tables.{tallies_at};
+ghost use Rattle.choice_counts.specs.Tables.{table_at};
 ghost use Rattle.fapp_model.specs.Assignments.{count_at};
 ghost use Rattle.fapp_model.specs.Instances.{IsInstance};
 ghost use Rattle.fapp_tables.specs.Indexes.{records_of};
@@ -104,7 +104,7 @@ pub fn move_all(
     partial: &Partial,
     open_paths: OpenPaths,
 ) -> OpenPaths
-    requires tallies { tallies.now ≡ tallies_at step.now.tables.now step.now.level }
+    requires tallies { tallies.now ≡ table_at step.now.tables.now step.now.level }
     requires instance { IsInstance step.now.tables.now }
     requires rows { AreRows step.now.tables.now rows.old }
     requires slots { length partial.now ≡ length step.now.tables.now.paths }

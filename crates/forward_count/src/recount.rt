@@ -1,6 +1,6 @@
 ghost use Rattle.std.specs.Prelude.{◌≡◌, ◌≤◌, [], None, length, replicate};
 ghost use Rattle.choice_counts.specs.Kept.{AreKept};
-ghost use Rattle.choice_counts.specs.Tables.{tallies_at};
+ghost use Rattle.choice_counts.specs.Tables.{table_at};
 ghost use Rattle.fapp_model.specs.declared.limits.TheConstants.{MAX_PATHS};
 ghost use Rattle.fapp_model.specs.Instances.{IsInstance};
 ghost use Rattle.fapp_model.specs.Levels.{levels_of};
@@ -37,7 +37,7 @@ pub fn count_all<'a>(
     requires instance { IsInstance tables.now }
     requires level { level ≤ levels_of tables.now }
     requires literals { IsPartial tables.now literals.now }
-    requires tallies { tallies.now ≡ tallies_at tables.now level }
+    requires tallies { tallies.now ≡ table_at tables.now level }
     requires kept { AreKept tables.now level [] partial.old rows.old totals }
     ensures { AreKept tables.now level literals.now partial.new rows.new result }
 {

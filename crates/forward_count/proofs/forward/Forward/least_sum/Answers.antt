@@ -4,8 +4,8 @@ use Rattle.choice_counts.specs.Tallies.{tallies_at}
 use Rattle.forward_count.proofs.ReadLaws.{least_none, least_some, row_there}
 use Rattle.forward_count.proofs.forward.Forward.least_sum.Goals as goal
 
-pub row_at-requires : goal.row_at-requires
-row_at-requires c = subst (λ (rs : List PathTallies). c.args.path < length rs) (sym c.deref.ensures.value)
+pub tallies_at-requires : goal.tallies_at-requires
+tallies_at-requires c = subst (λ (rs : List PathTallies). c.args.path < length rs) (sym c.deref.ensures.value)
     (row_there c.self.inside.tables.now c.self.inside.level c.self.inside.pushed.items c.self.inside.partial c.self.inside.rows.items c.self.inside.totals c.self.inside.pushed.cap c.self.invariant.1 c.args.self.now c.self.view_is c.args.path c.requires)
 
 pub returns-then-least-lt-HARD : goal.returns-then-least-lt-HARD
