@@ -8,3 +8,4 @@ pub mod Asked
 pub mod Solved
 pub mod Written
 pub mod Told
+pub mod SolveReplies
