@@ -287,10 +287,10 @@ fn the_longest_input_is_read(rt: HostRuntime) -> Result<(), Fail> {
 }
 
 /// A text of so many paths, each of which has one choice, and their plan.
-fn paths_of_one_choice(alloc: Global, paths: u32) -> Result<(String, String), Fail> {
+fn paths_of_one_choice(alloc: Global, paths: u16) -> Result<(String, String), Fail> {
     let mut text = String::from_str(alloc, "DM 1 5\n")?;
     let mut plan = String::new(alloc);
-    for number in 1..paths + 1 {
+    for number in 1..u32::from(paths) + 1 {
         writeln!(text, "TR {number} 1 1")?;
         writeln!(plan, "AL {number} 5 1")?;
     }
