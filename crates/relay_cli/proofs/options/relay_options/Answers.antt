@@ -14,7 +14,7 @@ returns-in-Some-clause-words c =
 
 pub returns-in-Some-clause-range : goal.returns-in-Some-clause-range
 returns-in-Some-clause-range c =
-    let read = subst (ReadsWords (map string_bytes c.deref.result.now)) c.in-Some.is c.in_ok-request.ensures in
+    let read = subst (ReadsWords (map string_bytes c.deref.result.now)) c.in-Some.is c.in_ok-request.ensures.reads in
     subst (λ options. IfSome options AreOptions) (sym c.whole_options.ensures) (relay_range (map string_bytes c.deref.result.now) c.in-Some.request read)
 
 pub returns-clause-words : goal.returns-clause-words
